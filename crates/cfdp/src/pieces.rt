@@ -58,7 +58,12 @@ fn send<R: Wait>(rt: &R, outbox: &Sender<Piece, Global>, piece: Piece) -> bool {
 }
 
 /// Reads the input to its end, as long as somebody takes the pieces.
-fn read_all<R: Wait, I: Read + Drop>(rt: &R, alloc: Global, mut input: I, outbox: &Sender<Piece, Global>) {
+fn read_all<R: Wait, I: Read + Drop>(
+    rt: &R,
+    alloc: Global,
+    mut input: I,
+    outbox: &Sender<Piece, Global>,
+) {
     let Ok(mut room) = vec![in alloc; 0_u8; PIECE] else {
         send(rt, outbox, Piece::Memory);
         return;
@@ -76,10 +81,7 @@ impl Pieces {
     pub fn start<
         R: AllocGlobal + Clone + Drop + Send + Threads + Wait + 'static,
         I: Read + Drop + Send + 'static,
-    >(
-        rt: &R,
-        input: I,
-    ) -> Result<Pieces, End> {
+    >(rt: &R, input: I) -> Result<Pieces, End> {
         let alloc = rt.alloc();
         let (outbox, inbox) = bounded(alloc, AHEAD)?;
         let theirs = rt.clone()?;

@@ -14,8 +14,8 @@ use Rattle.cfdp_status.specs.declared.action.Action.TheVariants as action
 use Rattle.cfdp_status.specs.declared.action.Action.{Action}
 use Rattle.cfdp_paths.specs.Paths.{Path, same_path, is_at_or_below}
 use Rattle.cfdp_paths.proofs.Comparing.{same_path-Decides}
-use Rattle.cfdp_actions.specs.Filestore.{Node, Directory, File, Filestore, node_at, octets_in, octets_at, is_directory, is_file, blocks_of, weight, Change, Becomes, has_entries, parent_is_good, tree_at}
-use Rattle.cfdp_actions.specs.Actions.{Request, CreateFile, DeleteFile, RenameFile, AppendFile, ReplaceFile, CreateDirectory, RemoveDirectory, DenyFile, DenyDirectory, action_in, Perform, Performed, Outcome, bars, denied as denied_outcome, within, act, succeeded, ticks, refused, succeeds, create, delete_file, is_too_deep, vacated, settled, rename, append, replace, remove_directory, deny_file, deny_directory, table}
+use Rattle.cfdp_actions.specs.Filestore.{Node, Directory, File, Filestore, node_at, octets_in, file_octets_at, is_directory, is_file, blocks_of, weight, Change, Becomes, has_entries, parent_is_good, tree_at}
+use Rattle.cfdp_actions.specs.Actions.{Request, CreateFile, DeleteFile, RenameFile, AppendFile, ReplaceFile, CreateDirectory, RemoveDirectory, DenyFile, DenyDirectory, action_in, Perform, Performed, Outcome, bars, denied as denied_outcome, within, act, succeeded, ticks, refused, succeeds, create, delete_file, is_tree_too_deep, vacating, settled, rename, append, replace, remove_directory, deny_file, deny_directory, table}
 
 abbrev pub Allowed : Filestore → Request → Type 0
 Allowed F request = IsTrue (succeeded (table F request).answer)
@@ -140,8 +140,8 @@ pub record Moves (F : Filestore) (p q : Path) (o : Outcome) : Type 0 where
   pub absent : node_at F q ≡ None
   pub parent : parent_is_good F q ≡ true
   pub apart : is_at_or_below q p ≡ false
-  pub depth : is_too_deep p q (tree_at F p) ≡ false
-  pub row : IsRow action.RenameFile o (vacated (tree_at F p) ++ settled p q (tree_at F p)) 0 0 0
+  pub depth : is_tree_too_deep p q (tree_at F p) ≡ false
+  pub row : IsRow action.RenameFile o (vacating (tree_at F p) ++ settled p q (tree_at F p)) 0 0 0
 
 shallow : (changes : List Change) (deep : Bool) (o : Outcome) → o ≡ (if deep then refused (NotAllowed action.RenameFile)
     else succeeds action.RenameFile changes 0 0 0) → IsTrue (succeeded o.answer) → (deep ≡ false) × IsRow action.RenameFile o changes 0 0 0
@@ -149,15 +149,15 @@ shallow changes true o e h = absurd (false≢true (subst (λ (o : Outcome). IsTr
 shallow changes false o e h = (refl, subst (λ o. IsRow action.RenameFile o changes 0 0 0) (sym e) (succeeded_row _ _ _ _ _ _ refl))
 
 tree_moved : (p q : Path) (a b : Option Node) (good below : Bool) (es : List (Path × Node)) → IsTrue (succeeded (rename p q a b good below es).answer) →
-    (is_some a ≡ true) × (b ≡ None) × (good ≡ true) × (below ≡ false) × (is_too_deep p q es ≡ false)
-    × IsRow action.RenameFile (rename p q a b good below es) (vacated es ++ settled p q es) 0 0 0
+    (is_some a ≡ true) × (b ≡ None) × (good ≡ true) × (below ≡ false) × (is_tree_too_deep p q es ≡ false)
+    × IsRow action.RenameFile (rename p q a b good below es) (vacating es ++ settled p q es) 0 0 0
 unfolding rename
 tree_moved p q None b good below es h = absurd (false≢true h)
 tree_moved p q (Some node) (Some other) good below es h = absurd (false≢true h)
 tree_moved p q (Some node) None false below es h = absurd (false≢true h)
 tree_moved p q (Some node) None true true es h = absurd (false≢true h)
 tree_moved p q (Some node) None true false es h =
-    let facts = shallow (vacated es ++ settled p q es) (is_too_deep p q es) _ refl h in
+    let facts = shallow (vacating es ++ settled p q es) (is_tree_too_deep p q es) _ refl h in
     (refl, refl, refl, refl, facts.0, facts.1)
 
 pub moved : (F : Filestore) (request : Request) (p q : Path) → Allowed F request → request ≡ RenameFile p q → Moves F p q (table F request)
@@ -169,19 +169,20 @@ moved F request p q = row_of F (λ _. Moves F p q) request (RenameFile p q) (λ 
 -- ---- append and replace
 
 abbrev pub size : Filestore → Path → ℕ
-size F p = length (octets_at F p)
+size F p = length (file_octets_at F p)
 
 pub record Appends (F : Filestore) (p q : Path) (o : Outcome) : Type 0 where
   pub first : is_file (node_at F p) ≡ true
   pub second : is_file (node_at F q) ≡ true
-  pub row : IsRow action.AppendFile o (Becomes p (Some (File (octets_at F p ++ octets_at F q))) ∷ []) ((blocks_of (size F p + size F q) - blocks_of (size F p))
+  pub row : IsRow action.AppendFile o (Becomes p (Some (File (file_octets_at F p ++ file_octets_at F q))) ∷ [])
+      ((blocks_of (size F p + size F q) - blocks_of (size F p))
       + blocks_of (size F q)) (blocks_of (size F p + size F q) - blocks_of (size F p)) 0
 
 -- nothing is taken or given back where both names are one
 pub record Replaces (F : Filestore) (p q : Path) (o : Outcome) : Type 0 where
   pub first : is_file (node_at F p) ≡ true
   pub second : is_file (node_at F q) ≡ true
-  pub row : IsRow action.ReplaceFile o (if same_path p q then [] else Becomes p (Some (File (octets_at F q))) ∷ []) (if same_path p q then 0
+  pub row : IsRow action.ReplaceFile o (if same_path p q then [] else Becomes p (Some (File (file_octets_at F q))) ∷ []) (if same_path p q then 0
       else blocks_of (size F p) + 2 * blocks_of (size F q)) (if same_path p q then 0 else blocks_of (size F q)) (if same_path p q then 0
       else blocks_of (size F p))
 

@@ -14,7 +14,7 @@ use Rattle.cfdp_paths.specs.Paths.{Path, path_cmp, same_path, is_at_or_below, pa
 use Rattle.cfdp_actions.specs.Filestore.{Node, Filestore, node_at, weight, weights, blocks, Change, Becomes, changed, after, is_directory, is_good, is_root, parent_is_good, IsRooted, tree_at}
 use Rattle.cfdp_status.specs.declared.action.Action.TheVariants as action
 use Rattle.cfdp_status.specs.declared.status.Status.TheVariants.{NotAllowed}
-use Rattle.cfdp_actions.specs.Actions.{refused, succeeds, vacated, settled, is_too_deep, rename}
+use Rattle.cfdp_actions.specs.Actions.{refused, succeeds, vacating, settled, is_tree_too_deep, rename}
 use Rattle.cfdp_actions.proofs.Order.{paths_exact, same_path-true, same_path-refl, node_at-becomes, node_at-becomes_apart}
 use Rattle.cfdp_actions.proofs.Weights.{entries-retain_keys, sorted_rest, find_later}
 use Rattle.cfdp_actions.proofs.Prefixes.{rebased-below, rebased_back, same_rebased, length-parent, parent_below}
@@ -88,7 +88,7 @@ find-tree_at F p x = sym (get-entries (retain_keys F.nodes (λ q. is_at_or_below
 
 -- ---- vacated
 
-pub node_at-vacated : (F : Filestore) (es : List (Path × Node)) (x : Path) → node_at (after F (vacated es)) x
+pub node_at-vacated : (F : Filestore) (es : List (Path × Node)) (x : Path) → node_at (after F (vacating es)) x
     ≡ cond (is_some (find path_cmp x es)) None (node_at F x)
 node_at-vacated F [] x = refl
 node_at-vacated F (e ∷ es) x =
@@ -119,11 +119,11 @@ holds_first F e es holds =
     let here : find path_cmp e.0 (e ∷ es) ≡ Some e.1 = ap (λ b. cond b (Some e.1) (find path_cmp e.0 es)) (same_path-refl e.0) in
     holds e.0 (ap is_some here) ∙ here
 
-pub blocks-vacated : (F : Filestore) (es : List (Path × Node)) → T (is_sorted path_cmp es) → Holds F es → blocks (after F (vacated es)) + weights es ≡ blocks F
+pub blocks-vacated : (F : Filestore) (es : List (Path × Node)) → T (is_sorted path_cmp es) → Holds F es → blocks (after F (vacating es)) + weights es ≡ blocks F
 blocks-vacated F [] h holds = omega arith
 blocks-vacated F (e ∷ es) h holds =
     let G = changed F (Becomes e.0 None) in
-    let rest : blocks (after G (vacated es)) + weights es ≡ blocks G = blocks-vacated G es (sorted_rest e es h) (holds_rest F e es h holds) in
+    let rest : blocks (after G (vacating es)) + weights es ≡ blocks G = blocks-vacated G es (sorted_rest e es h) (holds_rest F e es h holds) in
     let one : blocks G + weight (Some e.1) ≡ blocks F + 0 = grows_one F e.0 None (Some e.1) (holds_first F e es holds) in
     omega arith
 
@@ -203,7 +203,7 @@ node_at-settled_apart p q G (e ∷ es) x apart =
 -- ---- path by path
 
 abbrev pub moved : Filestore → Path → Path → Filestore
-moved F p q = after F (vacated (tree_at F p) ++ settled p q (tree_at F p))
+moved F p q = after F (vacating (tree_at F p) ++ settled p q (tree_at F p))
 
 pub holds_tree : (F : Filestore) (p : Path) → Holds F (tree_at F p)
 holds_tree F p x there =
@@ -214,7 +214,7 @@ holds_tree F p x there =
 
 -- where nothing exists at or below q
 module _ (F : Filestore) (p q : Path) (empty : (x : Path) → is_at_or_below x q ≡ true → node_at F x ≡ None) where
-  pub nothing_vacated : (x : Path) → is_at_or_below x q ≡ true → node_at (after F (vacated (tree_at F p))) x ≡ None
+  pub nothing_vacated : (x : Path) → is_at_or_below x q ≡ true → node_at (after F (vacating (tree_at F p))) x ≡ None
   nothing_vacated x below =
       node_at-vacated F (tree_at F p) x
       ∙ ap (λ v. cond (is_some (find path_cmp x (tree_at F p))) None v) (empty x below)
@@ -224,10 +224,10 @@ module _ (F : Filestore) (p q : Path) (empty : (x : Path) → is_at_or_below x q
   pub blocks-moved_free : blocks (moved F p q) ≡ blocks F
   blocks-moved_free =
       let es = tree_at F p in
-      let out : blocks (after F (vacated es)) + weights es ≡ blocks F = blocks-vacated F es (tree_at-sorted F p) (holds_tree F p) in
-      let back : blocks (after (after F (vacated es)) (settled p q es)) ≡ blocks (after F (vacated es)) + weights es =
-      blocks-settled p q (after F (vacated es)) es (tree_at-sorted F p) (tree_at-all F p) (λ x below there. nothing_vacated x below) in
-      ap blocks (after-append F (vacated es) (settled p q es)) ∙ back ∙ out
+      let out : blocks (after F (vacating es)) + weights es ≡ blocks F = blocks-vacated F es (tree_at-sorted F p) (holds_tree F p) in
+      let back : blocks (after (after F (vacating es)) (settled p q es)) ≡ blocks (after F (vacating es)) + weights es =
+      blocks-settled p q (after F (vacating es)) es (tree_at-sorted F p) (tree_at-all F p) (λ x below there. nothing_vacated x below) in
+      ap blocks (after-append F (vacating es) (settled p q es)) ∙ back ∙ out
 
 module _ (F : Filestore) (p q : Path) (rooted : IsRooted F) (named : q ≢ []) (none : node_at F q ≡ None) where
   pub nothing_there : (x : Path) → is_at_or_below x q ≡ true → node_at F x ≡ None
@@ -238,8 +238,8 @@ module _ (F : Filestore) (p q : Path) (rooted : IsRooted F) (named : q ≢ []) (
   moved_there x below =
       let y = rebased q p x in
       let es = tree_at F p in
-      ap (λ G. node_at G x) (after-append F (vacated es) (settled p q es))
-      ∙ node_at-settled p q (after F (vacated es)) es (tree_at-sorted F p) (tree_at-all F p) x below
+      ap (λ G. node_at G x) (after-append F (vacating es) (settled p q es))
+      ∙ node_at-settled p q (after F (vacating es)) es (tree_at-sorted F p) (tree_at-all F p) x below
       ∙ ap (λ v. cond (is_some (find path_cmp y es)) (find path_cmp y es) v) (nothing_vacated F p q nothing_there x below)
       ∙ itself (find path_cmp y es)
       ∙ find-tree_at F p y ∙ ap (λ b. cond b (node_at F y) None) (rebased-below q p x)
@@ -252,8 +252,8 @@ module _ (F : Filestore) (p q : Path) (rooted : IsRooted F) (named : q ≢ []) (
   pub moved_apart : (x : Path) → is_at_or_below x q ≡ false → node_at (moved F p q) x ≡ cond (is_at_or_below x p) None (node_at F x)
   moved_apart x apart =
       let es = tree_at F p in
-      ap (λ G. node_at G x) (after-append F (vacated es) (settled p q es))
-      ∙ node_at-settled_apart p q (after F (vacated es)) es x apart
+      ap (λ G. node_at G x) (after-append F (vacating es) (settled p q es))
+      ∙ node_at-settled_apart p q (after F (vacating es)) es x apart
       ∙ node_at-vacated F es x
       ∙ ap (λ v. cond (is_some v) None (node_at F x)) (find-tree_at F p x)
       ∙ elim (is_at_or_below x p) as (λ b. cond (is_some (cond b (node_at F x) None)) None (node_at F x) ≡ cond b None (node_at F x)) [
@@ -277,8 +277,8 @@ rename-grows F p q (Some node) (Some other) good below rooted e g = refl
 rename-grows F p q (Some node) None false below rooted e g = refl
 rename-grows F p q (Some node) None true true rooted e g = refl
 rename-grows F p q (Some node) None true false rooted e g =
-    elim (is_too_deep p q (tree_at F p)) as (λ deep. Grows F (if deep then refused (NotAllowed action.RenameFile)
-    else succeeds action.RenameFile (vacated (tree_at F p) ++ settled p q (tree_at F p)) 0 0 0)) [
+    elim (is_tree_too_deep p q (tree_at F p)) as (λ deep. Grows F (if deep then refused (NotAllowed action.RenameFile)
+    else succeeds action.RenameFile (vacating (tree_at F p) ++ settled p q (tree_at F p)) 0 0 0)) [
       | true ↦ refl
       | false ↦ ap (λ n. n + 0) (blocks-moved F p q rooted (has_name q g) e)
     ]

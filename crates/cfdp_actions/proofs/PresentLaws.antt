@@ -10,7 +10,8 @@ use Rattle.std.specs.List.{slice_get}
 use Rattle.std.specs.Option.{option_eq}
 use Rattle.std.specs.Ordering.{is_eq, ordering_then}
 use Rattle.cfdp_paths.specs.Paths.{Path, path_cmp, same_path}
-use Rattle.cfdp_actions.specs.Prefixes.{present, same_paths}
+use Rattle.cfdp_actions.specs.Prefixes.{same_paths}
+use Rattle.cfdp_actions.specs.code.Prefixes.{present}
 
 few_present : (places : List (Option Path)) → length (present places) ≤ length places
 few_present [] = omega arith

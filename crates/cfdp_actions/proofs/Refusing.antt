@@ -11,9 +11,10 @@ use Rattle.cfdp_status.specs.declared.status.Status.{Status}
 use Rattle.cfdp_status.specs.declared.status.Status.TheVariants.{NotAllowed, DeleteAbsent, RenameOldAbsent, RenameNewPresent, AppendFirstAbsent, AppendSecondAbsent, ReplaceFirstAbsent, ReplaceSecondAbsent, RemoveAbsent}
 use Rattle.cfdp_paths.specs.Paths.{Path, same_path, is_at_or_below}
 use Rattle.cfdp_actions.specs.Filestore.{Node, Directory, File, Filestore, node_at, Becomes, has_entries, parent_is_good, tree_at}
-use Rattle.cfdp_actions.specs.Actions.{CreateFile, DeleteFile, RenameFile, AppendFile, ReplaceFile, CreateDirectory, RemoveDirectory, DenyFile, DenyDirectory, refused, succeeds, create, delete_file, is_too_deep, vacated, settled, rename, append, replace, remove_directory, deny_file, deny_directory, table}
+use Rattle.cfdp_actions.specs.Actions.{CreateFile, DeleteFile, RenameFile, AppendFile, ReplaceFile, CreateDirectory, RemoveDirectory, DenyFile, DenyDirectory, refused, succeeds, create, delete_file, is_tree_too_deep, vacating, settled, rename, append, replace, remove_directory, deny_file, deny_directory, table}
 use Rattle.cfdp_actions.specs.Store.{kind_in, kind_at}
-use Rattle.cfdp_actions.specs.Refusals.{Refuses, file_refusal, directory_refusal, joint_refusal}
+use Rattle.cfdp_actions.specs.Refusals.{Refuses}
+use Rattle.cfdp_actions.specs.code.Refusals.{file_refusal, directory_refusal, joint_refusal}
 
 delete_refuses : (p : Path) (o : Option Node) → Refuses (delete_file p o) (file_refusal action.DeleteFile (Some DeleteAbsent) (kind_in o))
 unfolding delete_file
@@ -150,7 +151,7 @@ rename_inside p q (Some node) None false below es h k g = refl
 rename_inside p q (Some node) None true true es h k g = refl
 rename_inside p q (Some node) None true false es h k g = cc
 
-rename_deep : (p q : Path) (a b : Option Node) (good below : Bool) (es : List (Path × Node)) → is_some a ≡ true → b ≡ None → is_too_deep p q es ≡ true →
+rename_deep : (p q : Path) (a b : Option Node) (good below : Bool) (es : List (Path × Node)) → is_some a ≡ true → b ≡ None → is_tree_too_deep p q es ≡ true →
     rename p q a b good below es ≡ refused (NotAllowed action.RenameFile)
 unfolding rename
 rename_deep p q None b good below es h k g = cc
@@ -158,17 +159,17 @@ rename_deep p q (Some node) (Some other) good below es h k g = cc
 rename_deep p q (Some node) None false below es h k g = refl
 rename_deep p q (Some node) None true true es h k g = refl
 rename_deep p q (Some node) None true false es h k g = ap (λ deep. if deep then refused (NotAllowed action.RenameFile)
-    else succeeds action.RenameFile (vacated es ++ settled p q es) 0 0 0) g
+    else succeeds action.RenameFile (vacating es ++ settled p q es) 0 0 0) g
 
 rename_moved : (p q : Path) (a b : Option Node) (good below : Bool) (es : List (Path × Node)) → is_some a ≡ true → b ≡ None → good ≡ true → below ≡ false →
-    is_too_deep p q es ≡ false → rename p q a b good below es ≡ succeeds action.RenameFile (vacated es ++ settled p q es) 0 0 0
+    is_tree_too_deep p q es ≡ false → rename p q a b good below es ≡ succeeds action.RenameFile (vacating es ++ settled p q es) 0 0 0
 unfolding rename
 rename_moved p q None b good below es h k g l d = cc
 rename_moved p q (Some node) (Some other) good below es h k g l d = cc
 rename_moved p q (Some node) None false below es h k g l d = cc
 rename_moved p q (Some node) None true true es h k g l d = cc
 rename_moved p q (Some node) None true false es h k g l d = ap (λ deep. if deep then refused (NotAllowed action.RenameFile)
-    else succeeds action.RenameFile (vacated es ++ settled p q es) 0 0 0) d
+    else succeeds action.RenameFile (vacating es ++ settled p q es) 0 0 0) d
 
 pub rename_new_present : (F : Filestore) (p q : Path) → is_some (node_at F p) ≡ true → is_some (node_at F q) ≡ true → table F (RenameFile p q)
     ≡ refused RenameNewPresent
@@ -185,13 +186,13 @@ pub rename_into_itself : (F : Filestore) (p q : Path) → is_some (node_at F p) 
 unfolding table
 rename_into_itself F p q h k g = rename_inside p q (node_at F p) (node_at F q) (parent_is_good F q) (is_at_or_below q p) (tree_at F p) h k g
 
-pub rename_too_deep : (F : Filestore) (p q : Path) → is_some (node_at F p) ≡ true → node_at F q ≡ None → is_too_deep p q (tree_at F p) ≡ true →
+pub rename_too_deep : (F : Filestore) (p q : Path) → is_some (node_at F p) ≡ true → node_at F q ≡ None → is_tree_too_deep p q (tree_at F p) ≡ true →
     table F (RenameFile p q) ≡ refused (NotAllowed action.RenameFile)
 unfolding table
 rename_too_deep F p q h k g = rename_deep p q (node_at F p) (node_at F q) (parent_is_good F q) (is_at_or_below q p) (tree_at F p) h k g
 
 pub rename_of_tree : (F : Filestore) (p q : Path) → is_some (node_at F p) ≡ true → node_at F q ≡ None → parent_is_good F q ≡ true → is_at_or_below q p ≡ false →
-    is_too_deep p q (tree_at F p) ≡ false →
-    table F (RenameFile p q) ≡ succeeds action.RenameFile (vacated (tree_at F p) ++ settled p q (tree_at F p)) 0 0 0
+    is_tree_too_deep p q (tree_at F p) ≡ false →
+    table F (RenameFile p q) ≡ succeeds action.RenameFile (vacating (tree_at F p) ++ settled p q (tree_at F p)) 0 0 0
 unfolding table
 rename_of_tree F p q h k g l d = rename_moved p q (node_at F p) (node_at F q) (parent_is_good F q) (is_at_or_below q p) (tree_at F p) h k g l d

@@ -7,7 +7,7 @@ use Rattle.std.proofs.lemmas.Bool.{false≢true}
 use Rattle.std.proofs.lemmas.Bool.Decides.{nat_tests}
 use Rattle.cfdp_paths.specs.Paths.{Path}
 use Rattle.cfdp_actions.specs.Filestore.{Node, blocks_of, deepest_of}
-use Rattle.cfdp_actions.specs.Actions.{is_too_deep}
+use Rattle.cfdp_actions.specs.Actions.{is_tree_too_deep}
 use Rattle.cfdp_actions.specs.Store.{kind_in}
 use Rattle.cfdp_actions.specs.declared.kind.Kind.{Kind}
 
@@ -66,8 +66,8 @@ pub sum_is : (to from deepest far b x y : ℕ) → to ≡ x → deepest ≡ far 
 sum_is to from deepest far b x y e f g h = omega arith
 
 -- whether a tree would be too deep, by its longest path
-pub too_deep : (p q : Path) (es : List (Path × Node)) → length q ≤ 8 → is_too_deep p q es ≡ nat_lt 8 (length q + (deepest_of es - length p))
+pub too_deep : (p q : Path) (es : List (Path × Node)) → length q ≤ 8 → is_tree_too_deep p q es ≡ nat_lt 8 (length q + (deepest_of es - length p))
 too_deep p q [] h = grind (arith, nat_tests)
 too_deep p q (e ∷ es) h =
-    ap (λ n. nat_lt 8 n || is_too_deep p q es) (length-rebased p q e.0) ∙ ap (λ b. nat_lt 8 (length q + (length e.0 - length p)) || b) (too_deep p q es h)
+    ap (λ n. nat_lt 8 n || is_tree_too_deep p q es) (length-rebased p q e.0) ∙ ap (λ b. nat_lt 8 (length q + (length e.0 - length p)) || b) (too_deep p q es h)
     ∙ sym (deeper (length q) (length e.0) (deepest_of es) (length p))

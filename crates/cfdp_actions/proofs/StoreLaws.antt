@@ -26,9 +26,10 @@ use Rattle.cfdp_paths.proofs.Comparing.{path_cmp-total}
 use Rattle.cfdp_paths.proofs.InOrder.{path_antisym, ordered-put, ordered-where}
 use Rattle.cfdp_paths.proofs.Moving.{ordered-puts}
 use Rattle.cfdp_actions.specs.Filestore.{Node, Directory, File, Filestore, node_at, staged_in, blocks_of, weight, weights, blocks, Change, Becomes, Stages, changed, after, inside, has_entries, is_directory, is_file, octets_in, is_good, is_root, parent_is_good, tree_at}
-use Rattle.cfdp_actions.specs.Actions.{vacated, settled}
+use Rattle.cfdp_actions.specs.Actions.{vacating, settled}
 use Rattle.cfdp_actions.specs.Store.{Store, free_blocks, with_changes}
-use Rattle.cfdp_actions.specs.Listed.{Entries, shown, found, octets_of, blocks_in, nodes_of, store_of, IsKept}
+use Rattle.cfdp_actions.specs.Listed.{vector_octets}
+use Rattle.cfdp_actions.specs.code.Listed.{Entries, shown_entries, entry_found, blocks_in, nodes_of, listed_store, IsListed}
 use Rattle.cfdp_actions.proofs.ShownLaws.{same_path-comm, file_there}
 use Rattle.cfdp_actions.proofs.SurveyLaws.{blocks_of-bound, lists_blocks}
 use Rattle.cfdp_actions.proofs.WeighedLaws.{weights-put, weights-without, weights-relocated-le, weights-relocated}
@@ -96,7 +97,7 @@ after-append : (F : Filestore) (cs ds : List Change) → after F (cs ++ ds) ≡ 
 after-append F [] ds = refl
 after-append F (c ∷ cs) ds = after-append (changed F c) cs ds
 
-after-vacated : (F : Filestore) (ts : List (Path × Node)) → after F (vacated ts) ≡ record F { nodes = removes F.nodes ts }
+after-vacated : (F : Filestore) (ts : List (Path × Node)) → after F (vacating ts) ≡ record F { nodes = removes F.nodes ts }
 unfolding removes
 after-vacated F [] = refl
 after-vacated F (e ∷ es) = after-vacated (changed F (Becomes e.0 None)) es
@@ -185,7 +186,7 @@ any-where (e ∷ es) p =
       | false ↦ λ h. rw h (any-where es p)
     ] refl
 
-good-by : (F : Filestore) (es : Entries) (q : Path) → node_at F q ≡ found es q → 1 ≤ length q → is_good F q ≡ is_directory (found es q)
+good-by : (F : Filestore) (es : Entries) (q : Path) → node_at F q ≡ entry_found es q → 1 ≤ length q → is_good F q ≡ is_directory (entry_found es q)
 good-by F es [] e h = absurd (omega arith)
 good-by F es (n ∷ q) e h = ap is_directory e
 
@@ -193,124 +194,126 @@ nonempty : (p : Path) → 1 ≤ length p → is_root p ≡ false
 nonempty [] h = absurd (omega arith)
 nonempty (n ∷ p) h = refl
 
-module _ (es : Entries) (staged : List (Vec ℕ Global)) (used capacity : ℕ) (kept : IsKept es staged used capacity) where
-  pub node_at-found : (p : Path) → node_at (store_of es staged capacity).filestore p ≡ found es p
-  node_at-found p = get-from_sorted path_cmp (shown es) p (T_from_true _ kept.sorted)
+module _ (es : Entries) (staged : List (Vec ℕ Global)) (used capacity : ℕ) (kept : IsListed es staged used capacity) where
+  pub node_at-found : (p : Path) → node_at (listed_store es staged capacity).filestore p ≡ entry_found es p
+  node_at-found p = get-from_sorted path_cmp (shown_entries es) p (T_from_true _ kept.sorted)
 
-  pub entries-shown : finite.entries (store_of es staged capacity).filestore.nodes ≡ shown es
-  entries-shown = entries-from_sorted path_cmp (shown es) (T_from_true _ kept.sorted)
+  pub entries-shown : finite.entries (listed_store es staged capacity).filestore.nodes ≡ shown_entries es
+  entries-shown = entries-from_sorted path_cmp (shown_entries es) (T_from_true _ kept.sorted)
 
-  pub tree_at-shown : (p : Path) → tree_at (store_of es staged capacity).filestore p ≡ tree_in p (shown es)
-  tree_at-shown p = entries_retained (shown es) (λ q. is_at_or_below q p) kept.sorted
+  pub tree_at-shown : (p : Path) → tree_at (listed_store es staged capacity).filestore p ≡ tree_in p (shown_entries es)
+  tree_at-shown p = entries_retained (shown_entries es) (λ q. is_at_or_below q p) kept.sorted
 
-  pub has_entries-shown : (p : Path) → has_entries (store_of es staged capacity).filestore p ≡ any_below p (shown es)
+  pub has_entries-shown : (p : Path) → has_entries (listed_store es staged capacity).filestore p ≡ any_below p (shown_entries es)
   has_entries-shown p =
-      ap (λ n. not (n == 0)) (finite.len-entries (inside (store_of es staged capacity).filestore p)
-      ∙ ap (λ es. length es) (entries_retained (shown es) (λ q. is_below q p) kept.sorted))
-      ∙ any-where (shown es) p
+      ap (λ n. not (n == 0)) (finite.len-entries (inside (listed_store es staged capacity).filestore p)
+      ∙ ap (λ es. length es) (entries_retained (shown_entries es) (λ q. is_below q p) kept.sorted))
+      ∙ any-where (shown_entries es) p
 
-  pub parent_is_good-shown : (p : Path) → 1 ≤ length (parent p) → 1 ≤ length p → parent_is_good (store_of es staged capacity).filestore p
-      ≡ is_directory (found es (parent p))
+  pub parent_is_good-shown : (p : Path) → 1 ≤ length (parent p) → 1 ≤ length p → parent_is_good (listed_store es staged capacity).filestore p
+      ≡ is_directory (entry_found es (parent p))
   parent_is_good-shown p h k =
-      ap (λ b. not b && is_good (store_of es staged capacity).filestore (parent p)) (nonempty p k)
-      ∙ good-by (store_of es staged capacity).filestore es (parent p) (node_at-found (parent p)) h
+      ap (λ b. not b && is_good (listed_store es staged capacity).filestore (parent p)) (nonempty p k)
+      ∙ good-by (listed_store es staged capacity).filestore es (parent p) (node_at-found (parent p)) h
 
-  pub blocks-used : blocks (store_of es staged capacity).filestore ≡ used
+  pub blocks-used : blocks (listed_store es staged capacity).filestore ≡ used
   unfolding blocks
   blocks-used = ap (λ es. weights es + lists_blocks staged) entries-shown ∙ sym kept.counted
 
-  pub found_small : (p : Path) → weight (found es p) ≤ used
-  found_small p = omega (arith, weight-found (shown es) p, kept.counted)
+  pub found_small : (p : Path) → weight (entry_found es p) ≤ used
+  found_small p = omega (arith, weight-found (shown_entries es) p, kept.counted)
 
   pub few_used : used ≤ 65536
   few_used = omega (arith, kept.fits, kept.small)
 
-  pub octets_small : (p : Path) → length (octets_in (found es p)) ≤ 7864320
-  octets_small p = blocks_of-bound (length (octets_in (found es p))) (omega (arith, octets-weight (found es p), found_small p, few_used))
+  pub octets_small : (p : Path) → length (octets_in (entry_found es p)) ≤ 7864320
+  octets_small p = blocks_of-bound (length (octets_in (entry_found es p))) (omega (arith, octets-weight (entry_found es p), found_small p, few_used))
 
-  pub list_small : (slot : ℕ) → blocks_of (length (get_or (octets_of staged) slot [])) ≤ used
-  list_small slot = omega (arith, lists-each (octets_of staged) slot, kept.counted)
+  pub list_small : (slot : ℕ) → blocks_of (length (get_or (vector_octets staged) slot [])) ≤ used
+  list_small slot = omega (arith, lists-each (vector_octets staged) slot, kept.counted)
 
-  pub staged_small : (slot : ℕ) → length (get_or (octets_of staged) slot []) ≤ 7864320
-  staged_small slot = blocks_of-bound (length (get_or (octets_of staged) slot [])) (omega (arith, list_small slot, few_used))
+  pub staged_small : (slot : ℕ) → length (get_or (vector_octets staged) slot []) ≤ 7864320
+  staged_small slot = blocks_of-bound (length (get_or (vector_octets staged) slot [])) (omega (arith, list_small slot, few_used))
 
   -- ---- changes of the entries
 
   module _ (es' : Entries) where
-    pub put_store : (p : Path) (node : Node) → shown es' ≡ put path_cmp p node (shown es) → store_of es' staged capacity
-        ≡ with_changes (store_of es staged capacity) (Becomes p (Some node) ∷ [])
+    pub put_store : (p : Path) (node : Node) → shown_entries es' ≡ put path_cmp p node (shown_entries es) → listed_store es' staged capacity
+        ≡ with_changes (listed_store es staged capacity) (Becomes p (Some node) ∷ [])
     put_store p node e =
-        let nodes : nodes_of es' ≡ finite.insert (nodes_of es) p node = ap finite.from_sorted e ∙ sym (insert_is (shown es) p node kept.sorted) in
+        let nodes : nodes_of es' ≡ finite.insert (nodes_of es) p node = ap finite.from_sorted e ∙ sym (insert_is (shown_entries es) p node kept.sorted) in
         ap (λ (m : finite.FinMap path_cmp Node). record {
-          filestore = record { nodes = m; staged = octets_of staged };
+          filestore = record { nodes = m; staged = vector_octets staged };
           capacity = capacity;
           takes_no_memory = false;
         }) nodes
 
-    pub put_kept : (p : Path) (node : Node) (used' : ℕ) → shown es' ≡ put path_cmp p node (shown es) → used' + weight (found es p) ≡ used + weight (Some node) →
-        used' ≤ capacity → IsKept es' staged used' capacity
+    pub put_kept : (p : Path) (node : Node) (used' : ℕ) → shown_entries es' ≡ put path_cmp p node (shown_entries es) → used' + weight (entry_found es p) ≡ used
+        + weight (Some node) →
+        used' ≤ capacity → IsListed es' staged used' capacity
     put_kept p node used' e count h = record {
-      sorted = ordered-put p node (shown es) (shown es') e kept.sorted;
+      sorted = ordered-put p node (shown_entries es) (shown_entries es') e kept.sorted;
       slots = kept.slots;
-      counted = omega (arith, count, kept.counted, weights-put p node (shown es) kept.sorted, ap weights e);
+      counted = omega (arith, count, kept.counted, weights-put p node (shown_entries es) kept.sorted, ap weights e);
       fits = h;
       small = kept.small;
     }
 
-    pub gone_store : (p : Path) → shown es' ≡ without p (shown es) → store_of es' staged capacity
-        ≡ with_changes (store_of es staged capacity) (Becomes p None ∷ [])
+    pub gone_store : (p : Path) → shown_entries es' ≡ without p (shown_entries es) → listed_store es' staged capacity
+        ≡ with_changes (listed_store es staged capacity) (Becomes p None ∷ [])
     gone_store p e =
-        let nodes : nodes_of es' ≡ finite.remove (nodes_of es) p = ap finite.from_sorted e ∙ sym (remove_is (shown es) p kept.sorted) in
+        let nodes : nodes_of es' ≡ finite.remove (nodes_of es) p = ap finite.from_sorted e ∙ sym (remove_is (shown_entries es) p kept.sorted) in
         ap (λ (m : finite.FinMap path_cmp Node). record {
-          filestore = record { nodes = m; staged = octets_of staged };
+          filestore = record { nodes = m; staged = vector_octets staged };
           capacity = capacity;
           takes_no_memory = false;
         }) nodes
 
-    pub gone_kept : (p : Path) (used' : ℕ) → shown es' ≡ without p (shown es) → used' + weight (found es p) ≡ used → IsKept es' staged used' capacity
+    pub gone_kept : (p : Path) (used' : ℕ) → shown_entries es' ≡ without p (shown_entries es) → used' + weight (entry_found es p) ≡ used →
+        IsListed es' staged used' capacity
     gone_kept p used' e count = record {
-      sorted = ordered-where (λ x. not (same_path p x)) (shown es) (shown es') e kept.sorted;
+      sorted = ordered-where (λ x. not (same_path p x)) (shown_entries es) (shown_entries es') e kept.sorted;
       slots = kept.slots;
-      counted = omega (arith, count, kept.counted, weights-without p (shown es) kept.sorted, ap weights e);
+      counted = omega (arith, count, kept.counted, weights-without p (shown_entries es) kept.sorted, ap weights e);
       fits = omega (arith, count, kept.fits);
       small = kept.small;
     }
 
-    pub moved_store : (p q : Path) → shown es' ≡ puts (rest_in p (shown es)) (moved_to p q (tree_in p (shown es)))
-        → store_of es' staged capacity ≡ with_changes (store_of es staged capacity) (vacated (tree_at (store_of es staged capacity).filestore p)
-        ++ settled p q (tree_at (store_of es staged capacity).filestore p))
+    pub moved_store : (p q : Path) → shown_entries es' ≡ puts (rest_in p (shown_entries es)) (moved_to p q (tree_in p (shown_entries es)))
+        → listed_store es' staged capacity ≡ with_changes (listed_store es staged capacity) (vacating (tree_at (listed_store es staged capacity).filestore p)
+        ++ settled p q (tree_at (listed_store es staged capacity).filestore p))
     moved_store p q e =
-        let F : Filestore = (store_of es staged capacity).filestore in
-        let ts : List (Path × Node) = tree_in p (shown es) in
-        let rest : is_sorted path_cmp (rest_in p (shown es)) ≡ true = ordered-where (λ x. not (is_at_or_below x p)) (shown es)
-        (rest_in p (shown es)) refl kept.sorted in
+        let F : Filestore = (listed_store es staged capacity).filestore in
+        let ts : List (Path × Node) = tree_in p (shown_entries es) in
+        let rest : is_sorted path_cmp (rest_in p (shown_entries es)) ≡ true = ordered-where (λ x. not (is_at_or_below x p)) (shown_entries es)
+        (rest_in p (shown_entries es)) refl kept.sorted in
         let nodes : nodes_of es' ≡ inserts (removes (nodes_of es) ts) (moved_to p q ts) =
-        ap finite.from_sorted e ∙ sym (ap (λ m. inserts m (moved_to p q ts)) (removes-tree (shown es) p kept.sorted)
-        ∙ inserts-puts (rest_in p (shown es)) (moved_to p q ts) rest) in
-        let gone : after F (vacated ts ++ settled p q ts) ≡ record F { nodes = inserts (removes F.nodes ts) (moved_to p q ts) } =
-        after-append F (vacated ts) (settled p q ts) ∙ ap (λ (G : Filestore). after G (settled p q ts)) (after-vacated F ts)
+        ap finite.from_sorted e ∙ sym (ap (λ m. inserts m (moved_to p q ts)) (removes-tree (shown_entries es) p kept.sorted)
+        ∙ inserts-puts (rest_in p (shown_entries es)) (moved_to p q ts) rest) in
+        let gone : after F (vacating ts ++ settled p q ts) ≡ record F { nodes = inserts (removes F.nodes ts) (moved_to p q ts) } =
+        after-append F (vacating ts) (settled p q ts) ∙ ap (λ (G : Filestore). after G (settled p q ts)) (after-vacated F ts)
         ∙ after-settled (record F { nodes = removes F.nodes ts }) p q ts in
         ap (λ (m : finite.FinMap path_cmp Node). record {
-          filestore = record { nodes = m; staged = octets_of staged };
+          filestore = record { nodes = m; staged = vector_octets staged };
           capacity = capacity;
           takes_no_memory = false;
         }) nodes
         ∙ sym (ap (λ (G : Filestore). record { filestore = G; capacity = capacity; takes_no_memory = false }) gone)
-        ∙ ap (λ (xs : List (Path × Node)). with_changes (store_of es staged capacity) (vacated xs ++ settled p q xs)) (sym (tree_at-shown p))
+        ∙ ap (λ (xs : List (Path × Node)). with_changes (listed_store es staged capacity) (vacating xs ++ settled p q xs)) (sym (tree_at-shown p))
 
-    module _ (p q : Path) (e : shown es' ≡ puts (rest_in p (shown es)) (moved_to p q (tree_in p (shown es)))) where
+    module _ (p q : Path) (e : shown_entries es' ≡ puts (rest_in p (shown_entries es)) (moved_to p q (tree_in p (shown_entries es)))) where
       pub moved_fits : blocks_in es' staged ≤ capacity
-      moved_fits = omega (arith, kept.fits, kept.counted, ap weights e, weights-relocated-le p q (shown es))
+      moved_fits = omega (arith, kept.fits, kept.counted, ap weights e, weights-relocated-le p q (shown_entries es))
 
-      pub moved_counted : found es q ≡ None → any_below q (shown es) ≡ false → used ≡ blocks_in es' staged
-      moved_counted absent none = omega (arith, kept.counted, ap weights e, weights-relocated p q (shown es) kept.sorted absent none)
+      pub moved_counted : entry_found es q ≡ None → any_below q (shown_entries es) ≡ false → used ≡ blocks_in es' staged
+      moved_counted absent none = omega (arith, kept.counted, ap weights e, weights-relocated p q (shown_entries es) kept.sorted absent none)
 
-      pub moved_kept : (used' : ℕ) → used' ≡ blocks_in es' staged → IsKept es' staged used' capacity
+      pub moved_kept : (used' : ℕ) → used' ≡ blocks_in es' staged → IsListed es' staged used' capacity
       moved_kept used' count = record {
         sorted =
             ap (is_sorted path_cmp) e
-            ∙ ordered-puts (rest_in p (shown es)) (moved_to p q (tree_in p (shown es)))
-            (ordered-where (λ x. not (is_at_or_below x p)) (shown es) (rest_in p (shown es)) refl kept.sorted);
+            ∙ ordered-puts (rest_in p (shown_entries es)) (moved_to p q (tree_in p (shown_entries es)))
+            (ordered-where (λ x. not (is_at_or_below x p)) (shown_entries es) (rest_in p (shown_entries es)) refl kept.sorted);
         slots = kept.slots;
         counted = count;
         fits = omega (arith, count, moved_fits);
@@ -319,18 +322,18 @@ module _ (es : Entries) (staged : List (Vec ℕ Global)) (used capacity : ℕ) (
 
   -- ---- changes of the staged lists
 
-  module _ (staged' : List (Vec ℕ Global)) (slot : ℕ) (octets : List ℕ) (changed_list : octets_of staged' ≡ set (octets_of staged) slot octets) where
-    pub staged_store : store_of es staged' capacity ≡ with_changes (store_of es staged capacity) (Stages slot octets ∷ [])
+  module _ (staged' : List (Vec ℕ Global)) (slot : ℕ) (octets : List ℕ) (changed_list : vector_octets staged' ≡ set (vector_octets staged) slot octets) where
+    pub staged_store : listed_store es staged' capacity ≡ with_changes (listed_store es staged capacity) (Stages slot octets ∷ [])
     staged_store = ap (λ (lists : List (List ℕ)). record {
       filestore = record { nodes = nodes_of es; staged = lists };
       capacity = capacity;
       takes_no_memory = false;
     }) changed_list
 
-    pub staged_kept : (used' : ℕ) → length staged' ≡ length staged → slot < 64 → used' + blocks_of (length (get_or (octets_of staged) slot [])) ≡ used
-        + blocks_of (length octets) → used' ≤ capacity → IsKept es staged' used' capacity
+    pub staged_kept : (used' : ℕ) → length staged' ≡ length staged → slot < 64 → used' + blocks_of (length (get_or (vector_octets staged) slot [])) ≡ used
+        + blocks_of (length octets) → used' ≤ capacity → IsListed es staged' used' capacity
     staged_kept used' e s count h =
-        let within : slot < length (octets_of staged) = omega (arith, s, kept.slots, length-map staged (λ (vector : Vec ℕ Global). vector.items)) in
+        let within : slot < length (vector_octets staged) = omega (arith, s, kept.slots, length-map staged (λ (vector : Vec ℕ Global). vector.items)) in
         record {
           sorted = kept.sorted;
           slots = e ∙ kept.slots;
@@ -338,7 +341,7 @@ module _ (es : Entries) (staged : List (Vec ℕ Global)) (used capacity : ℕ) (
             arith,
             count,
             kept.counted,
-            sum_by-set (λ (list : List ℕ). blocks_of (length list)) (octets_of staged) slot octets [] within,
+            sum_by-set (λ (list : List ℕ). blocks_of (length list)) (vector_octets staged) slot octets [] within,
             ap (λ (lists : List (List ℕ)). sum_by (λ (list : List ℕ). blocks_of (length list)) lists) changed_list,
           );
           fits = h;
@@ -348,7 +351,7 @@ module _ (es : Entries) (staged : List (Vec ℕ Global)) (used capacity : ℕ) (
 pub empty_nodes : nodes_of [] ≡ finite.empty
 empty_nodes = finite.empty_of_len (nodes_of []) (finite.len-entries (nodes_of []) ∙ ap (λ es. length es) (entries-from_sorted path_cmp [] tt))
 
-pub empty_lists : (staged : List (Vec ℕ Global)) (n : ℕ) → octets_of staged ≡ replicate n [] → lists_blocks staged ≡ 0
+pub empty_lists : (staged : List (Vec ℕ Global)) (n : ℕ) → vector_octets staged ≡ replicate n [] → lists_blocks staged ≡ 0
 empty_lists staged n e =
     ap (λ (lists : List (List ℕ)). sum_by (λ (list : List ℕ). blocks_of (length list)) lists) e
     ∙ sum_by-replicate (λ (list : List ℕ). blocks_of (length list)) n [] ∙ ap (λ k. n * k) no_blocks ∙ mul-zero n
@@ -372,28 +375,28 @@ no_directory (Some (File octets)) node e h = refl
 
 -- ---- the same of a store that is seen so
 
-module _ (es : Entries) (staged : List (Vec ℕ Global)) (used capacity : ℕ) (kept : IsKept es staged used capacity) (now : Store)
-    (view : store_of es staged capacity ≡ now) where
-  pub seen_node : (p : Path) → node_at now.filestore p ≡ found es p
+module _ (es : Entries) (staged : List (Vec ℕ Global)) (used capacity : ℕ) (kept : IsListed es staged used capacity) (now : Store)
+    (view : listed_store es staged capacity ≡ now) where
+  pub seen_node : (p : Path) → node_at now.filestore p ≡ entry_found es p
   seen_node p = ap (λ (s : Store). node_at s.filestore p) (sym view) ∙ node_at-found es staged used capacity kept p
 
-  pub seen_tree : (p : Path) → tree_at now.filestore p ≡ tree_in p (shown es)
+  pub seen_tree : (p : Path) → tree_at now.filestore p ≡ tree_in p (shown_entries es)
   seen_tree p = ap (λ (s : Store). tree_at s.filestore p) (sym view) ∙ tree_at-shown es staged used capacity kept p
 
-  pub seen_entries : finite.entries now.filestore.nodes ≡ shown es
+  pub seen_entries : finite.entries now.filestore.nodes ≡ shown_entries es
   seen_entries = ap (λ (s : Store). finite.entries s.filestore.nodes) (sym view) ∙ entries-shown es staged used capacity kept
 
-  pub seen_has_entries : (p : Path) → has_entries now.filestore p ≡ any_below p (shown es)
+  pub seen_has_entries : (p : Path) → has_entries now.filestore p ≡ any_below p (shown_entries es)
   seen_has_entries p = ap (λ (s : Store). has_entries s.filestore p) (sym view) ∙ has_entries-shown es staged used capacity kept p
 
-  pub seen_parent : (p : Path) (depth : ℕ) → length p ≡ depth + 1 → depth ≢ 0 → parent_is_good now.filestore p ≡ is_directory (found es (take depth p))
+  pub seen_parent : (p : Path) (depth : ℕ) → length p ≡ depth + 1 → depth ≢ 0 → parent_is_good now.filestore p ≡ is_directory (entry_found es (take depth p))
   seen_parent p depth long some =
       let above : parent p ≡ take depth p = parent-take p ∙ ap (λ n. take n p) (omega (arith, long)) in
       let longer : length (parent p) ≡ depth = ap (λ (q : Path). length q) above ∙ omega (arith, long, length-take depth p) in
       ap (λ (s : Store). parent_is_good s.filestore p) (sym view) ∙ parent_is_good-shown es staged used capacity kept p (omega (arith, longer, some))
-      (omega (arith, long)) ∙ ap (λ q. is_directory (found es q)) above
+      (omega (arith, long)) ∙ ap (λ q. is_directory (entry_found es q)) above
 
-  pub seen_staged : (slot : ℕ) → staged_in now.filestore slot ≡ get_or (octets_of staged) slot []
+  pub seen_staged : (slot : ℕ) → staged_in now.filestore slot ≡ get_or (vector_octets staged) slot []
   seen_staged slot = ap (λ (s : Store). staged_in s.filestore slot) (sym view)
 
   pub seen_slots : length now.filestore.staged ≡ 64
@@ -408,65 +411,67 @@ module _ (es : Entries) (staged : List (Vec ℕ Global)) (used capacity : ℕ) (
   pub seen_free : free_blocks now + used ≡ capacity
   seen_free = omega (arith, seen_blocks, seen_capacity, kept.fits)
 
-  pub seen_put : (es' : Entries) (p : Path) (node : Node) → shown es' ≡ put path_cmp p node (shown es) → store_of es' staged capacity
+  pub seen_put : (es' : Entries) (p : Path) (node : Node) → shown_entries es' ≡ put path_cmp p node (shown_entries es) → listed_store es' staged capacity
       ≡ with_changes now (Becomes p (Some node) ∷ [])
   seen_put es' p node e = put_store es staged used capacity kept es' p node e ∙ ap (λ (s : Store). with_changes s (Becomes p (Some node) ∷ [])) view
 
-  pub seen_gone : (es' : Entries) (p : Path) → shown es' ≡ without p (shown es) → store_of es' staged capacity ≡ with_changes now (Becomes p None ∷ [])
+  pub seen_gone : (es' : Entries) (p : Path) → shown_entries es' ≡ without p (shown_entries es) → listed_store es' staged capacity ≡ with_changes now
+      (Becomes p None ∷ [])
   seen_gone es' p e = gone_store es staged used capacity kept es' p e ∙ ap (λ (s : Store). with_changes s (Becomes p None ∷ [])) view
 
-  pub seen_moved : (es' : Entries) (p q : Path) → shown es' ≡ puts (rest_in p (shown es)) (moved_to p q (tree_in p (shown es))) → store_of es' staged capacity
-      ≡ with_changes now (vacated (tree_at now.filestore p) ++ settled p q (tree_at now.filestore p))
+  pub seen_moved : (es' : Entries) (p q : Path) → shown_entries es' ≡ puts (rest_in p (shown_entries es)) (moved_to p q (tree_in p (shown_entries es))) →
+      listed_store es' staged capacity
+      ≡ with_changes now (vacating (tree_at now.filestore p) ++ settled p q (tree_at now.filestore p))
   seen_moved es' p q e = moved_store es staged used capacity kept es' p q e
-      ∙ ap (λ (s : Store). with_changes s (vacated (tree_at s.filestore p) ++ settled p q (tree_at s.filestore p))) view
+      ∙ ap (λ (s : Store). with_changes s (vacating (tree_at s.filestore p) ++ settled p q (tree_at s.filestore p))) view
 
-  pub seen_list : (staged' : List (Vec ℕ Global)) (slot : ℕ) (octets : List ℕ) → octets_of staged' ≡ set (octets_of staged) slot octets →
-      store_of es staged' capacity ≡ with_changes now (Stages slot octets ∷ [])
+  pub seen_list : (staged' : List (Vec ℕ Global)) (slot : ℕ) (octets : List ℕ) → vector_octets staged' ≡ set (vector_octets staged) slot octets →
+      listed_store es staged' capacity ≡ with_changes now (Stages slot octets ∷ [])
   seen_list staged' slot octets e = staged_store es staged used capacity kept staged' slot octets e
       ∙ ap (λ (s : Store). with_changes s (Stages slot octets ∷ [])) view
 
   -- ---- what changes need
 
-  pub seen_file : (p : Path) → is_file (node_at now.filestore p) ≡ true → is_file (found es p) ≡ true
+  pub seen_file : (p : Path) → is_file (node_at now.filestore p) ≡ true → is_file (entry_found es p) ≡ true
   seen_file p h = sym (ap is_file (seen_node p)) ∙ h
 
-  pub there_file : (p : Path) → is_file (node_at now.filestore p) ≡ true → is_some (found es p) ≡ true
-  there_file p h = file_there (found es p) (seen_file p h)
+  pub there_file : (p : Path) → is_file (node_at now.filestore p) ≡ true → is_some (entry_found es p) ≡ true
+  there_file p h = file_there (entry_found es p) (seen_file p h)
 
-  pub weight_there : (p : Path) → is_file (node_at now.filestore p) ≡ true → weight (found es p) ≡ 1 + blocks_of (length (octets_in (found es p)))
-  weight_there p h = file-weight (found es p) (seen_file p h)
+  pub weight_there : (p : Path) → is_file (node_at now.filestore p) ≡ true → weight (entry_found es p) ≡ 1 + blocks_of (length (octets_in (entry_found es p)))
+  weight_there p h = file-weight (entry_found es p) (seen_file p h)
 
-  pub weight_unless : (p : Path) (node : Node) → found es p ≡ Some node → is_directory (node_at now.filestore p) ≡ false → weight (found es p) ≡ 1
-      + blocks_of (length (octets_in (found es p)))
-  weight_unless p node e h = no_directory (found es p) node e (sym (ap is_directory (seen_node p)) ∙ h)
+  pub weight_unless : (p : Path) (node : Node) → entry_found es p ≡ Some node → is_directory (node_at now.filestore p) ≡ false → weight (entry_found es p) ≡ 1
+      + blocks_of (length (octets_in (entry_found es p)))
+  weight_unless p node e h = no_directory (entry_found es p) node e (sym (ap is_directory (seen_node p)) ∙ h)
 
   -- one block more, at a path at which nothing was there
-  pub put_absent_kept : (es' : Entries) (p : Path) (node : Node) → shown es' ≡ put path_cmp p node (shown es) → node_at now.filestore p ≡ None →
-      1 ≤ free_blocks now → weight (Some node) ≡ 1 → IsKept es' staged (used + 1) capacity
+  pub put_absent_kept : (es' : Entries) (p : Path) (node : Node) → shown_entries es' ≡ put path_cmp p node (shown_entries es) → node_at now.filestore p ≡ None →
+      1 ≤ free_blocks now → weight (Some node) ≡ 1 → IsListed es' staged (used + 1) capacity
   put_absent_kept es' p node e absent room one =
       put_kept es staged used capacity kept es' p node (used + 1) e (omega (arith, ap weight (sym (seen_node p) ∙ absent), one))
       (omega (arith, seen_free, room))
 
   -- an empty slot, and its list as a file
-  module _ (es' : Entries) (staged' : List (Vec ℕ Global)) (slot : ℕ) (p : Path) (octets : List ℕ) (emptied : octets_of staged'
-      ≡ set (octets_of staged) slot []) (slots : length staged' ≡ length staged) (within : slot < 64) (file : shown es'
-      ≡ put path_cmp p (File octets) (shown es)) where
+  module _ (es' : Entries) (staged' : List (Vec ℕ Global)) (slot : ℕ) (p : Path) (octets : List ℕ) (emptied : vector_octets staged'
+      ≡ set (vector_octets staged) slot []) (slots : length staged' ≡ length staged) (within : slot < 64) (file : shown_entries es'
+      ≡ put path_cmp p (File octets) (shown_entries es)) where
     left : ℕ
-    left = used - blocks_of (length (get_or (octets_of staged) slot []))
+    left = used - blocks_of (length (get_or (vector_octets staged) slot []))
 
-    emptied_kept : IsKept es staged' left capacity
+    emptied_kept : IsListed es staged' left capacity
     unfolding left
     emptied_kept =
         staged_kept es staged used capacity kept staged' slot [] emptied left slots within
         (omega (arith, no_blocks, list_small es staged used capacity kept slot)) (omega (arith, kept.fits))
 
-    pub installed_store : store_of es' staged' capacity ≡ with_changes now (Stages slot [] ∷ Becomes p (Some (File octets)) ∷ [])
+    pub installed_store : listed_store es' staged' capacity ≡ with_changes now (Stages slot [] ∷ Becomes p (Some (File octets)) ∷ [])
     installed_store =
         put_store es staged' left capacity emptied_kept es' p (File octets) file
         ∙ ap (λ (s : Store). with_changes s (Becomes p (Some (File octets)) ∷ [])) (seen_list staged' slot [] emptied)
 
-    pub installed_kept : (used' : ℕ) → octets ≡ get_or (octets_of staged) slot [] → used' + weight (found es p) ≡ used + 1 → used' ≤ capacity →
-        IsKept es' staged' used' capacity
+    pub installed_kept : (used' : ℕ) → octets ≡ get_or (vector_octets staged) slot [] → used' + weight (entry_found es p) ≡ used + 1 → used' ≤ capacity →
+        IsListed es' staged' used' capacity
     unfolding left
     installed_kept used' same count h =
         put_kept es staged' left capacity emptied_kept es' p (File octets) used' file

@@ -131,14 +131,14 @@ delete_file p (Some Directory) = refused (NotAllowed action.DeleteFile)
 delete_file p (Some (File octets)) = gone action.DeleteFile p (Some (File octets))
 
 -- whether a path of the tree would have more than 8 names
-abbrev pub is_too_deep : Path → Path → List (Path × Node) → Bool
-is_too_deep p q [] = false
-is_too_deep p q (e ∷ es) = nat_lt 8 (length (rebased p q e.0)) || is_too_deep p q es
+abbrev pub is_tree_too_deep : Path → Path → List (Path × Node) → Bool
+is_tree_too_deep p q [] = false
+is_tree_too_deep p q (e ∷ es) = nat_lt 8 (length (rebased p q e.0)) || is_tree_too_deep p q es
 
 -- nothing is at the tree's paths any more
-abbrev pub vacated : List (Path × Node) → List Change
-vacated [] = []
-vacated (e ∷ es) = Becomes e.0 None ∷ vacated es
+abbrev pub vacating : List (Path × Node) → List Change
+vacating [] = []
+vacating (e ∷ es) = Becomes e.0 None ∷ vacating es
 
 -- each p/r is at q/r
 abbrev pub settled : Path → Path → List (Path × Node) → List Change
@@ -152,8 +152,8 @@ rename p q (Some node) (Some _) good below es = refused RenameNewPresent
 rename p q (Some node) None false below es = refused (NotAllowed action.RenameFile)
 rename p q (Some node) None true true es = refused (NotAllowed action.RenameFile)
 rename p q (Some node) None true false es =
-    if is_too_deep p q es then refused (NotAllowed action.RenameFile)
-    else succeeds action.RenameFile (vacated es ++ settled p q es) 0 0 0
+    if is_tree_too_deep p q es then refused (NotAllowed action.RenameFile)
+    else succeeds action.RenameFile (vacating es ++ settled p q es) 0 0 0
 
 -- q's octets at the end of p
 unfoldable pub append : Path → Option Node → Option Node → Outcome
@@ -195,8 +195,8 @@ deny_directory p (Some Directory) true = refused (NotAllowed action.DenyDirector
 deny_directory p (Some Directory) false = gone action.DenyDirectory p (Some Directory)
 
 -- the staged list becomes p's contents, and the slot is empty
-abbrev pub installs : ℕ → Path → List ℕ → ℕ → ℕ → Outcome
-installs slot p octets taken given =
+abbrev pub install_outcome : ℕ → Path → List ℕ → ℕ → ℕ → Outcome
+install_outcome slot p octets taken given =
     record {
       answer = Installed;
       changes = Stages slot [] ∷ Becomes p (Some (File octets)) ∷ [];
@@ -209,8 +209,8 @@ unfoldable pub install : ℕ → Path → List ℕ → Option Node → Bool → 
 install slot p octets None false = unchanged NotInstalled
 install slot p octets (Some node) false = unchanged NotInstalled
 install slot p octets (Some Directory) true = unchanged NotInstalled
-install slot p octets None true = installs slot p octets 1 0
-install slot p octets (Some (File old)) true = installs slot p octets 0 (blocks_of (length old))
+install slot p octets None true = install_outcome slot p octets 1 0
+install slot p octets (Some (File old)) true = install_outcome slot p octets 0 (blocks_of (length old))
 
 -- the action table, with unlimited room: each row by what is at the paths that it names
 unfoldable pub table : Filestore → Request → Outcome

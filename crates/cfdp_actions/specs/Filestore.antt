@@ -10,7 +10,7 @@
 --                                 in turn
 --     inside F p, has_entries     what is strictly below p;  whether anything is there
 --     is_directory, is_file       of what is at a path
---     octets_in, octets_at        the octets of a file, none where there is no file
+--     octets_in, file_octets_at   the octets of a file, none where there is no file
 --     is_good, parent_is_good     whether a path, or its parent, is the root or a directory
 --     IsRooted                    each path's parent is the root or a directory
 --     tree_at F p, deepest_of     p and all that is below it, in order;  the names of the longest path of some
@@ -97,8 +97,8 @@ octets_in None = []
 octets_in (Some Directory) = []
 octets_in (Some (File octets)) = octets
 
-abbrev pub octets_at : Filestore → Path → List ℕ
-octets_at F p = octets_in (node_at F p)
+abbrev pub file_octets_at : Filestore → Path → List ℕ
+file_octets_at F p = octets_in (node_at F p)
 
 -- the root or a directory
 abbrev pub is_good : Filestore → Path → Bool

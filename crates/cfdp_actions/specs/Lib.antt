@@ -4,5 +4,5 @@ pub mod Store
 pub mod Prefixes
 pub mod Performing
 pub mod Listed
-pub mod Codes
 pub mod Refusals
+pub mod code

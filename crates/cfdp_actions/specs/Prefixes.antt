@@ -1,15 +1,9 @@
 -- The list of protected prefixes, as a row of places holds it.
---     present places    the paths that are in the places, in order
 --     same_paths        the same paths in the same order
-use Rattle.std.specs.Prelude.{Bool, List, [], ◌∷◌, Option, Some, None}
+use Rattle.std.specs.Prelude.{Bool, List}
 use Rattle.std.specs.Cmp.Lexicographic.{slice_cmp}
 use Rattle.std.specs.Ordering.{eq_by_cmp}
 use Rattle.cfdp_paths.specs.Paths.{Path, path_cmp}
-
-abbrev pub present : List (Option Path) → List Path
-present [] = []
-present (None ∷ places) = present places
-present (Some path ∷ places) = path ∷ present places
 
 abbrev pub same_paths : List Path → List Path → Bool
 same_paths = eq_by_cmp (slice_cmp path_cmp)

@@ -1,36 +1,9 @@
 -- Why a row of the action table is not successful, room apart.
 --     Refuses o told                     the status with which the row is refused; None where it is successful
---     file_refusal, directory_refusal    why a file, or a directory, may not go, by what is at its path
---     joint_refusal                      why two files may not be joined, by what is at their paths
-use Rattle.std.specs.Prelude.{◌≡◌, Bool, true, false, IsTrue, Option, Some, None}
-use Rattle.cfdp_status.specs.declared.action.Action.{Action}
+use Rattle.std.specs.Prelude.{◌≡◌, IsTrue, Option, Some, None}
 use Rattle.cfdp_status.specs.declared.status.Status.{Status}
-use Rattle.cfdp_status.specs.declared.status.Status.TheVariants.{NotAllowed}
 use Rattle.cfdp_actions.specs.Actions.{Outcome, succeeded, refused}
-use Rattle.cfdp_actions.specs.declared.kind.Kind.{Kind}
-use Rattle.cfdp_actions.specs.declared.kind.Kind.TheVariants as kind
 
 abbrev pub Refuses : Outcome → Option Status → Type 0
 Refuses o None = IsTrue (succeeded o.answer)
 Refuses o (Some status) = o ≡ refused status
-
--- where nothing exists the action has its own answer
-abbrev pub file_refusal : Action → Option Status → Option Kind → Option Status
-file_refusal action absent None = absent
-file_refusal action absent (Some kind.Directory) = Some (NotAllowed action)
-file_refusal action absent (Some kind.File) = None
-
--- nor where it has entries
-abbrev pub directory_refusal : Action → Option Status → Option Kind → Bool → Option Status
-directory_refusal action absent None entries = absent
-directory_refusal action absent (Some kind.File) entries = Some (NotAllowed action)
-directory_refusal action absent (Some kind.Directory) true = Some (NotAllowed action)
-directory_refusal action absent (Some kind.Directory) false = None
-
--- the two answers where nothing is at the first path, or at the second
-abbrev pub joint_refusal : Action → Status × Status → Option Kind → Option Kind → Option Status
-joint_refusal action absent None _ = Some absent.0
-joint_refusal action absent (Some a) None = Some absent.1
-joint_refusal action absent (Some kind.Directory) (Some b) = Some (NotAllowed action)
-joint_refusal action absent (Some kind.File) (Some kind.Directory) = Some (NotAllowed action)
-joint_refusal action absent (Some kind.File) (Some kind.File) = None

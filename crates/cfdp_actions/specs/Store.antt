@@ -7,7 +7,7 @@
 --     is_file_kind              of the two kinds
 --     extended octets size      zeros at the end, up to the size
 --     overwritten octets at piece    the piece in place of what was at that place
---     entry_of, listing_of      a line of a listing, and all of them in path order
+--     listing_entry, listing_of  a line of a listing, and all of them in path order
 --     standing_of, standings_of the same without checksums, for a path and what is below it
 use Rattle.std.specs.Prelude.{ℕ, ◌+◌, ◌-◌, Bool, true, false, List, ◌++◌, Option, Some, None, length, map, take, drop, replicate}
 use Rattle.std.specs.FinMap as finite
@@ -62,8 +62,8 @@ abbrev pub overwritten : List ℕ → ℕ → List ℕ → List ℕ
 overwritten octets at piece = take at octets ++ piece ++ drop (at + length piece) octets
 
 -- a directory's size and checksum are 0
-abbrev pub entry_of : Path × Node → Entry
-entry_of e = record {
+abbrev pub listing_entry : Path × Node → Entry
+listing_entry e = record {
   path = e.0;
   kind = kind_of e.1;
   size = length (octets_in (Some e.1));
@@ -71,7 +71,7 @@ entry_of e = record {
 }
 
 abbrev pub listing_of : Filestore → List Entry
-listing_of F = map entry_of (finite.entries F.nodes)
+listing_of F = map listing_entry (finite.entries F.nodes)
 
 abbrev pub standing_of : Path × Node → Standing
 standing_of e = record { path = e.0; kind = kind_of e.1; size = length (octets_in (Some e.1)) }

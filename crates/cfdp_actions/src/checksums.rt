@@ -2,7 +2,7 @@
 
 ghost use Rattle.std.specs.Prelude.{◌≡◌, IsTrue};
 ghost use Rattle.cfdp_checksum.specs.Checksum.{checksum};
-ghost use Rattle.cfdp_actions.specs.Filestore.{is_file, node_at, octets_at};
+ghost use Rattle.cfdp_actions.specs.Filestore.{is_file, node_at, file_octets_at};
 
 use crate::Filestore;
 use cfdp_paths::Path;
@@ -13,7 +13,7 @@ use cfdp_paths::Path;
 /// [`Filestore::checksum`].
 pub fn entry_checksum<S: Filestore>(store: &S, path: &Path) -> u32
     requires { IsTrue (is_file (node_at (S.state store.now).filestore path.now)) }
-    ensures { result ≡ checksum (octets_at (S.state store.now).filestore path.now) }
+    ensures { result ≡ checksum (file_octets_at (S.state store.now).filestore path.now) }
 {
     store.checksum(path)
 }

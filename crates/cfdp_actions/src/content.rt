@@ -5,7 +5,7 @@ ghost use Rattle.std.specs.FinMap.{put, is_sorted};
 ghost use Rattle.cfdp_paths.specs.Paths.{path_cmp, same_path};
 ghost use Rattle.cfdp_actions.specs.Filestore.{File, octets_in, weight, is_file, is_directory};
 ghost use Rattle.cfdp_actions.specs.Store.{kind_of};
-ghost use Rattle.cfdp_actions.specs.Listed.{shown, found, node_of};
+ghost use Rattle.cfdp_actions.specs.code.Listed.{shown_entries, entry_found, content_node};
 
 use crate::Kind;
 use crate::blocks::blocks_of;
@@ -24,7 +24,7 @@ pub enum Content {
 impl Content {
     /// Whether it is a file or a directory.
     pub fn kind(&self) -> Kind
-        ensures { result ≡ kind_of (node_of self.now) }
+        ensures { result ≡ kind_of (content_node self.now) }
     {
         match self {
             Content::Directory => Kind::Directory,
@@ -34,14 +34,14 @@ impl Content {
 
     /// Whether it is a directory.
     pub fn is_directory(&self) -> bool
-        ensures { result ≡ is_directory (Some (node_of self.now)) }
+        ensures { result ≡ is_directory (Some (content_node self.now)) }
     {
         matches!(self, Content::Directory)
     }
 
     /// The octets of a file; none for a directory.
     pub fn octets(&self) -> &[u8]
-        ensures { result.now ≡ octets_in (Some (node_of self.now)) }
+        ensures { result.now ≡ octets_in (Some (content_node self.now)) }
     {
         match self {
             Content::Directory => &[],
@@ -51,7 +51,7 @@ impl Content {
 
     /// The octets of a file; none for a directory.
     pub fn into_octets(self, alloc: Global) -> Vec<u8>
-        ensures { result.items ≡ octets_in (Some (node_of self)) }
+        ensures { result.items ≡ octets_in (Some (content_node self)) }
     {
         match self {
             Content::Directory => Vec::new(alloc),
@@ -61,8 +61,8 @@ impl Content {
 
     /// The blocks that it takes, where they are at most 65,536: one, and one more for each 120 octets.
     pub fn blocks(&self) -> u32
-        requires { weight (Some (node_of self.now)) ≤ 65536 }
-        ensures { result ≡ weight (Some (node_of self.now)) }
+        requires { weight (Some (content_node self.now)) ≤ 65536 }
+        ensures { result ≡ weight (Some (content_node self.now)) }
     {
         match self {
             Content::Directory => 1,
@@ -73,7 +73,7 @@ impl Content {
 
 /// The octets of the file at the path; none where there is no file.
 pub fn octets_at<'a>(entries: &'a PathMap<Content>, path: &Path) -> &'a [u8]
-    ensures { result.now ≡ octets_in (found entries.now path.now) }
+    ensures { result.now ≡ octets_in (entry_found entries.now path.now) }
 {
     match entries.get(path) {
         Some(content) => content.octets(),
@@ -95,15 +95,15 @@ pub fn append(
     first: &Path,
     second: &Path,
 ) -> Result<Growth, Memory>
-    requires sorted { IsTrue (is_sorted path_cmp (shown entries.old)) }
-    requires file { IsTrue (is_file (found entries.old first.now)) }
-    ensures ok { OnOk result (let front = octets_in (found entries.old first.now) in
-        let back = octets_in (found entries.old second.now) in
-        shown entries.new ≡ put path_cmp first.now (File (front ++ back)) (shown entries.old)) }
-    ensures err { OnErr result (shown entries.new ≡ shown entries.old) }
-    ensures from { IfOk result (λ growth. growth.from ≡ length (octets_in (found entries.old first.now))) }
-    ensures to { IfOk result (λ growth. growth.to ≡ length (octets_in (found entries.old first.now))
-        + length (octets_in (found entries.old second.now))) }
+    requires sorted { IsTrue (is_sorted path_cmp (shown_entries entries.old)) }
+    requires file { IsTrue (is_file (entry_found entries.old first.now)) }
+    ensures ok { OnOk result (let front = octets_in (entry_found entries.old first.now) in
+        let back = octets_in (entry_found entries.old second.now) in
+        shown_entries entries.new ≡ put path_cmp first.now (File (front ++ back)) (shown_entries entries.old)) }
+    ensures err { OnErr result (shown_entries entries.new ≡ shown_entries entries.old) }
+    ensures from { IfOk result (λ growth. growth.from ≡ length (octets_in (entry_found entries.old first.now))) }
+    ensures to { IfOk result (λ growth. growth.to ≡ length (octets_in (entry_found entries.old first.now))
+        + length (octets_in (entry_found entries.old second.now))) }
 {
     let mut octets = entries
         .exchange(first, Content::Directory)
@@ -124,7 +124,7 @@ fn extend(
     doubles: bool,
 ) -> Result<(), Memory>
     ensures ok { OnOk result (octets.new.items
-        ≡ octets.old.items ++ (if doubles then octets.old.items else octets_in (found entries.now path.now))) }
+        ≡ octets.old.items ++ (if doubles then octets.old.items else octets_in (entry_found entries.now path.now))) }
     ensures err { OnErr result (octets.new.items ≡ octets.old.items) }
 {
     if doubles {

@@ -3,8 +3,8 @@
 ghost use Rattle.std.specs.Prelude.{◌≡◌, ◌≢◌, ℕ, ◌+◌, ◌-◌, ◌*◌, ◌<◌, ◌≤◌, ◌==◌, Bool, true, false, not, if◌then◌else◌, IsTrue, IsFalse, IsSome, IsNone, IsOk, IfOk, OnOk, OnErr, Option, Some, None, List, [], ◌∷◌, ◌++◌, length, map, slice_range, is_none};
 ghost use Rattle.cfdp_checksum.specs.Checksum.{checksum};
 ghost use Rattle.cfdp_paths.specs.Paths.{same_path, is_at_or_below};
-ghost use Rattle.cfdp_actions.specs.Filestore.{Node, File, Directory, node_at, staged_in, blocks_of, weight, blocks, Becomes, Stages, has_entries, is_directory, is_file, octets_in, octets_at, parent_is_good, tree_at, deepest_of};
-ghost use Rattle.cfdp_actions.specs.Actions.{is_too_deep, vacated, settled};
+ghost use Rattle.cfdp_actions.specs.Filestore.{Node, File, Directory, node_at, staged_in, blocks_of, weight, blocks, Becomes, Stages, has_entries, is_directory, is_file, octets_in, file_octets_at, parent_is_good, tree_at, deepest_of};
+ghost use Rattle.cfdp_actions.specs.Actions.{is_tree_too_deep, vacating, settled};
 ghost use Rattle.cfdp_actions.specs.Store.{Store, free_blocks, with_changes, kind_at, extended, overwritten, listing_of, standings_of};
 
 use crate::{Entry, Kind, Standing};
@@ -38,22 +38,22 @@ pub trait Filestore: Drop {
     /// How many octets a file has: at most 7,864,320, the payload of 65,536 blocks.
     fn size(&self, path: &Path) -> u64
         requires { IsTrue (is_file (node_at (state self.now).filestore path.now)) }
-        ensures value { result ≡ length (octets_at (state self.now).filestore path.now) }
+        ensures value { result ≡ length (file_octets_at (state self.now).filestore path.now) }
         ensures within { result ≤ 7864320 };
 
     /// Fills the buffer with a file's octets from offset `at` on.
     fn read(&self, path: &Path, at: u64, buffer: &mut [u8])
         requires file { IsTrue (is_file (node_at (state self.now).filestore path.now)) }
-        requires range { at + length buffer.old ≤ length (octets_at (state self.now).filestore path.now) }
+        requires range { at + length buffer.old ≤ length (file_octets_at (state self.now).filestore path.now) }
         ensures { buffer.new
-            ≡ slice_range (octets_at (state self.now).filestore path.now) at (at + length buffer.old) };
+            ≡ slice_range (file_octets_at (state self.now).filestore path.now) at (at + length buffer.old) };
 
     /// A file's modular checksum (CCSDS 727.0-B-5, checksum procedures): modulo 2^32 the sum of its octets as words of
     /// four octets, the first one the most significant and the last word filled with zeros. Takes no memory. In time at
     /// most linear in the octets; a store that keeps the checksum with the octets takes no more than for `size`.
     fn checksum(&self, path: &Path) -> u32
         requires { IsTrue (is_file (node_at (state self.now).filestore path.now)) }
-        ensures { result ≡ checksum (octets_at (state self.now).filestore path.now) };
+        ensures { result ≡ checksum (file_octets_at (state self.now).filestore path.now) };
 
     /// The number of names of the longest path at or below a path at which something exists: 1 to 8.
     fn deepest(&self, path: &Path) -> u8
@@ -138,10 +138,10 @@ pub trait Filestore: Drop {
         requires absent { node_at (state self.old).filestore to.now ≡ None }
         requires parent { IsTrue (parent_is_good (state self.old).filestore to.now) }
         requires apart { is_at_or_below to.now from.now ≡ false }
-        requires depth { is_too_deep from.now to.now (tree_at (state self.old).filestore from.now) ≡ false }
+        requires depth { is_tree_too_deep from.now to.now (tree_at (state self.old).filestore from.now) ≡ false }
         ensures ticks { IfOk result (λ ticks. ticks ≡ 0) }
         ensures moved { OnOk result (let tree = tree_at (state self.old).filestore from.now in
-            state self.new ≡ with_changes (state self.old) (vacated tree ++ settled from.now to.now tree)) }
+            state self.new ≡ with_changes (state self.old) (vacating tree ++ settled from.now to.now tree)) }
         ensures err { OnErr result (state self.new ≡ state self.old) }
         ensures thrifty { IsTrue (state self.old).takes_no_memory → IsOk result };
 
@@ -150,15 +150,15 @@ pub trait Filestore: Drop {
     fn append(&mut self, first: &Path, second: &Path) -> Result<u32, Memory>
         requires first { IsTrue (is_file (node_at (state self.old).filestore first.now)) }
         requires second { IsTrue (is_file (node_at (state self.old).filestore second.now)) }
-        requires room { let n = length (octets_at (state self.old).filestore first.now) in
-            let m = length (octets_at (state self.old).filestore second.now) in
+        requires room { let n = length (file_octets_at (state self.old).filestore first.now) in
+            let m = length (file_octets_at (state self.old).filestore second.now) in
             blocks_of (n + m) - blocks_of n ≤ free_blocks (state self.old) }
-        ensures ticks { IfOk result (λ ticks. let n = length (octets_at (state self.old).filestore first.now) in
-            let m = length (octets_at (state self.old).filestore second.now) in
+        ensures ticks { IfOk result (λ ticks. let n = length (file_octets_at (state self.old).filestore first.now) in
+            let m = length (file_octets_at (state self.old).filestore second.now) in
             ticks ≡ (blocks_of (n + m) - blocks_of n) + blocks_of m) }
         ensures appended { OnOk result (let F = (state self.old).filestore in
             state self.new ≡ with_changes (state self.old)
-            (Becomes first.now (Some (File (octets_at F first.now ++ octets_at F second.now))) ∷ [])) }
+            (Becomes first.now (Some (File (file_octets_at F first.now ++ file_octets_at F second.now))) ∷ [])) }
         ensures err { OnErr result (state self.new ≡ state self.old) }
         ensures thrifty { IsTrue (state self.old).takes_no_memory → IsOk result };
 
@@ -167,15 +167,15 @@ pub trait Filestore: Drop {
     fn replace(&mut self, first: &Path, second: &Path) -> Result<u32, Memory>
         requires first { IsTrue (is_file (node_at (state self.old).filestore first.now)) }
         requires second { IsTrue (is_file (node_at (state self.old).filestore second.now)) }
-        requires room { blocks_of (length (octets_at (state self.old).filestore second.now))
-            ≤ free_blocks (state self.old) + blocks_of (length (octets_at (state self.old).filestore first.now)) }
-        ensures ticks { IfOk result (λ ticks. let n = length (octets_at (state self.old).filestore first.now) in
-            let m = length (octets_at (state self.old).filestore second.now) in
+        requires room { blocks_of (length (file_octets_at (state self.old).filestore second.now))
+            ≤ free_blocks (state self.old) + blocks_of (length (file_octets_at (state self.old).filestore first.now)) }
+        ensures ticks { IfOk result (λ ticks. let n = length (file_octets_at (state self.old).filestore first.now) in
+            let m = length (file_octets_at (state self.old).filestore second.now) in
             ticks ≡ (if same_path first.now second.now then 0 else blocks_of n + 2 * blocks_of m)) }
         ensures replaced { OnOk result (let F = (state self.old).filestore in
             state self.new ≡ with_changes (state self.old)
             (if same_path first.now second.now then []
-            else Becomes first.now (Some (File (octets_at F second.now))) ∷ [])) }
+            else Becomes first.now (Some (File (file_octets_at F second.now))) ∷ [])) }
         ensures err { OnErr result (state self.new ≡ state self.old) }
         ensures thrifty { IsTrue (state self.old).takes_no_memory → IsOk result };
 
@@ -214,7 +214,7 @@ pub trait Filestore: Drop {
         requires room { node_at (state self.old).filestore path.now ≡ None → 1 ≤ free_blocks (state self.old) }
         ensures ticks { IfOk result (λ ticks.
             ticks ≡ (if is_none (node_at (state self.old).filestore path.now) then 1
-            else blocks_of (length (octets_at (state self.old).filestore path.now)))) }
+            else blocks_of (length (file_octets_at (state self.old).filestore path.now)))) }
         ensures installed { OnOk result (state self.new ≡ with_changes (state self.old)
             (Stages slot [] ∷ Becomes path.now (Some (File (staged_in (state self.old).filestore slot))) ∷ [])) }
         ensures err { OnErr result (state self.new ≡ state self.old) }

@@ -9,23 +9,23 @@
 mod blocks;
 mod checksums;
 mod content;
+mod entries;
 mod filestore;
 mod kind;
-mod kinds;
 mod list_store;
 mod performed;
 mod protected;
+mod refusals;
 mod request;
 mod rows;
 mod staging;
-mod survey;
 
 pub use blocks::PAYLOAD_OCTETS;
 pub use checksums::entry_checksum;
 pub use filestore::Filestore;
 pub use kind::{Entry, Kind, Standing};
-pub use kinds::{Kinds, refusal};
 pub use list_store::ListStore;
 pub use performed::{Performed, perform, perform_allowed};
 pub use protected::Protected;
+pub use refusals::{Kinds, refusal};
 pub use request::Request;

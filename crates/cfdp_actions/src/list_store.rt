@@ -5,7 +5,7 @@ ghost use Rattle.cfdp_actions.specs.Store.{empty_store};
 
 use crate::blocks::blocks_of;
 use crate::content::{Content, Growth, append, octets_at};
-use crate::{Entry, Filestore, Kind, Standing, staging, survey};
+use crate::{Entry, Filestore, Kind, Standing, entries, staging};
 use cfdp_checksum::modular_checksum;
 use cfdp_paths::{Memory, Path, PathMap};
 use std::alloc::Global;
@@ -33,17 +33,17 @@ pub struct ListStore {
 
 impl Model for ListStore {
     ghost use Rattle.cfdp_actions.specs.Store.{Store};
-    ghost use Rattle.cfdp_actions.specs.Codes.{store_code};
+    ghost use Rattle.cfdp_actions.specs.code.Codes.{store_code};
 
     ghost Value = { Store };
 
     ghost coded = { store_code };
 
-    ghost use Rattle.cfdp_actions.specs.Listed.{store_of, IsKept};
+    ghost use Rattle.cfdp_actions.specs.code.Listed.{listed_store, IsListed};
 
-    ghost view = { λ s. store_of s.entries s.staged.items s.capacity };
+    ghost view = { λ s. listed_store s.entries s.staged.items s.capacity };
 
-    ghost invariant = { λ s. IsKept s.entries s.staged.items s.used s.capacity };
+    ghost invariant = { λ s. IsListed s.entries s.staged.items s.used s.capacity };
 }
 
 impl ListStore {
@@ -113,7 +113,7 @@ impl Filestore for ListStore {
     }
 
     fn deepest(&self, path: &Path) -> u8 {
-        survey::deepest(self.entries.tree(path))
+        entries::deepest(self.entries.tree(path))
     }
 
     fn staged_size(&self, slot: u8) -> u64 {
@@ -139,11 +139,11 @@ impl Filestore for ListStore {
     }
 
     fn listing(&self, alloc: Global) -> Result<Vec<Entry>, Memory> {
-        survey::listing(alloc, self.entries.entries())
+        entries::listing(alloc, self.entries.entries())
     }
 
     fn standing(&self, alloc: Global, path: &Path) -> Result<Vec<Standing>, Memory> {
-        survey::standing(alloc, self.entries.tree(path))
+        entries::standing(alloc, self.entries.tree(path))
     }
 
     fn make_file(&mut self, path: &Path) -> Result<u32, Memory> {
@@ -172,7 +172,7 @@ impl Filestore for ListStore {
         let overwrites = self.entries.has_below(to);
         self.entries.relocate(from, to)?;
         if overwrites {
-            self.used = survey::blocks_in(self.entries.entries(), &self.staged);
+            self.used = entries::blocks_in(self.entries.entries(), &self.staged);
         }
         Ok(0)
     }

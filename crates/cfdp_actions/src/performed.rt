@@ -3,7 +3,7 @@
 ghost use Rattle.std.specs.Prelude.{◌≡◌, ◌+◌, ◌≤◌, IsTrue, IsOk, IfOk, OnOk, OnErr};
 ghost use Rattle.cfdp_actions.specs.Actions.{Performed as Status_of, succeeded, table, ticks};
 ghost use Rattle.cfdp_actions.specs.Store.{free_blocks, with_changes};
-ghost use Rattle.cfdp_actions.specs.Performing.{outcome_of};
+ghost use Rattle.cfdp_actions.specs.Performing.{performed_outcome};
 
 use crate::{Filestore, Protected, Request, refusal, rows};
 use cfdp_paths::Memory;
@@ -31,14 +31,15 @@ pub fn perform<S: Filestore>(
     request: &Request,
 ) -> Result<Performed, Memory>
     ensures status { IfOk result (λ done. Status_of done.status
-        ≡ (outcome_of protected.now (S.state store.old) request.now).answer) }
+        ≡ (performed_outcome protected.now (S.state store.old) request.now).answer) }
     ensures ticks { IfOk result (λ done. done.ticks
-        ≡ ticks (outcome_of protected.now (S.state store.old) request.now)) }
+        ≡ ticks (performed_outcome protected.now (S.state store.old) request.now)) }
     ensures state { OnOk result (S.state store.new
-        ≡ with_changes (S.state store.old) (outcome_of protected.now (S.state store.old) request.now).changes) }
+        ≡ with_changes (S.state store.old) (performed_outcome protected.now (S.state store.old) request.now).changes) }
     ensures err { OnErr result (S.state store.new ≡ S.state store.old) }
     ensures thrifty { IsTrue (S.state store.old).takes_no_memory → IsOk result }
-    ensures lean { OnErr result (IsTrue (succeeded (outcome_of protected.now (S.state store.old) request.now).answer)) }
+    ensures lean { OnErr result
+        (IsTrue (succeeded (performed_outcome protected.now (S.state store.old) request.now).answer)) }
 {
     let action = request.action();
     if protected.bars(request) {

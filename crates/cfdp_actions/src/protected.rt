@@ -30,7 +30,7 @@ pub struct Protected {
 
 impl Model for Protected {
     ghost use Rattle.std.specs.Prelude.{◌≡◌, ℕ, List, length};
-    ghost use Rattle.cfdp_actions.specs.Prefixes.{present};
+    ghost use Rattle.cfdp_actions.specs.code.Prefixes.{present};
 
     ghost Value = { List (List (List ℕ)) };
 

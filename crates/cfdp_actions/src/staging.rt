@@ -2,7 +2,7 @@
 
 ghost use Rattle.std.specs.Prelude.{◌≡◌, ◌+◌, ◌<◌, ◌≤◌, OnOk, OnErr, [], length, vec_len, slice_index_or, slice_set};
 ghost use Rattle.cfdp_actions.specs.Store.{extended, overwritten};
-ghost use Rattle.cfdp_actions.specs.Listed.{octets_of};
+ghost use Rattle.cfdp_actions.specs.Listed.{vector_octets};
 
 use cfdp_paths::Memory;
 use std::alloc::Global;
@@ -11,11 +11,11 @@ use std::mem;
 /// Adds zeros at the end of a list, up to the size.
 pub fn extend(staged: &mut Vec<Vec<u8>>, slot: usize, size: usize) -> Result<(), Memory>
     requires slot { slot < vec_len staged.old }
-    requires longer { length (slice_index_or (octets_of staged.old.items) slot []) ≤ size }
-    ensures ok { OnOk result (octets_of staged.new.items
-        ≡ slice_set (octets_of staged.old.items) slot (extended
-        (slice_index_or (octets_of staged.old.items) slot []) size)) }
-    ensures err { OnErr result (octets_of staged.new.items ≡ octets_of staged.old.items) }
+    requires longer { length (slice_index_or (vector_octets staged.old.items) slot []) ≤ size }
+    ensures ok { OnOk result (vector_octets staged.new.items
+        ≡ slice_set (vector_octets staged.old.items) slot (extended
+        (slice_index_or (vector_octets staged.old.items) slot []) size)) }
+    ensures err { OnErr result (vector_octets staged.new.items ≡ vector_octets staged.old.items) }
     ensures slots { length staged.new.items ≡ length staged.old.items }
 {
     staged[slot].resize(size, 0)?;
@@ -25,10 +25,10 @@ pub fn extend(staged: &mut Vec<Vec<u8>>, slot: usize, size: usize) -> Result<(),
 /// Puts octets in the place of those of a list from offset `at` on.
 pub fn overwrite(staged: &mut Vec<Vec<u8>>, slot: usize, at: usize, octets: &[u8])
     requires slot { slot < vec_len staged.old }
-    requires range { at + length octets.now ≤ length (slice_index_or (octets_of staged.old.items) slot []) }
-    ensures list { octets_of staged.new.items
-        ≡ slice_set (octets_of staged.old.items) slot (overwritten
-        (slice_index_or (octets_of staged.old.items) slot []) at octets.now) }
+    requires range { at + length octets.now ≤ length (slice_index_or (vector_octets staged.old.items) slot []) }
+    ensures list { vector_octets staged.new.items
+        ≡ slice_set (vector_octets staged.old.items) slot (overwritten
+        (slice_index_or (vector_octets staged.old.items) slot []) at octets.now) }
     ensures slots { length staged.new.items ≡ length staged.old.items }
 {
     overwrite_list(staged[slot].as_mut_slice(), at, octets);
@@ -45,8 +45,8 @@ fn overwrite_list(list: &mut [u8], at: usize, octets: &[u8])
 /// Takes a list out of its slot, which is then empty.
 pub fn take_list(staged: &mut Vec<Vec<u8>>, slot: usize, alloc: Global) -> Vec<u8>
     requires { slot < vec_len staged.old }
-    ensures list { result.items ≡ slice_index_or (octets_of staged.old.items) slot [] }
-    ensures emptied { octets_of staged.new.items ≡ slice_set (octets_of staged.old.items) slot [] }
+    ensures list { result.items ≡ slice_index_or (vector_octets staged.old.items) slot [] }
+    ensures emptied { vector_octets staged.new.items ≡ slice_set (vector_octets staged.old.items) slot [] }
     ensures slots { length staged.new.items ≡ length staged.old.items }
 {
     mem::replace(&mut staged[slot], Vec::new(alloc))

@@ -8,18 +8,19 @@ use Rattle.std.proofs.lemmas.List.{get_or-set_same, get_or-set_other, set-set, s
 use Rattle.std.proofs.lemmas.Bool.{cases_eq}
 use Rattle.std.specs.Prelude.{IsSome}
 use Rattle.cfdp_arena.specs.Arena.{Blocks, live_count, octets_at, IsLive, free_count, with_block, without_block}
-use Rattle.cfdp_arena.specs.FreeList.{link, chain, vacated, arena_view, IsAbsent, AreApart, IsSound}
+use Rattle.cfdp_arena.specs.FreeList.{link, vacated}
+use Rattle.cfdp_arena.specs.code.FreeList.{free_chain, arena_view, IsAbsent, AreDistinctBlocks, IsSoundList}
 
-pub chain-set : (blocks : List (List ℕ)) (n first i : ℕ) (block : List ℕ) → IsAbsent i (chain blocks n first) → chain (set blocks i block) n first
-    ≡ chain blocks n first
+pub chain-set : (blocks : List (List ℕ)) (n first i : ℕ) (block : List ℕ) → IsAbsent i (free_chain blocks n first) → free_chain (set blocks i block) n first
+    ≡ free_chain blocks n first
 chain-set blocks zero first i block h = refl
 chain-set blocks (suc n) first i block h =
     let apart : first ≢ i = λ e. h.0 (sym e) in
     let same : get_or (set blocks i block) first [] ≡ get_or blocks first [] = get_or-set_other blocks i first block [] apart in
-    ap (λ next. first ∷ chain (set blocks i block) n (link next)) same ∙ ap (λ rest. first ∷ rest)
+    ap (λ next. first ∷ free_chain (set blocks i block) n (link next)) same ∙ ap (λ rest. first ∷ rest)
     (chain-set blocks n (link (get_or blocks first [])) i block h.1)
 
-pub length-chain : (blocks : List (List ℕ)) (n first : ℕ) → length (chain blocks n first) ≡ n
+pub length-chain : (blocks : List (List ℕ)) (n first : ℕ) → length (free_chain blocks n first) ≡ n
 length-chain blocks zero first = refl
 length-chain blocks (suc n) first = ap suc (length-chain blocks n (link (get_or blocks first [])))
 
@@ -40,7 +41,7 @@ no_live : (entry : Option (List ℕ)) → entry ≡ None → IsSome entry → (A
 no_live (Some x) e s A = cc
 no_live None e s A = cc
 
-pub live_is_absent : (xs : List ℕ) (arena : Blocks) (i : ℕ) → AreApart (length arena) xs → IsLive (vacated xs arena) i → IsAbsent i xs
+pub live_is_absent : (xs : List ℕ) (arena : Blocks) (i : ℕ) → AreDistinctBlocks (length arena) xs → IsLive (vacated xs arena) i → IsAbsent i xs
 live_is_absent [] arena i apart live = tt
 live_is_absent (x ∷ xs) arena i apart live =
     let long : x < length (vacated xs arena) = omega (arith, apart.0, length-vacated xs arena) in
@@ -71,7 +72,7 @@ live_count-vacate (None ∷ bs) zero x e = cc
 live_count-vacate (Some b ∷ bs) (suc i) x e = omega (arith, live_count-vacate bs i x e)
 live_count-vacate (None ∷ bs) (suc i) x e = live_count-vacate bs i x e
 
-pub live_count-vacated : (blocks : List (List ℕ)) (xs : List ℕ) → AreApart (length blocks) xs → live_count (vacated xs (map Some blocks)) + length xs
+pub live_count-vacated : (blocks : List (List ℕ)) (xs : List ℕ) → AreDistinctBlocks (length blocks) xs → live_count (vacated xs (map Some blocks)) + length xs
     ≡ length blocks
 live_count-vacated blocks [] apart = omega (arith, live_count-some blocks)
 live_count-vacated blocks (x ∷ xs) apart =
@@ -86,15 +87,15 @@ live_count-positive (None ∷ bs) zero h = cc
 live_count-positive (None ∷ bs) (suc i) h = live_count-positive bs i h
 
 -- the fields of an arena, and the value that callers see
-module _ {blocks : List (List ℕ)} {free head : ℕ} {value : Blocks} (sound : IsSound blocks free head) (view_is : arena_view blocks free head ≡ value) where
+module _ {blocks : List (List ℕ)} {free head : ℕ} {value : Blocks} (sound : IsSoundList blocks free head) (view_is : arena_view blocks free head ≡ value) where
   pub length-value : length value ≡ length blocks
   unfolding arena_view
-  length-value = ap length (sym view_is) ∙ length-vacated (chain blocks free head) (map Some blocks) ∙ length-map blocks Some
+  length-value = ap length (sym view_is) ∙ length-vacated (free_chain blocks free head) (map Some blocks) ∙ length-map blocks Some
 
   -- as many blocks are live as are not on the chain
   pub live_count-value : live_count value + free ≡ length blocks
   unfolding arena_view
-  live_count-value = omega (arith, ap live_count view_is, live_count-vacated blocks (chain blocks free head) sound.apart, length-chain blocks free head)
+  live_count-value = omega (arith, ap live_count view_is, live_count-vacated blocks (free_chain blocks free head) sound.apart, length-chain blocks free head)
 
   pub free-value : free ≡ free_count value
   free-value = omega (arith, live_count-value, length-value)
@@ -112,27 +113,27 @@ module _ {blocks : List (List ℕ)} {free head : ℕ} {value : Blocks} (sound : 
     room = omega (arith, live_count-value, live_count-positive value block live)
 
     -- is not on the chain
-    pub absent : IsAbsent number (chain blocks free head)
+    pub absent : IsAbsent number (free_chain blocks free head)
     unfolding arena_view
-    absent = live_is_absent (chain blocks free head) (map Some blocks) number
-        (subst (λ n. AreApart n (chain blocks free head)) (sym (length-map blocks Some)) sound.apart) live_here
+    absent = live_is_absent (free_chain blocks free head) (map Some blocks) number
+        (subst (λ n. AreDistinctBlocks n (free_chain blocks free head)) (sym (length-map blocks Some)) sound.apart) live_here
 
     -- holds what is in its place
     pub octets : octets_at value block ≡ Some (get_or blocks number [])
     unfolding arena_view
     octets =
         (λ k. octets_at (sym view_is k) (sym number_is k))
-        ∙ get_or-vacated (chain blocks free head) (map Some blocks) number absent ∙ octets_at-some blocks number within
+        ∙ get_or-vacated (free_chain blocks free head) (map Some blocks) number absent ∙ octets_at-some blocks number within
 
     -- written, it holds what was written
     module _ (octets : List ℕ) where
-      pub written_sound : IsSound (set blocks number octets) free head
+      pub written_sound : IsSoundList (set blocks number octets) free head
       written_sound =
           let same = chain-set blocks free head number octets absent in
           let long = length-set blocks number octets in
           record {
-            apart = subst (λ xs. AreApart (length (set blocks number octets)) xs) (sym same)
-                (subst (λ n. AreApart n (chain blocks free head)) (sym long) sound.apart);
+            apart = subst (λ xs. AreDistinctBlocks (length (set blocks number octets)) xs) (sym same)
+                (subst (λ n. AreDistinctBlocks n (free_chain blocks free head)) (sym long) sound.apart);
             small = omega (arith, long, sound.small);
             fits = sound.fits;
           }
@@ -142,24 +143,25 @@ module _ {blocks : List (List ℕ)} {free head : ℕ} {value : Blocks} (sound : 
       written =
           let same = chain-set blocks free head number octets absent in
           (λ k. vacated (same k) (map-set Some blocks number octets k))
-          ∙ vacated-set (chain blocks free head) (map Some blocks) number (Some octets) absent
+          ∙ vacated-set (free_chain blocks free head) (map Some blocks) number (Some octets) absent
           ∙ (λ k. set (view_is k) (number_is k) (Some octets))
 
     -- given back, it is the first of the chain
     module _ (octets : List ℕ) (linked : link octets ≡ head) where
-      given_chain : chain (set blocks number octets) (suc free) number ≡ number ∷ chain blocks free head
+      given_chain : free_chain (set blocks number octets) (suc free) number ≡ number ∷ free_chain blocks free head
       given_chain =
           let after = set blocks number octets in
           let next : link (get_or after number []) ≡ head = ap link (get_or-set_same blocks number octets [] within) ∙ linked in
-          ap (λ first. number ∷ chain after free first) next ∙ ap (λ xs. number ∷ xs) (chain-set blocks free head number octets absent)
+          ap (λ first. number ∷ free_chain after free first) next ∙ ap (λ xs. number ∷ xs) (chain-set blocks free head number octets absent)
 
-      pub given_sound : {count : ℕ} → count ≡ suc free → IsSound (set blocks number octets) count number
+      pub given_sound : {count : ℕ} → count ≡ suc free → IsSoundList (set blocks number octets) count number
       given_sound {count} more =
           let after = set blocks number octets in
           let long = length-set blocks number octets in
           record {
-            apart = subst (λ n. AreApart (length after) (chain after n number)) (sym more) (subst (λ xs. AreApart (length after) xs) (sym given_chain)
-                (omega (arith, long, within), absent, subst (λ n. AreApart n (chain blocks free head)) (sym long) sound.apart));
+            apart = subst (λ n. AreDistinctBlocks (length after) (free_chain after n number)) (sym more)
+                (subst (λ xs. AreDistinctBlocks (length after) xs) (sym given_chain)
+                (omega (arith, long, within), absent, subst (λ n. AreDistinctBlocks n (free_chain blocks free head)) (sym long) sound.apart));
             small = omega (arith, long, sound.small);
             fits = omega (arith, within, sound.small);
           }
@@ -169,21 +171,21 @@ module _ {blocks : List (List ℕ)} {free head : ℕ} {value : Blocks} (sound : 
       given {count} more =
           ap (λ n. arena_view (set blocks number octets) n number) more
           ∙ (λ k. vacated (given_chain k) (map-set Some blocks number octets k))
-          ∙ ap (λ l. set l number None) (vacated-set (chain blocks free head) (map Some blocks) number (Some octets) absent)
-          ∙ set-set (vacated (chain blocks free head) (map Some blocks)) number (Some octets) None
+          ∙ ap (λ l. set l number None) (vacated-set (free_chain blocks free head) (map Some blocks) number (Some octets) absent)
+          ∙ set-set (vacated (free_chain blocks free head) (map Some blocks)) number (Some octets) None
           ∙ (λ k. set (view_is k) (number_is k) None)
 
   -- the first block of the chain, which leads to the next
   module _ {count next : ℕ} (more : free ≡ suc count) (next_is : next ≡ link (get_or blocks head [])) where
     rest : List ℕ
-    rest = chain blocks count (link (get_or blocks head []))
+    rest = free_chain blocks count (link (get_or blocks head []))
 
-    chain_is : chain blocks free head ≡ head ∷ rest
+    chain_is : free_chain blocks free head ≡ head ∷ rest
     unfolding rest
-    chain_is = ap (λ n. chain blocks n head) more
+    chain_is = ap (λ n. free_chain blocks n head) more
 
-    first_apart : AreApart (length blocks) (head ∷ rest)
-    first_apart = subst (AreApart (length blocks)) chain_is sound.apart
+    first_apart : AreDistinctBlocks (length blocks) (head ∷ rest)
+    first_apart = subst (AreDistinctBlocks (length blocks)) chain_is sound.apart
 
     pub first_within : head < length blocks
     first_within = first_apart.0
@@ -204,15 +206,16 @@ module _ {blocks : List (List ℕ)} {free head : ℕ} {value : Blocks} (sound : 
 
     -- taken, it is live with the octets that it is given
     module _ (octets : List ℕ) where
-      taken_chain : chain (set blocks head octets) count next ≡ rest
+      taken_chain : free_chain (set blocks head octets) count next ≡ rest
       unfolding rest
-      taken_chain = ap (chain (set blocks head octets) count) next_is ∙ chain-set blocks count (link (get_or blocks head [])) head octets first_apart.1
+      taken_chain = ap (free_chain (set blocks head octets) count) next_is ∙ chain-set blocks count (link (get_or blocks head [])) head octets first_apart.1
 
-      pub taken_sound : next < 65536 → IsSound (set blocks head octets) count next
+      pub taken_sound : next < 65536 → IsSoundList (set blocks head octets) count next
       taken_sound fits =
           let long = length-set blocks head octets in
           record {
-            apart = subst (λ xs. AreApart (length (set blocks head octets)) xs) (sym taken_chain) (subst (λ n. AreApart n rest) (sym long) first_apart.2);
+            apart = subst (λ xs. AreDistinctBlocks (length (set blocks head octets)) xs) (sym taken_chain)
+                (subst (λ n. AreDistinctBlocks n rest) (sym long) first_apart.2);
             small = omega (arith, long, sound.small);
             fits = fits;
           }

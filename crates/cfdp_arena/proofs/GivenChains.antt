@@ -8,7 +8,8 @@ use Rattle.std.proofs.lemmas.List.{get_or-set_same, get_or-set_other, set-set, m
 use Rattle.std.specs.Prelude.{All, AllPairs, unwrap_or}
 use Rattle.cfdp_arena.specs.Arena.{Blocks, octets_of, IsLive}
 use Rattle.cfdp_arena.specs.Chain.{chain_in}
-use Rattle.cfdp_arena.specs.FreeList.{link, chain, vacated, arena_view, IsAbsent, AreApart, IsSound}
+use Rattle.cfdp_arena.specs.FreeList.{link, vacated}
+use Rattle.cfdp_arena.specs.code.FreeList.{free_chain, arena_view, IsAbsent, AreDistinctBlocks, IsSoundList}
 use Rattle.cfdp_arena.proofs.Chains.{chain-set, length-chain, vacated-set, live_count-vacated, within, absent, octets}
 
 pub length-chain_in : (arena : Blocks) (n first : ℕ) → length (chain_in arena n first) ≡ n
@@ -38,8 +39,9 @@ rest_once x xs once i j d less within = once (suc i) (suc j) d (omega (arith, le
 pub rest_all : (P : ℕ → Type 0) (x : ℕ) (xs : List ℕ) → All P (x ∷ xs) → All P xs
 rest_all P x xs all k d less = all (suc k) d (omega (arith, less))
 
-apart-append : (capacity : ℕ) (xs ys : List ℕ) → All (λ b. b < capacity) xs → AllPairs (λ a b. a ≢ b) xs → All (λ b. IsAbsent b ys) xs → AreApart capacity ys →
-    AreApart capacity (xs ++ ys)
+apart-append : (capacity : ℕ) (xs ys : List ℕ) → All (λ b. b < capacity) xs → AllPairs (λ a b. a ≢ b) xs → All (λ b. IsAbsent b ys) xs →
+    AreDistinctBlocks capacity ys →
+    AreDistinctBlocks capacity (xs ++ ys)
 apart-append capacity [] ys within once off ys_apart = ys_apart
 apart-append capacity (x ∷ xs) ys within once off ys_apart = (
   within 0 0 (omega arith),
@@ -58,7 +60,7 @@ vacated_over (x ∷ xs) zero b arena entry once less is =
 vacated_over (x ∷ xs) (suc k) b arena entry once less is =
     ap (λ a. set a x None) (vacated_over xs k b arena entry (rest_once x xs once) (omega (arith, less)) is)
 
-module _ {blocks : List (List ℕ)} {free head : ℕ} {value : Blocks} (sound : IsSound blocks free head) (view_is : arena_view blocks free head ≡ value) where
+module _ {blocks : List (List ℕ)} {free head : ℕ} {value : Blocks} (sound : IsSoundList blocks free head) (view_is : arena_view blocks free head ≡ value) where
   -- where the fields' blocks lead is where the value's do
   link_is : (b : ℕ) → IsLive value b → link (get_or blocks b []) ≡ link (octets_of value b)
   link_is b live = ap (λ o. link (unwrap_or o [])) (sym (octets sound view_is refl live))
@@ -67,14 +69,14 @@ module _ {blocks : List (List ℕ)} {free head : ℕ} {value : Blocks} (sound : 
     -- the last block of the chain leads to the old head, and the others to the next one, as before
     all_chain : (n first last : ℕ) → All (IsLive value) (chain_in value (suc n) first) → AllPairs (λ a b. a ≢ b) (chain_in value (suc n) first)
         → last ≡ get_or (chain_in value (suc n) first) n 0
-        → chain (set blocks last written) (suc n + free) first ≡ chain_in value (suc n) first ++ chain blocks free head
+        → free_chain (set blocks last written) (suc n + free) first ≡ chain_in value (suc n) first ++ free_chain blocks free head
     all_chain zero first last live once is =
         let after = set blocks last written in
         let count : 1 + free ≡ suc free = omega arith in
         let here : IsLive value first = live 0 0 (omega arith) in
         let same = ap (λ b. get_or after b []) (sym is) ∙ get_or-set_same blocks last written [] (within sound view_is is here) in
-        ap (λ n. chain after n first) count
-        ∙ ap (λ next. first ∷ chain after free next) (ap link same ∙ linked)
+        ap (λ n. free_chain after n first) count
+        ∙ ap (λ next. first ∷ free_chain after free next) (ap link same ∙ linked)
         ∙ ap (λ rest. first ∷ rest) (chain-set blocks free head last written (absent sound view_is is here))
     all_chain (suc n) first last live once is =
         let after = set blocks last written in
@@ -85,8 +87,8 @@ module _ {blocks : List (List ℕ)} {free head : ℕ} {value : Blocks} (sound : 
         let reach : suc n < length (chain_in value (suc (suc n)) first) = omega (arith, length-chain_in value (suc (suc n)) first) in
         let apart : first ≢ last = λ e. once 0 (suc n) 0 (omega arith) reach (e ∙ is) in
         let same = ap link (get_or-set_other blocks last first written [] apart) ∙ link_is first here in
-        ap (λ n. chain after n first) count
-        ∙ ap (λ b. first ∷ chain after (suc n + free) b) same
+        ap (λ n. free_chain after n first) count
+        ∙ ap (λ b. first ∷ free_chain after (suc n + free) b) same
         ∙ ap (λ xs. first ∷ xs) (all_chain n next last (rest_all (IsLive value) first rest live) (rest_once first rest once) is)
 
   -- the whole chain, of at least one block
@@ -105,39 +107,39 @@ module _ {blocks : List (List ℕ)} {free head : ℕ} {value : Blocks} (sound : 
     pub first_live : IsLive value first
     first_live = subst (λ n. All (IsLive value) (chain_in value n first)) more live 0 0 (omega arith)
 
-    apart_all : AreApart (length blocks) (given ++ chain blocks free head)
+    apart_all : AreDistinctBlocks (length blocks) (given ++ free_chain blocks free head)
     unfolding given
-    apart_all = apart-append (length blocks) given (chain blocks free head)
+    apart_all = apart-append (length blocks) given (free_chain blocks free head)
         (λ k d less. within sound view_is refl (live k d less)) once (λ k d less. absent sound view_is refl (live k d less)) sound.apart
 
     pub all_room : free + count ≤ length blocks
     unfolding given
     all_room = omega (
       arith,
-      live_count-vacated blocks (given ++ chain blocks free head) apart_all,
-      length-append given (chain blocks free head),
+      live_count-vacated blocks (given ++ free_chain blocks free head) apart_all,
+      length-append given (free_chain blocks free head),
       length-chain_in value count first,
       length-chain blocks free head,
     )
 
     module _ {number : ℕ} (number_is : number ≡ last) (written : List ℕ) (linked : link written ≡ head) where
-      chain_is : chain (set blocks number written) (free + count) first ≡ given ++ chain blocks free head
+      chain_is : free_chain (set blocks number written) (free + count) first ≡ given ++ free_chain blocks free head
       unfolding given
       chain_is =
           let sum : free + count ≡ suc (count - 1) + free = omega arith in
           let there : number ≡ get_or (chain_in value (suc (count - 1)) first) (count - 1) 0 = number_is ∙ last_is
           ∙ ap (λ n. get_or (chain_in value n first) (count - 1) 0) more in
-          ap (λ n. chain (set blocks number written) n first) sum
+          ap (λ n. free_chain (set blocks number written) n first) sum
           ∙ all_chain written linked (count - 1) first number (subst (λ n. All (IsLive value) (chain_in value n first)) more live)
           (subst (λ n. AllPairs (λ a b. a ≢ b) (chain_in value n first)) more once) there
-          ∙ ap (λ n. chain_in value n first ++ chain blocks free head) (sym more)
+          ∙ ap (λ n. chain_in value n first ++ free_chain blocks free head) (sym more)
 
-      pub all_given_sound : IsSound (set blocks number written) (free + count) first
+      pub all_given_sound : IsSoundList (set blocks number written) (free + count) first
       all_given_sound =
           let long = length-set blocks number written in
           record {
-            apart = subst (λ xs. AreApart (length (set blocks number written)) xs) (sym chain_is)
-                (subst (λ n. AreApart n (given ++ chain blocks free head)) (sym long) apart_all);
+            apart = subst (λ xs. AreDistinctBlocks (length (set blocks number written)) xs) (sym chain_is)
+                (subst (λ n. AreDistinctBlocks n (given ++ free_chain blocks free head)) (sym long) apart_all);
             small = omega (arith, long, sound.small);
             fits = omega (arith, within sound view_is refl first_live, sound.small);
           }
@@ -145,7 +147,7 @@ module _ {blocks : List (List ℕ)} {free head : ℕ} {value : Blocks} (sound : 
       pub all_given : arena_view (set blocks number written) (free + count) first ≡ vacated (chain_in value count first) value
       unfolding arena_view given
       all_given =
-          let old = chain blocks free head in
+          let old = free_chain blocks free head in
           let reach : count - 1 < length given = omega (arith, length-chain_in value count first) in
           (λ k. vacated (chain_is k) (map-set Some blocks number written k))
           ∙ vacated-append given old (set (map Some blocks) number (Some written))

@@ -24,7 +24,7 @@ use Rattle.std_heap.specs.contracts.Global as HP
 use Rattle.std_heap.specs.contracts.GlobalAllocator.TheImpl.{ghosts}
 use Rattle.std_heap.specs.contracts.GlobalAllocator.allocate as AL
 use Rattle.std_heap.specs.contracts.GlobalAllocator.deallocate as DE
-use Rattle.cfdp_arena.specs.Ownership.{block_type, freeing}
+use Rattle.cfdp_arena.specs.code.Ownership.{block_type, freeing}
 
 abbrev pub region_type : ℕ → Ty
 region_type room = ty_array block_type room

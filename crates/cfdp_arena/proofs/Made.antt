@@ -10,7 +10,8 @@ use Rattle.std.proofs.lemmas.List.{set-append_left, set_at, get_or_past, append_
 use Rattle.std.specs.Prelude.{All, AllPairs, IsSome, unwrap_or}
 use Rattle.cfdp_arena.specs.Arena.{Blocks, live_count, octets_at, octets_of, IsLive, free_count, all_free, with_block, without_block}
 use Rattle.cfdp_arena.specs.Chain.{chain_in}
-use Rattle.cfdp_arena.specs.FreeList.{link, chain, vacated, arena_view, whole_view, AreApart, IsSound, IsArena}
+use Rattle.cfdp_arena.specs.FreeList.{link, vacated}
+use Rattle.cfdp_arena.specs.code.FreeList.{free_chain, arena_view, whole_view, AreDistinctBlocks, IsSoundList, IsArena}
 use Rattle.cfdp_arena.proofs.Chains as list
 use Rattle.cfdp_arena.proofs.GivenChains as given
 
@@ -92,7 +93,7 @@ module _ {blocks : List (List ℕ)} {listed head made capacity room : ℕ} {valu
   live_front block live = subst IsSome (octets_at-value block) live
 
   -- the fields after a change of the blocks that were made
-  kept : (after : List (List ℕ)) {count first : ℕ} → length after ≡ length blocks → IsSound after count first → IsArena after count first made capacity room
+  kept : (after : List (List ℕ)) {count first : ℕ} → length after ≡ length blocks → IsSoundList after count first → IsArena after count first made capacity room
   kept after long sound = record { list = sound; count = omega (arith, long, is.count); within = is.within; all = is.all; some = is.some; most = is.most }
 
   viewed : (after : List (List ℕ)) (count first : ℕ) (new : Blocks) → length after ≡ length blocks
@@ -170,7 +171,7 @@ module _ {blocks : List (List ℕ)} {listed head made capacity room : ℕ} {valu
         let long : length (blocks ++ block ∷ []) ≡ length blocks + 1 = length-append blocks (block ∷ []) in
         record {
           list = record {
-            apart = subst (λ n. AreApart (length (blocks ++ block ∷ [])) (chain (blocks ++ block ∷ []) n head)) (sym empty) tt;
+            apart = subst (λ n. AreDistinctBlocks (length (blocks ++ block ∷ [])) (free_chain (blocks ++ block ∷ []) n head)) (sym empty) tt;
             small = omega (arith, long, is.count, is.most);
             fits = is.list.fits;
           };
@@ -235,7 +236,7 @@ module _ {blocks : List (List ℕ)} (none : blocks ≡ []) where
   pub new_arena : (n room : ℕ) → room ≡ n → 0 < n → n ≤ 65536 → IsArena blocks 0 0 0 n room
   new_arena n room all some most =
       let long : length blocks ≡ 0 = ap length none in
-      let sound : IsSound blocks 0 0 = record { apart = tt; small = omega arith; fits = omega arith } in
+      let sound : IsSoundList blocks 0 0 = record { apart = tt; small = omega arith; fits = omega arith } in
       record { list = sound; count = sym long; within = omega arith; all = sym all; some = some; most = most }
 
   pub new_view : (n : ℕ) → whole_view blocks 0 0 n ≡ all_free n

@@ -26,7 +26,8 @@ use denote.Struct.Laws.{RawPtr-copy}
 use denote.Struct.Struct.{Struct}
 use denote.Struct.Owning.{shape}
 use types.SemTy.{cells}
-use Rattle.cfdp_arena.specs.Ownership.{Block, block_type, blocks_own, rest_own, blocks_lend, region_owns}
+use Rattle.cfdp_arena.specs.Ownership.{Block, blocks_lend}
+use Rattle.cfdp_arena.specs.code.Ownership.{block_type, blocks_own, rest_own, region_owns}
 use Rattle.cfdp_arena.specs.contracts.region.Region as C
 
 abbrev pub Fields : RattleType

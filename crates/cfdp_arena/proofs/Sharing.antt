@@ -19,7 +19,8 @@ use denote.Struct.Field.{array_field, u8-field}
 use denote.Struct.Laws.{array_copy, u8-copy}
 use denote.Struct.Lending.{Lends, Lends-both, Lends-first, Lends-nothing, Lends-said, Lends-false}
 use Rattle.std.proofs.Crossing.{frees}
-use Rattle.cfdp_arena.specs.Ownership.{Block, block_type, blocks_own, blocks_lend, fits, the_heap, region_owns, region_lends}
+use Rattle.cfdp_arena.specs.Ownership.{Block, blocks_lend, fits, region_lends}
+use Rattle.cfdp_arena.specs.code.Ownership.{block_type, blocks_own, the_heap, region_owns}
 
 pub block_shared : Sharable (array_field u8-field 128)
 block_shared = copy_shared (array_field u8-field 128) (array_copy u8-field u8-copy 128)

@@ -4,4 +4,4 @@ pub mod Chain
 pub mod FreeList
 pub mod Lending
 pub mod Ownership
-pub mod Region
+pub mod code

@@ -39,7 +39,7 @@ pub struct Arena {
 
 impl Model for Arena {
     ghost use Rattle.cfdp_arena.specs.Arena.{Blocks};
-    ghost use Rattle.cfdp_arena.specs.FreeList.{whole_view, IsArena};
+    ghost use Rattle.cfdp_arena.specs.code.FreeList.{whole_view, IsArena};
 
     ghost Value = { Blocks };
 

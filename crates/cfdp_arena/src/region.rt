@@ -4,7 +4,8 @@ ghost use Rattle.std.specs.Prelude.{◌≡◌, ◌+◌, ◌*◌, ◌^◌, ◌<�
 ghost use Rattle.std.specs.Prelude.{slice_index_or, slice_set, IfOk};
 ghost use Rattle.std.specs.Borrow.{sem};
 ghost use Rattle.cfdp_arena.specs.Blocks.{blank_block, copied};
-ghost use Rattle.cfdp_arena.specs.Ownership.{region_owns, region_lends};
+ghost use Rattle.cfdp_arena.specs.Ownership.{region_lends};
+ghost use Rattle.cfdp_arena.specs.code.Ownership.{region_owns};
 
 use crate::payload::{copy_between, copy_within};
 use crate::{BLOCK_OCTETS, Block};
@@ -29,7 +30,7 @@ impl Model for Region {
 unsafe impl Send for Region {}
 
 impl Region {
-    ghost use Rattle.cfdp_arena.specs.Region.{LendsBlock, LendsFront};
+    ghost use Rattle.cfdp_arena.specs.code.Region.{LendsBlock, LendsFront};
 
     /// Takes the memory of `room` blocks, and writes none of it.
     pub(crate) fn reserve(alloc: &Global, room: usize) -> Result<Region, AllocError>

@@ -12,8 +12,8 @@ use Rattle.cfdp_verifier.specs.declared.refusal.Place.TheVariants as place
 use Rattle.cfdp_transactions.specs.declared.reply.Reply.{Reply}
 use Rattle.cfdp_transactions.specs.declared.reply.Reply.TheVariants as reply
 use Rattle.cfdp_texts.proofs.Lengths.{IsNarrow, IsNarrowRefusal, reply_line_len, taken_line_len}
-use Rattle.cfdp_c.specs.Calls.{named}
-use Rattle.cfdp_c.specs.Shown.{HasWidths, small, status_in, failure_in, refusals, refusal_in, replies, reply_in, shown, answer_lines, answer_line, longest_line}
+use Rattle.cfdp_c.specs.Calls.{transaction_named}
+use Rattle.cfdp_c.specs.Shown.{HasWidths, small, status_numbered, failure_in, refusals, refusal_in, reply_table, reply_in, reply_shown, answer_lines, answer_line, longest_line}
 use Rattle.cfdp_c.specs.declared.reply.ReplyFields.{ReplyFields}
 
 -- options ----------------------------------------------------------------------------
@@ -50,10 +50,10 @@ any (Some x) = tt
 module _ (fields : ReplyFields) (w : HasWidths fields) where
   failure_holds : IfSome (failure_in fields) IsNarrowRefusal
   failure_holds =
-      chained (λ octet. octet < 256) IsNarrowRefusal (λ request. option_map (λ status. refusal.WouldFail request status) (status_in fields.status))
+      chained (λ octet. octet < 256) IsNarrowRefusal (λ request. option_map (λ status. refusal.WouldFail request status) (status_numbered fields.status))
       (small fields.request)
-      (λ request narrow. mapped (λ _. Unit {0}) IsNarrowRefusal (λ status. refusal.WouldFail request status) (status_in fields.status) (λ _ _. narrow)
-      (any (status_in fields.status))) (small_holds fields.request)
+      (λ request narrow. mapped (λ _. Unit {0}) IsNarrowRefusal (λ status. refusal.WouldFail request status) (status_numbered fields.status) (λ _ _. narrow)
+      (any (status_numbered fields.status))) (small_holds fields.request)
 
   refusal_holds : IfSome (refusal_in fields) IsNarrowRefusal
   refusal_holds =
@@ -68,15 +68,15 @@ module _ (fields : ReplyFields) (w : HasWidths fields) where
       let refused = mapped IsNarrowRefusal IsNarrow (λ why. reply.Refused why) (refusal_in fields) (λ _ narrow. narrow) refusal_holds in
       let faulted = mapped (λ octet. octet < 256) IsNarrow (λ condition. reply.Faulted condition) (small fields.condition) (λ _ narrow. narrow)
       (small_holds fields.condition) in
-      let performed = mapped (λ _. Unit {0}) IsNarrow (λ status. reply.Performed status) (status_in fields.status) (λ _ _. tt)
-      (any (status_in fields.status)) in
-      flattened IsNarrow (beside (replies fields) fields.kind)
-      (told_beside (λ (o : Option Reply). IfSome o IsNarrow) (replies fields) fields.kind
+      let performed = mapped (λ _. Unit {0}) IsNarrow (λ status. reply.Performed status) (status_numbered fields.status) (λ _ _. tt)
+      (any (status_numbered fields.status)) in
+      flattened IsNarrow (beside (reply_table fields) fields.kind)
+      (told_beside (λ (o : Option Reply). IfSome o IsNarrow) (reply_table fields) fields.kind
       ((w.blocks, w.steps), (refused, (tt, (tt, (tt, (tt, (faulted, (performed, (tt, (tt, (tt, (tt, (tt, (tt, (tt, (tt, tt)))))))))))))))))
 
-  pub shown_len : (octets : List ℕ) → IfSome (shown fields octets) (λ line. length line ≤ longest_line (length octets))
+  pub shown_len : (octets : List ℕ) → IfSome (reply_shown fields octets) (λ line. length line ≤ longest_line (length octets))
   shown_len octets =
-      let id = named fields.source fields.number in
+      let id = transaction_named fields.source fields.number in
       let fits : List ℕ → Type 0 = λ line. length line ≤ longest_line (length octets) in
       cond_both (fields.kind == 12) _ _ (λ (o : Option (List ℕ)). IfSome o fits)
       (λ _. taken_line_len id octets fields.condition w.source w.number w.condition)

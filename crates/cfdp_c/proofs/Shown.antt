@@ -8,12 +8,12 @@ use Rattle.cfdp_status.specs.declared.status.Status.TheVariants.{Successful, Not
 use Rattle.cfdp_verifier.specs.declared.refusal.Place.TheVariants as place
 use Rattle.cfdp_verifier.specs.declared.refusal.Refusal.TheVariants as refusal
 use Rattle.cfdp_transactions.specs.declared.reply.Reply.TheVariants as reply
-use Rattle.cfdp_c.specs.Shown.{small, status_in, ShownAsReplayed}
+use Rattle.cfdp_c.specs.Shown.{small, status_numbered, ShownAsReplayed}
 
 small_is : (n : ℕ) → n < 256 → small n ≡ Some n
 small_is n less = rw (lt-ltb n 256 less) refl
 
-status_back : (status : Status) → status_in (octet_of status) ≡ Some status
+status_back : (status : Status) → status_numbered (octet_of status) ≡ Some status
 status_back (Successful CreateFile) = refl
 status_back (Successful DeleteFile) = refl
 status_back (Successful RenameFile) = refl

@@ -9,8 +9,8 @@ use Rattle.cfdp_actions.specs.Filestore.{Node, Directory, File, octets_in}
 use Rattle.cfdp_actions.specs.declared.kind.Kind.TheVariants as kind
 use Rattle.cfdp_tree.specs.declared.listing.Found.{Found}
 use Rattle.cfdp_tree.specs.Found.{found_of, octets_read, with_octets}
-use Rattle.cfdp_tree.proofs.CopiedLaws.{none_copied}
-use Rattle.cfdp_c.specs.Answers.{code_of}
+use Rattle.cfdp_tree.proofs.OfRuns.CopiedLaws.{none_copied}
+use Rattle.cfdp_c.specs.Answers.{answer_code}
 use Rattle.cfdp_c.specs.declared.answer.Answer.TheVariants.{Done, Nothing}
 use Rattle.cfdp_c.specs.Stored.{CopiesFile, node_fields}
 
@@ -30,13 +30,13 @@ directory_told (Some (File octets)) found told is = absurd (no_file (sym is ∙ 
 
 pub copied : (node : Option Node) (at count before : ℕ) (out written : List ℕ) → Some count ≡ octets_read node at out → written
     ≡ with_octets (octets_in node) at out
-    → CopiesFile node at out written before count (code_of Done)
+    → CopiesFile node at out written before count (answer_code Done)
 copied None at count before out written counted octets = absurd (none-some count (sym counted))
 copied (Some Directory) at count before out written counted octets = absurd (none-some count (sym counted))
 copied (Some (File file)) at count before out written counted octets = ((same_Some _ _ counted, octets), refl)
 
 pub not_copied : (node : Option Node) (at before : ℕ) (out written : List ℕ) → None ≡ octets_read node at out → written ≡ with_octets (octets_in node) at out
-    → CopiesFile node at out written before before (code_of Nothing)
+    → CopiesFile node at out written before before (answer_code Nothing)
 not_copied None at before out written counted octets = (octets ∙ none_copied at out, refl, refl)
 not_copied (Some Directory) at before out written counted octets = (octets ∙ none_copied at out, refl, refl)
 not_copied (Some (File file)) at before out written counted octets = absurd (none-some _ counted)

@@ -8,7 +8,8 @@ use Rattle.cfdp_actions.specs.declared.kind.Kind.{Kind}
 use Rattle.cfdp_checksum.specs.Checksum.{checksum, weighed_from}
 use Rattle.cfdp_tree.specs.Next.{IsNextEntry}
 use Rattle.cfdp_tree.specs.declared.next.NextEntry.{NextEntry}
-use Rattle.cfdp_c.specs.Next.{StandsNext, kind_number, spelled_fields}
+use Rattle.cfdp_c.specs.Next.{StandsNext, spelled_fields}
+use Rattle.cfdp_c.specs.code.Next.{kind_number}
 use Rattle.cfdp_c.specs.Stored.{node_fields}
 use Rattle.cfdp_c.specs.declared.fields.EntryFields.{EntryFields}
 use Rattle.cfdp_c.specs.declared.fields.PathFields.{PathFields}

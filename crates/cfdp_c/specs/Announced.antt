@@ -9,7 +9,7 @@ use Rattle.cfdp_status.specs.declared.transaction.TransactionId.{TransactionId}
 use Rattle.cfdp_pdus.specs.Values.{MetadataFields}
 use Rattle.cfdp_transactions.specs.Engine.{read_of}
 use Rattle.cfdp_transactions.specs.World.{World}
-use Rattle.cfdp_c.specs.Answers.{code_of}
+use Rattle.cfdp_c.specs.Answers.{answer_code}
 use Rattle.cfdp_c.specs.Shown.{PutsAny}
 use Rattle.cfdp_c.specs.declared.answer.Answer.TheVariants.{NoEngine}
 use Rattle.cfdp_c.specs.declared.fields.MetadataNumbers.{MetadataNumbers}
@@ -21,5 +21,5 @@ abbrev pub metadata_numbers : MetadataFields → MetadataNumbers
 metadata_numbers m = record { size = m.size; closure = if m.closure then 1 else 0; checksum_type = m.checksum_type }
 
 abbrev pub WritesName : (World → Option (List ℕ)) → Option World → List ℕ → List ℕ → ℕ → ℕ → ℕ → Type 0
-WritesName f None out written before count answer = (written ≡ out) × (count ≡ before) × (answer ≡ code_of NoEngine)
+WritesName f None out written before count answer = (written ≡ out) × (count ≡ before) × (answer ≡ answer_code NoEngine)
 WritesName f (Some W) out written before count answer = PutsAny (f W) out written before count answer

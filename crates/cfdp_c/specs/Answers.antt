@@ -1,5 +1,5 @@
 -- What calls from C return.
---   code_of answer      the number of an answer
+--   answer_code answer  the number of an answer
 --   config_answer       what is returned for a number of the configuration outside its limits
 --   put_answer          what is returned for a reason for which nothing is put into the filestore
 --   fault_answer        what is returned for octets that are no PDU;  unheard_answer: of any that got no reply
@@ -15,36 +15,36 @@ use Rattle.cfdp_entity.specs.declared.fault.NotHeard.TheVariants as unheard
 use Rattle.cfdp_c.specs.declared.answer.Answer.{Answer}
 use Rattle.cfdp_c.specs.declared.answer.Answer.TheVariants as answer
 
-abbrev pub code_of : Answer → ℕ
-code_of answer.Done = 0
-code_of answer.NoEngine = 1
-code_of answer.HasEngine = 2
-code_of answer.Memory = 3
-code_of answer.TooShort = 4
-code_of answer.Nothing = 5
-code_of answer.BadBlocks = 16
-code_of answer.BadCap = 17
-code_of answer.BadChecks = 18
-code_of answer.BadPath = 6
-code_of answer.HasTransactions = 7
-code_of answer.Exists = 8
-code_of answer.NoParent = 9
-code_of answer.FilestoreFull = 10
-code_of answer.TooManyPrefixes = 20
-code_of answer.BadHandler = 21
-code_of answer.BadNakMode = 22
-code_of answer.BadInterval = 23
-code_of answer.BadLimit = 24
-code_of answer.BadLongestNak = 25
-code_of answer.NotOurs = 32
-code_of answer.Truncated = 33
-code_of answer.BadVersion = 34
-code_of answer.CrcNotSupported = 35
-code_of answer.LengthMismatch = 36
-code_of answer.BadDirective = 37
-code_of answer.BadTlv = 38
-code_of answer.RequestTooLong = 39
-code_of answer.BadCrc = 40
+abbrev pub answer_code : Answer → ℕ
+answer_code answer.Done = 0
+answer_code answer.NoEngine = 1
+answer_code answer.HasEngine = 2
+answer_code answer.Memory = 3
+answer_code answer.TooShort = 4
+answer_code answer.Nothing = 5
+answer_code answer.BadBlocks = 16
+answer_code answer.BadCap = 17
+answer_code answer.BadChecks = 18
+answer_code answer.BadPath = 6
+answer_code answer.HasTransactions = 7
+answer_code answer.Exists = 8
+answer_code answer.NoParent = 9
+answer_code answer.FilestoreFull = 10
+answer_code answer.TooManyPrefixes = 20
+answer_code answer.BadHandler = 21
+answer_code answer.BadNakMode = 22
+answer_code answer.BadInterval = 23
+answer_code answer.BadLimit = 24
+answer_code answer.BadLongestNak = 25
+answer_code answer.NotOurs = 32
+answer_code answer.Truncated = 33
+answer_code answer.BadVersion = 34
+answer_code answer.CrcNotSupported = 35
+answer_code answer.LengthMismatch = 36
+answer_code answer.BadDirective = 37
+answer_code answer.BadTlv = 38
+answer_code answer.RequestTooLong = 39
+answer_code answer.BadCrc = 40
 
 -- a journal is no part of the engine
 abbrev pub config_answer : ConfigFault → Answer

@@ -1,4 +1,3 @@
-pub mod Ownership
 pub mod Answers
 pub mod Told
 pub mod Making
@@ -12,4 +11,4 @@ pub mod Puts
 pub mod Mibs
 pub mod Reports
 pub mod Receiving
-pub mod ReceiverOwnership
+pub mod code

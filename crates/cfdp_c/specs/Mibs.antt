@@ -12,7 +12,7 @@ use Rattle.cfdp_receiver.specs.declared.mib.MibFault.{MibFault}
 use Rattle.cfdp_receiver.specs.declared.mib.MibFault.TheVariants as fault
 use Rattle.cfdp_receiver.specs.declared.mib.NakMode.{NakMode}
 use Rattle.cfdp_receiver.specs.declared.mib.NakMode.TheVariants.{Deferred, Immediate}
-use Rattle.cfdp_receiver.specs.Machine.{first_fault}
+use Rattle.cfdp_receiver.specs.Machine.{mib_fault}
 use Rattle.cfdp_transactions.specs.Entry.{Entry}
 use Rattle.cfdp_transactions.specs.World.{World}
 use Rattle.cfdp_c.specs.declared.answer.Answer.{Answer}
@@ -34,8 +34,8 @@ abbrev pub on_ok : {X Y : Type 0} → Result X Answer → (X → Result Y Answer
 on_ok (Ok x) next = next x
 on_ok (Err answer) next = Err answer
 
-abbrev pub numbers_of : MibFields → Handler → Handler → Handler → Handler → NakMode → Mib
-numbers_of fields ack nak check inactivity nak_mode = record {
+abbrev pub mib_of_fields : MibFields → Handler → Handler → Handler → Handler → NakMode → Mib
+mib_of_fields fields ack nak check inactivity nak_mode = record {
   ack = record { interval = fields.ack_interval; limit = fields.ack_limit; at_limit = ack };
   nak = record { interval = fields.nak_interval; limit = fields.nak_limit; at_limit = nak };
   check = record { interval = fields.check_interval; at_limit = check };
@@ -57,7 +57,7 @@ mib_in fields =
     on_ok (handler_in fields.check_handler) (λ check.
     on_ok (handler_in fields.inactivity_handler) (λ inactivity.
     on_ok (nak_mode_in fields.nak_mode) (λ nak_mode. sized fields
-    (numbers_of fields ack nak check inactivity nak_mode))))))
+    (mib_of_fields fields ack nak check inactivity nak_mode))))))
 
 abbrev pub mib_answer : MibFault → Answer
 mib_answer fault.Interval = BadInterval
@@ -74,4 +74,4 @@ without_entries mib (entry ∷ entries) = Err HasTransactions
 
 abbrev pub opened : MibFields → World → Result Mib Answer
 opened fields W =
-    on_ok (mib_in fields) (λ mib. on_ok (without_fault mib (first_fault mib)) (λ mib. without_entries mib W.table))
+    on_ok (mib_in fields) (λ mib. on_ok (without_fault mib (mib_fault mib)) (λ mib. without_entries mib W.table))

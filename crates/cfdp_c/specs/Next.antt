@@ -1,20 +1,17 @@
 -- What is next in the filestore after a path, as C gets it.
 --   spelled_fields octets     octets that spell a path as a struct: zeros are after them;  path_fields: of a path
---   kind_number               the number of a kind
 --   cursor_in fields          the path that a struct spells, and the root where it has no octets
 --   StandsNext F p path entry the path that is next, and what is there, are reported
---   GoesOn F p old new answer likewise;  or nothing comes next, and both structs are as before
+--   NextOrNone F p old new answer likewise;  or nothing comes next, and both structs are as before
 --   GoesOnFrom cursor         likewise of the path that is spelled;  or none is
 --   TellsNext handle          likewise of an engine's filestore;  or there is no engine
 use Rattle.std.specs.Prelude.{◌≡◌, ◌⊎◌, ◌==◌, ℕ, List, [], ◌++◌, drop, length, replicate, if◌then◌else◌, Option, Some, None}
 use Rattle.cfdp_paths.specs.Paths.{Path, joined}
 use Rattle.cfdp_actions.specs.Filestore.{Filestore, Node, node_at}
-use Rattle.cfdp_actions.specs.declared.kind.Kind.{Kind}
-use Rattle.cfdp_actions.specs.declared.kind.Kind.TheVariants as kind
 use Rattle.cfdp_tree.specs.Next.{IsNext, IsLast}
 use Rattle.cfdp_transactions.specs.World.{World}
-use Rattle.cfdp_c.specs.Answers.{code_of}
-use Rattle.cfdp_c.specs.Making.{path_in}
+use Rattle.cfdp_c.specs.Answers.{answer_code}
+use Rattle.cfdp_c.specs.Making.{path_in_fields}
 use Rattle.cfdp_c.specs.Stored.{node_fields}
 use Rattle.cfdp_c.specs.declared.answer.Answer.TheVariants.{Done, NoEngine, Nothing, BadPath}
 use Rattle.cfdp_c.specs.declared.fields.EntryFields.{EntryFields}
@@ -26,12 +23,8 @@ spelled_fields octets = record { length = length octets; octets = octets ++ drop
 abbrev pub path_fields : Path → PathFields
 path_fields path = spelled_fields (joined path)
 
-abbrev pub kind_number : Kind → ℕ
-kind_number kind.File = 1
-kind_number kind.Directory = 2
-
 abbrev pub cursor_in : PathFields → Option Path
-cursor_in fields = if fields.length == 0 then Some [] else path_in fields
+cursor_in fields = if fields.length == 0 then Some [] else path_in_fields fields
 
 pub record StandsNext (F : Filestore) (p : Path) (path : PathFields) (entry : EntryFields) : Type 0 where
   pub next : Path
@@ -41,15 +34,15 @@ pub record StandsNext (F : Filestore) (p : Path) (path : PathFields) (entry : En
   pub path_is : path ≡ path_fields next
   pub entry_is : entry ≡ node_fields node
 
-abbrev pub GoesOn : Filestore → Path → PathFields → PathFields → EntryFields → EntryFields → ℕ → Type 0
-GoesOn F p before path old entry answer =
-    (StandsNext F p path entry × (answer ≡ code_of Done))
-    ⊎ (IsLast F p × (path ≡ before) × (entry ≡ old) × (answer ≡ code_of Nothing))
+abbrev pub NextOrNone : Filestore → Path → PathFields → PathFields → EntryFields → EntryFields → ℕ → Type 0
+NextOrNone F p before path old entry answer =
+    (StandsNext F p path entry × (answer ≡ answer_code Done))
+    ⊎ (IsLast F p × (path ≡ before) × (entry ≡ old) × (answer ≡ answer_code Nothing))
 
 abbrev pub GoesOnFrom : Option Path → Filestore → PathFields → PathFields → EntryFields → EntryFields → ℕ → Type 0
-GoesOnFrom None F before path old entry answer = (path ≡ before) × (entry ≡ old) × (answer ≡ code_of BadPath)
-GoesOnFrom (Some p) F before path old entry answer = GoesOn F p before path old entry answer
+GoesOnFrom None F before path old entry answer = (path ≡ before) × (entry ≡ old) × (answer ≡ answer_code BadPath)
+GoesOnFrom (Some p) F before path old entry answer = NextOrNone F p before path old entry answer
 
 abbrev pub TellsNext : PathFields → Option World → PathFields → EntryFields → EntryFields → ℕ → Type 0
-TellsNext before None path old entry answer = (path ≡ before) × (entry ≡ old) × (answer ≡ code_of NoEngine)
+TellsNext before None path old entry answer = (path ≡ before) × (entry ≡ old) × (answer ≡ answer_code NoEngine)
 TellsNext before (Some W) path old entry answer = GoesOnFrom (cursor_in before) W.filestore before path old entry answer

@@ -9,8 +9,8 @@ use Rattle.cfdp_actions.specs.Filestore.{Node, Directory, File}
 use Rattle.cfdp_transactions.specs.Beginning.{with_node, put_fault}
 use Rattle.cfdp_transactions.specs.declared.putting.NotPut.{NotPut}
 use Rattle.cfdp_transactions.specs.World.{World}
-use Rattle.cfdp_c.specs.Answers.{code_of, put_answer}
-use Rattle.cfdp_c.specs.Making.{path_in}
+use Rattle.cfdp_c.specs.Answers.{answer_code, put_answer}
+use Rattle.cfdp_c.specs.Making.{path_in_fields}
 use Rattle.cfdp_c.specs.declared.answer.Answer.TheVariants as answer
 use Rattle.cfdp_c.specs.declared.fields.PathFields.{PathFields}
 
@@ -18,22 +18,22 @@ abbrev pub node_in : ℕ → List ℕ → Option Node
 node_in kind octets = if kind == 1 then Some (File octets) else if kind == 2 then Some Directory else None
 
 abbrev pub PutsBy : Option NotPut → World → Path → Node → World → ℕ → Type 0
-PutsBy None W p node after code = (after ≡ with_node W p node) × (code ≡ code_of answer.Done)
-PutsBy (Some reason) W p node after code = (after ≡ W) × (code ≡ code_of (put_answer reason))
+PutsBy None W p node after code = (after ≡ with_node W p node) × (code ≡ answer_code answer.Done)
+PutsBy (Some reason) W p node after code = (after ≡ W) × (code ≡ answer_code (put_answer reason))
 
 abbrev pub PutsNode : Option Node → World → Path → World → ℕ → Type 0
-PutsNode None W p after code = (after ≡ W) × (code ≡ code_of answer.Nothing)
+PutsNode None W p after code = (after ≡ W) × (code ≡ answer_code answer.Nothing)
 PutsNode (Some node) W p after code = PutsBy (put_fault W p node) W p node after code
 
 abbrev pub PutsPath : Option Path → Option Node → World → World → ℕ → Type 0
-PutsPath None what W after code = (after ≡ W) × (code ≡ code_of answer.BadPath)
+PutsPath None what W after code = (after ≡ W) × (code ≡ answer_code answer.BadPath)
 PutsPath (Some p) what W after code = PutsNode what W p after code
 
 abbrev pub PutsIn : PathFields → Option Node → World → Option World → ℕ → Type 0
 PutsIn path what W None code = ⊥
-PutsIn path what W (Some after) code = PutsPath (path_in path) what W after code
-    ⊎ ((after ≡ W) × (code ≡ code_of answer.Memory))
+PutsIn path what W (Some after) code = PutsPath (path_in_fields path) what W after code
+    ⊎ ((after ≡ W) × (code ≡ answer_code answer.Memory))
 
 abbrev pub Puts : PathFields → Option Node → Option World → Option World → ℕ → Type 0
-Puts path what None after code = (after ≡ None) × (code ≡ code_of answer.NoEngine)
+Puts path what None after code = (after ≡ None) × (code ≡ answer_code answer.NoEngine)
 Puts path what (Some W) after code = PutsIn path what W after code

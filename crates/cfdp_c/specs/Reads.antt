@@ -7,8 +7,8 @@ use Rattle.std.specs.Prelude.{◌≡◌, ℕ, List, slice_get, Option, Some, Non
 use Rattle.cfdp_status.specs.declared.transaction.TransactionId.{TransactionId}
 use Rattle.cfdp_transactions.specs.declared.phase.Phase.{Phase}
 use Rattle.cfdp_transactions.specs.declared.phase.Phase.TheVariants as phase
-use Rattle.cfdp_transactions.specs.World.{World, free, spare}
-use Rattle.cfdp_c.specs.Answers.{code_of}
+use Rattle.cfdp_transactions.specs.World.{World, free, spare_blocks}
+use Rattle.cfdp_c.specs.Answers.{answer_code}
 use Rattle.cfdp_c.specs.declared.answer.Answer.TheVariants.{Done, NoEngine, Nothing}
 use Rattle.cfdp_c.specs.declared.fields.BlocksFields.{BlocksFields}
 use Rattle.cfdp_c.specs.declared.fields.GapFields.{GapFields}
@@ -17,11 +17,11 @@ use Rattle.cfdp_c.specs.declared.fields.NameFields.{NameFields}
 use Rattle.cfdp_c.specs.declared.fields.PhaseFields.{PhaseFields}
 
 abbrev pub Found : {X : Type 0} → Option X → X → X → ℕ → Type 0
-Found None old new answer = (new ≡ old) × (answer ≡ code_of Nothing)
-Found (Some x) old new answer = (new ≡ x) × (answer ≡ code_of Done)
+Found None old new answer = (new ≡ old) × (answer ≡ answer_code Nothing)
+Found (Some x) old new answer = (new ≡ x) × (answer ≡ answer_code Done)
 
 abbrev pub Reads : {X : Type 0} → (World → Option X) → Option World → X → X → ℕ → Type 0
-Reads f None old new answer = (new ≡ old) × (answer ≡ code_of NoEngine)
+Reads f None old new answer = (new ≡ old) × (answer ≡ answer_code NoEngine)
 Reads f (Some W) old new answer = Found (f W) old new answer
 
 abbrev pub name_fields : TransactionId → NameFields
@@ -46,4 +46,4 @@ gap_of None place = None
 gap_of (Some all) place = slice_get all place
 
 abbrev pub blocks_fields : World → Option BlocksFields
-blocks_fields W = Some (record { free = free W; spare = spare W })
+blocks_fields W = Some (record { free = free W; spare = spare_blocks W })

@@ -5,7 +5,7 @@
 --   ReceiverDoes input            an input that is no PDU: likewise, or there is no receiver
 --   dropped_answer                what is returned for octets that were dropped
 --   ReceiverReceives now octets   octets that came: likewise, or why they were dropped, with all as before
---   Finishes now                  an outcome is taken;  or one is there, and there is no memory for it
+--   TakesFinished now             an outcome is taken;  or one is there, and there is no memory for it
 --   TellsDeadline                 the moment from which on a timer is due, if one runs
 --   WritesPdu number              the PDU with this number of the last answer is written
 --   ReceiverOpens fields          a receiver is made over the engine of another handle
@@ -23,7 +23,7 @@ use Rattle.cfdp_receiver.specs.Sent.{as_sent, crc_len, longest_sealed}
 use Rattle.cfdp_receiver.specs.State.{Input, State, Finish, begin}
 use Rattle.cfdp_reception.specs.Reception.{ReceptionFields, Turned, Hears, pdus_in}
 use Rattle.cfdp_transactions.specs.World.{World}
-use Rattle.cfdp_c.specs.Answers.{code_of, fault_answer}
+use Rattle.cfdp_c.specs.Answers.{answer_code, fault_answer}
 use Rattle.cfdp_c.specs.Mibs.{opened}
 use Rattle.cfdp_c.specs.Reads.{Found}
 use Rattle.cfdp_c.specs.Reports.{report_of}
@@ -41,8 +41,8 @@ Reports S input (Some T) report = Turned S T input × (report ≡ report_of T)
 
 abbrev pub ReceiverDoes : Input → Option ReceptionFields → Option ReceptionFields → ReportFields → ReportFields → ℕ →
     Type 0
-ReceiverDoes input None after old new answer = (after ≡ None) × (new ≡ old) × (answer ≡ code_of NoEngine)
-ReceiverDoes input (Some S) after old new answer = Reports S input after new × (answer ≡ code_of Done)
+ReceiverDoes input None after old new answer = (after ≡ None) × (new ≡ old) × (answer ≡ answer_code NoEngine)
+ReceiverDoes input (Some S) after old new answer = Reports S input after new × (answer ≡ answer_code Done)
 
 -- nothing changed
 abbrev pub ReceiverStays : ReceptionFields → Option ReceptionFields → ReportFields → ReportFields → Type 0
@@ -60,23 +60,24 @@ dropped_answer (dropped.Crc crc.BadCrc) = BadCrc
 dropped_answer (dropped.Pdu fault) = fault_answer fault
 
 abbrev pub Drops : ℕ → List ℕ → ℕ → Type 0
-Drops now octets answer = (why : Dropped) × IsDropped now octets why × (answer ≡ code_of (dropped_answer why))
+Drops now octets answer = (why : Dropped) × IsDropped now octets why × (answer ≡ answer_code (dropped_answer why))
 
 abbrev pub ReceiverReceives : ℕ → List ℕ → Option ReceptionFields → Option ReceptionFields → ReportFields →
     ReportFields → ℕ → Type 0
-ReceiverReceives now octets None after old new answer = (after ≡ None) × (new ≡ old) × (answer ≡ code_of NoEngine)
+ReceiverReceives now octets None after old new answer = (after ≡ None) × (new ≡ old) × (answer ≡ answer_code NoEngine)
 ReceiverReceives now octets (Some S) after old new answer =
-    (ReportsHeard now octets S after new × (answer ≡ code_of Done))
+    (ReportsHeard now octets S after new × (answer ≡ answer_code Done))
     ⊎ (Drops now octets answer × ReceiverStays S after old new)
 
 abbrev pub HasOutcome : ReceptionFields → Type 0
 HasOutcome S = first_over S.machine.state.world S.machine.state.sessions ≢ None
 
-abbrev pub Finishes : ℕ → Option ReceptionFields → Option ReceptionFields → ReportFields → ReportFields → ℕ → Type 0
-Finishes now None after old new answer = (after ≡ None) × (new ≡ old) × (answer ≡ code_of NoEngine)
-Finishes now (Some S) after old new answer =
-    (Reports S (Finish now) after new × (answer ≡ code_of Done))
-    ⊎ (HasOutcome S × ReceiverStays S after old new × (answer ≡ code_of Memory))
+abbrev pub TakesFinished : ℕ → Option ReceptionFields → Option ReceptionFields → ReportFields → ReportFields → ℕ →
+    Type 0
+TakesFinished now None after old new answer = (after ≡ None) × (new ≡ old) × (answer ≡ answer_code NoEngine)
+TakesFinished now (Some S) after old new answer =
+    (Reports S (Finish now) after new × (answer ≡ answer_code Done))
+    ⊎ (HasOutcome S × ReceiverStays S after old new × (answer ≡ answer_code Memory))
 
 -- from this moment on a timer is due, and not before; or none ever is
 abbrev pub IsDeadline : State → Option ℕ → Type 0
@@ -84,7 +85,7 @@ IsDeadline R moment = (now : ℕ) → now < 2 ^ 64 → has_come moment now
     ≡ is_any_due (first_due (record R { now = now }) R.sessions)
 
 abbrev pub TellsDeadline : Option ReceptionFields → ℕ → ℕ → ℕ → Type 0
-TellsDeadline None old new answer = (new ≡ old) × (answer ≡ code_of NoEngine)
+TellsDeadline None old new answer = (new ≡ old) × (answer ≡ answer_code NoEngine)
 TellsDeadline (Some S) old new answer = (moment : Option ℕ) × IsDeadline S.machine.state moment
     × Found moment old new answer
 
@@ -97,16 +98,17 @@ abbrev pub IsUnwritten : List ℕ → List ℕ → ℕ → ℕ → Type 0
 IsUnwritten out written before count = (written ≡ out) × (count ≡ before)
 
 abbrev pub WritesSent : Mib → Option (List ℕ) → List ℕ → List ℕ → ℕ → ℕ → ℕ → Type 0
-WritesSent mib None out written before count answer = IsUnwritten out written before count × (answer ≡ code_of Nothing)
+WritesSent mib None out written before count answer = IsUnwritten out written before count ×
+    (answer ≡ answer_code Nothing)
 WritesSent mib (Some octets) out written before count answer =
-    (IsAfter (as_sent mib octets) out written count × (answer ≡ code_of Done))
+    (IsAfter (as_sent mib octets) out written count × (answer ≡ answer_code Done))
     ⊎ ((length out < length octets + crc_len mib) × (length out < max longest_sealed mib.longest_nak)
     × IsUnwritten out written before count
-    × (answer ≡ code_of TooShort))
+    × (answer ≡ answer_code TooShort))
 
 abbrev pub WritesPdu : ℕ → Option ReceptionFields → List ℕ → List ℕ → ℕ → ℕ → ℕ → Type 0
 WritesPdu number None out written before count answer = IsUnwritten out written before count
-    × (answer ≡ code_of NoEngine)
+    × (answer ≡ answer_code NoEngine)
 WritesPdu number (Some S) out written before count answer =
     WritesSent S.machine.state.mib (slice_get (pdus_in S) number) out written before count answer
 
@@ -116,20 +118,21 @@ IsBegun mib W (Some S) = (S.machine.state ≡ begin mib W) × (S.answer ≡ None
 
 -- out of memory the engine is freed with what was put into it
 abbrev pub ReceiverOpensOver : Result Mib Answer → World → Option World → Option ReceptionFields → ℕ → Type 0
-ReceiverOpensOver (Err why) W engine after answer = (engine ≡ Some W) × (after ≡ None) × (answer ≡ code_of why)
+ReceiverOpensOver (Err why) W engine after answer = (engine ≡ Some W) × (after ≡ None) × (answer ≡ answer_code why)
 ReceiverOpensOver (Ok mib) W engine after answer =
-    (engine ≡ None) × ((IsBegun mib W after × (answer ≡ code_of Done)) ⊎ ((after ≡ None) × (answer ≡ code_of Memory)))
+    (engine ≡ None) × ((IsBegun mib W after × (answer ≡ answer_code Done)) ⊎
+    ((after ≡ None) × (answer ≡ answer_code Memory)))
 
 abbrev pub ReceiverOpensFrom : MibFields → Option World → Option World → Option ReceptionFields → ℕ → Type 0
-ReceiverOpensFrom fields None engine after answer = (engine ≡ None) × (after ≡ None) × (answer ≡ code_of NoEngine)
+ReceiverOpensFrom fields None engine after answer = (engine ≡ None) × (after ≡ None) × (answer ≡ answer_code NoEngine)
 ReceiverOpensFrom fields (Some W) engine after answer = ReceiverOpensOver (opened fields W) W engine after answer
 
 abbrev pub ReceiverOpens : MibFields → Option World → Option World → Option ReceptionFields → Option ReceptionFields →
     ℕ → Type 0
 ReceiverOpens fields before engine None after answer = ReceiverOpensFrom fields before engine after answer
 ReceiverOpens fields before engine (Some S) after answer = (engine ≡ before) × (after ≡ Some S)
-    × (answer ≡ code_of HasEngine)
+    × (answer ≡ answer_code HasEngine)
 
 abbrev pub ReceiverFrees : Option ReceptionFields → ℕ → Type 0
-ReceiverFrees None answer = answer ≡ code_of NoEngine
-ReceiverFrees (Some S) answer = answer ≡ code_of Done
+ReceiverFrees None answer = answer ≡ answer_code NoEngine
+ReceiverFrees (Some S) answer = answer ≡ answer_code Done

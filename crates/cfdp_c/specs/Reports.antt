@@ -3,7 +3,7 @@
 --   transaction_by, reply_by      the transaction that the input was about, and the core's reply; zeros where there is
 --                                 none
 --   blank kind id             an indication that brings no numbers
---   told_of, indicated        an indication;  that of an answer, if there is one
+--   indication_fields_of, indicated  an indication;  that of an answer, if there is one
 --   report_of S               the whole report: zeros before the first input
 use Rattle.std.specs.Prelude.{ℕ, if◌then◌else◌, List, [], ◌∷◌, length, Option, Some, None}
 use Rattle.cfdp_status.specs.declared.transaction.TransactionId.{TransactionId}
@@ -15,7 +15,7 @@ use Rattle.cfdp_receiver.specs.declared.answer.Word.{Word}
 use Rattle.cfdp_receiver.specs.declared.answer.Word.TheVariants as words
 use Rattle.cfdp_receiver.specs.Machine.{AnswerParts}
 use Rattle.cfdp_reception.specs.Reception.{ReceptionFields, pdus_in}
-use Rattle.cfdp_c.specs.Calls.{named}
+use Rattle.cfdp_c.specs.Calls.{transaction_named}
 use Rattle.cfdp_c.specs.Reads.{name_fields}
 use Rattle.cfdp_c.specs.Told.{bare, told}
 use Rattle.cfdp_c.specs.declared.reply.ReplyFields.{ReplyFields}
@@ -23,7 +23,7 @@ use Rattle.cfdp_c.specs.declared.reports.IndicationFields.{IndicationFields}
 use Rattle.cfdp_c.specs.declared.reports.ReportFields.{ReportFields}
 
 abbrev pub no_one : TransactionId
-no_one = named 0 0
+no_one = transaction_named 0 0
 
 abbrev pub word_number : Word → ℕ
 word_number words.NotForUs = 3
@@ -73,27 +73,27 @@ blank kind id = record {
   length = 0;
 }
 
-abbrev pub told_of : Indication → IndicationFields
-told_of (MetadataRecv id described) =
+abbrev pub indication_fields_of : Indication → IndicationFields
+indication_fields_of (MetadataRecv id described) =
     record (blank 1 id) {
       closure = if described.closure then 1 else 0;
       checksum_type = described.checksum_type;
       length = described.size;
     }
-told_of (FileSegmentRecv id offset len) = record (blank 2 id) { offset = offset; length = len }
-told_of (EofRecv id) = blank 3 id
-told_of (TransactionFinished id end) =
+indication_fields_of (FileSegmentRecv id offset len) = record (blank 2 id) { offset = offset; length = len }
+indication_fields_of (EofRecv id) = blank 3 id
+indication_fields_of (TransactionFinished id end) =
     record (blank 4 id) {
       condition = end.condition;
       incomplete = if end.incomplete then 1 else 0;
       file_status = end.file_status;
     }
-told_of (Fault id condition) = record (blank 5 id) { condition = condition }
-told_of (Abandoned id condition) = record (blank 6 id) { condition = condition }
+indication_fields_of (Fault id condition) = record (blank 5 id) { condition = condition }
+indication_fields_of (Abandoned id condition) = record (blank 6 id) { condition = condition }
 
 abbrev pub indicated : List Indication → IndicationFields
 indicated [] = blank 0 no_one
-indicated (indication ∷ more) = told_of indication
+indicated (indication ∷ more) = indication_fields_of indication
 
 abbrev pub report_in : ℕ → Option AnswerParts → ReportFields
 report_in pdus None = record {

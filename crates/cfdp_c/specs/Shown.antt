@@ -1,21 +1,21 @@
 -- The text of a reply that C has as numbers: the line that `replay` writes of it.
 --   small n                   a number that is an octet
---   status_in, refusal_in, reply_in    the status, the refusal and the reply of these numbers, where there is one; an
---                                      outcome is none of them
---   shown fields octets       the line of a reply, where there is such a reply; that of an outcome with the octets of
+--   status_numbered, refusal_in, reply_in  the status, the refusal and the reply of these numbers, where there is one;
+--                                      an outcome is none of them
+--   reply_shown fields octets  the line of a reply, where there is such a reply; that of an outcome with the octets of
 --                             its Finished PDU
 --   HasWidths fields          the numbers fit the struct's fields, as those that C passes do
 --   longest_line octets       how many octets the line of a reply has at most, by those of the Finished PDU
 --   answer_line answer        the line of octets that brought no event, by what was answered of them
---   ended text out            a buffer with a text at its beginning, and a 0 after it where there is room
---   Puts text                 a text is written so, and its length returned; or it does not fit
+--   with_end_mark text out    a buffer with a text at its beginning, and a 0 after it where there is room
+--   PutsText text             a text is written so, and its length returned; or it does not fit
 --   Writes text               likewise, where there is a text, or there is no memory for it
 --   IsTold reply              a reply that goes to C, and whose numbers are octets where they are to be
 --   ShownAsReplayed           each such reply is shown as `replay` writes it
 use Rattle.std.specs.Prelude.{◌≡◌, ◌⊎◌, ⊤, ℕ, ◌+◌, ◌*◌, ◌^◌, max, ◌<◌, ◌≤◌, ◌==◌, nat_lt, if◌then◌else◌, List, [], ◌∷◌, ◌++◌, drop, length, Option, Some, None}
 use Rattle.std.specs.Option.{option_map, option_and_then, option_flatten}
-use Rattle.cfdp_status.specs.Codes.{beside, statuses}
-use Rattle.cfdp_status.specs.Transaction.{name_of}
+use Rattle.cfdp_status.specs.Codes.{beside, status_octets}
+use Rattle.cfdp_status.specs.Transaction.{transaction_name}
 use Rattle.cfdp_status.specs.declared.status.Status.{Status}
 use Rattle.cfdp_status.specs.declared.transaction.TransactionId.{TransactionId}
 use Rattle.cfdp_pdus.specs.declared.fault.PduFault.TheVariants as fault
@@ -26,8 +26,8 @@ use Rattle.cfdp_transactions.specs.declared.reply.Reply.{Reply}
 use Rattle.cfdp_transactions.specs.declared.reply.Reply.TheVariants as reply
 use Rattle.cfdp_texts.specs.Replies.{fault_line, line, not_ours, reply_line, taken_text, word}
 use Rattle.cfdp_entity.specs.Sending.{sent}
-use Rattle.cfdp_c.specs.Answers.{code_of}
-use Rattle.cfdp_c.specs.Calls.{named}
+use Rattle.cfdp_c.specs.Answers.{answer_code}
+use Rattle.cfdp_c.specs.Calls.{transaction_named}
 use Rattle.cfdp_c.specs.Told.{told}
 use Rattle.cfdp_c.specs.declared.answer.Answer.TheVariants.{Done, Memory, Nothing, TooShort}
 use Rattle.cfdp_c.specs.declared.reply.ReplyFields.{ReplyFields}
@@ -35,19 +35,19 @@ use Rattle.cfdp_c.specs.declared.reply.ReplyFields.{ReplyFields}
 abbrev pub small : ℕ → Option ℕ
 small n = if nat_lt n 256 then Some n else None
 
-abbrev pub status_in : ℕ → Option Status
-status_in n = option_and_then (beside statuses) (small n)
+abbrev pub status_numbered : ℕ → Option Status
+status_numbered n = option_and_then (beside status_octets) (small n)
 
 abbrev pub failure_in : ReplyFields → Option Refusal
 failure_in fields = option_and_then (λ request. option_map (λ status. refusal.WouldFail request status)
-    (status_in fields.status)) (small fields.request)
+    (status_numbered fields.status)) (small fields.request)
 
 abbrev pub refusals : ReplyFields → List (ℕ × Option Refusal)
 refusals fields =
     (1, Some refusal.TooManyRequests)
     ∷ (2, Some (refusal.BadPath place.Destination))
     ∷ (3, option_map (λ request. refusal.BadPath (place.Request request)) (small fields.request))
-    ∷ (4, Some (refusal.Conflict (named fields.other_source fields.other_number)))
+    ∷ (4, Some (refusal.Conflict (transaction_named fields.other_source fields.other_number)))
     ∷ (5, Some refusal.DestinationNotAllowed)
     ∷ (6, failure_in fields)
     ∷ (7, Some (refusal.TooLong fields.steps))
@@ -57,8 +57,8 @@ refusals fields =
 abbrev pub refusal_in : ReplyFields → Option Refusal
 refusal_in fields = option_flatten (beside (refusals fields) fields.refusal)
 
-abbrev pub replies : ReplyFields → List (ℕ × Option Reply)
-replies fields =
+abbrev pub reply_table : ReplyFields → List (ℕ × Option Reply)
+reply_table fields =
     (1, Some (reply.Admitted fields.blocks fields.steps))
     ∷ (2, option_map (λ why. reply.Refused why) (refusal_in fields))
     ∷ (3, Some reply.Stored)
@@ -66,7 +66,7 @@ replies fields =
     ∷ (5, Some reply.Complete)
     ∷ (6, Some reply.Waiting)
     ∷ (7, option_map (λ condition. reply.Faulted condition) (small fields.condition))
-    ∷ (8, option_map (λ status. reply.Performed status) (status_in fields.status))
+    ∷ (8, option_map (λ status. reply.Performed status) (status_numbered fields.status))
     ∷ (9, Some reply.Installed)
     ∷ (10, Some reply.Done)
     ∷ (11, Some reply.Cancelled)
@@ -78,13 +78,13 @@ replies fields =
     ∷ []
 
 abbrev pub reply_in : ReplyFields → Option Reply
-reply_in fields = option_flatten (beside (replies fields) fields.kind)
+reply_in fields = option_flatten (beside (reply_table fields) fields.kind)
 
-abbrev pub shown : ReplyFields → List ℕ → Option (List ℕ)
-shown fields octets =
-    if fields.kind == 12 then Some (line (name_of (named fields.source fields.number)
+abbrev pub reply_shown : ReplyFields → List ℕ → Option (List ℕ)
+reply_shown fields octets =
+    if fields.kind == 12 then Some (line (transaction_name (transaction_named fields.source fields.number)
     ++ word (taken_text octets fields.condition)))
-    else option_map (reply_line (named fields.source fields.number)) (reply_in fields)
+    else option_map (reply_line (transaction_named fields.source fields.number)) (reply_in fields)
 
 -- two digits for each; or a refusal for a conflict, with the names of two transactions
 abbrev pub longest_line : ℕ → ℕ
@@ -120,22 +120,23 @@ abbrev pub with_end : List ℕ → List ℕ
 with_end [] = []
 with_end (octet ∷ rest) = 0 ∷ rest
 
-abbrev pub ended : List ℕ → List ℕ → List ℕ
-ended text out = text ++ with_end (drop (length text) out)
+abbrev pub with_end_mark : List ℕ → List ℕ → List ℕ
+with_end_mark text out = text ++ with_end (drop (length text) out)
 
-abbrev pub Puts : List ℕ → List ℕ → List ℕ → ℕ → ℕ → Type 0
-Puts text out written count answer =
-    ((length text ≤ length out) × (written ≡ ended text out) × (count ≡ length text) × (answer ≡ code_of Done))
-    ⊎ ((length out < length text) × (written ≡ out) × (count ≡ length text) × (answer ≡ code_of TooShort))
+abbrev pub PutsText : List ℕ → List ℕ → List ℕ → ℕ → ℕ → Type 0
+PutsText text out written count answer =
+    ((length text ≤ length out) × (written ≡ with_end_mark text out) × (count ≡ length text) ×
+    (answer ≡ answer_code Done))
+    ⊎ ((length out < length text) × (written ≡ out) × (count ≡ length text) × (answer ≡ answer_code TooShort))
 
 abbrev pub PutsAny : Option (List ℕ) → List ℕ → List ℕ → ℕ → ℕ → ℕ → Type 0
-PutsAny None out written before count answer = (written ≡ out) × (count ≡ before) × (answer ≡ code_of Nothing)
-PutsAny (Some text) out written before count answer = Puts text out written count answer
+PutsAny None out written before count answer = (written ≡ out) × (count ≡ before) × (answer ≡ answer_code Nothing)
+PutsAny (Some text) out written before count answer = PutsText text out written count answer
 
 abbrev pub Writes : Option (List ℕ) → List ℕ → List ℕ → ℕ → ℕ → ℕ → Type 0
-Writes None out written before count answer = (written ≡ out) × (count ≡ before) × (answer ≡ code_of Nothing)
+Writes None out written before count answer = (written ≡ out) × (count ≡ before) × (answer ≡ answer_code Nothing)
 Writes (Some text) out written before count answer =
-    Puts text out written count answer ⊎ ((written ≡ out) × (count ≡ before) × (answer ≡ code_of Memory))
+    PutsText text out written count answer ⊎ ((written ≡ out) × (count ≡ before) × (answer ≡ answer_code Memory))
 
 abbrev pub IsTold : Reply → Type 0
 IsTold (reply.Refused (refusal.BadPath (place.Request request))) = request < 256
@@ -146,5 +147,5 @@ IsTold reply.JournalFull = ⊥
 IsTold told = ⊤
 
 abbrev pub ShownAsReplayed : Type 0
-ShownAsReplayed = (id : TransactionId) (reply : Reply) → IsTold reply → shown (told id reply) (sent reply)
+ShownAsReplayed = (id : TransactionId) (reply : Reply) → IsTold reply → reply_shown (told id reply) (sent reply)
     ≡ Some (reply_line id reply)

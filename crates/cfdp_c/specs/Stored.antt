@@ -10,8 +10,8 @@ use Rattle.cfdp_actions.specs.Filestore.{Filestore, Node, Directory, File, node_
 use Rattle.cfdp_checksum.specs.Checksum.{checksum}
 use Rattle.cfdp_tree.specs.Found.{fitting, with_octets}
 use Rattle.cfdp_transactions.specs.World.{World}
-use Rattle.cfdp_c.specs.Answers.{code_of}
-use Rattle.cfdp_c.specs.Making.{path_in}
+use Rattle.cfdp_c.specs.Answers.{answer_code}
+use Rattle.cfdp_c.specs.Making.{path_in_fields}
 use Rattle.cfdp_c.specs.Reads.{Found}
 use Rattle.cfdp_c.specs.declared.answer.Answer.TheVariants.{Done, NoEngine, Nothing, BadPath}
 use Rattle.cfdp_c.specs.declared.fields.EntryFields.{EntryFields}
@@ -25,28 +25,30 @@ abbrev pub looked : Filestore → Path → Option EntryFields
 looked F p = option_map node_fields (node_at F p)
 
 abbrev pub Looks : Option Path → World → EntryFields → EntryFields → ℕ → Type 0
-Looks None W old new answer = (new ≡ old) × (answer ≡ code_of BadPath)
+Looks None W old new answer = (new ≡ old) × (answer ≡ answer_code BadPath)
 Looks (Some path) W old new answer = Found (looked W.filestore path) old new answer
 
 abbrev pub LooksUp : PathFields → Option World → EntryFields → EntryFields → ℕ → Type 0
-LooksUp path None old new answer = (new ≡ old) × (answer ≡ code_of NoEngine)
-LooksUp path (Some W) old new answer = Looks (path_in path) W old new answer
+LooksUp path None old new answer = (new ≡ old) × (answer ≡ answer_code NoEngine)
+LooksUp path (Some W) old new answer = Looks (path_in_fields path) W old new answer
 
 abbrev pub Copies : ℕ → List ℕ → List ℕ → List ℕ → ℕ → Type 0
 Copies at octets out written count = (count ≡ fitting octets at out) × (written ≡ with_octets octets at out)
 
 abbrev pub CopiesFile : Option Node → ℕ → List ℕ → List ℕ → ℕ → ℕ → ℕ → Type 0
 CopiesFile (Some (File octets)) at out written before count answer = Copies at octets out written count
-    × (answer ≡ code_of Done)
-CopiesFile there at out written before count answer = (written ≡ out) × (count ≡ before) × (answer ≡ code_of Nothing)
+    × (answer ≡ answer_code Done)
+CopiesFile there at out written before count answer = (written ≡ out) × (count ≡ before) ×
+    (answer ≡ answer_code Nothing)
 
 abbrev pub CopiesPath : Option Path → World → ℕ → List ℕ → List ℕ → ℕ → ℕ → ℕ → Type 0
-CopiesPath None W at out written before count answer = (written ≡ out) × (count ≡ before) × (answer ≡ code_of BadPath)
+CopiesPath None W at out written before count answer = (written ≡ out) × (count ≡ before) ×
+    (answer ≡ answer_code BadPath)
 CopiesPath (Some path) W at out written before count answer =
     CopiesFile (node_at W.filestore path) at out written before count answer
 
 abbrev pub ReadsFile : PathFields → Option World → ℕ → List ℕ → List ℕ → ℕ → ℕ → ℕ → Type 0
 ReadsFile path None at out written before count answer = (written ≡ out) × (count ≡ before)
-    × (answer ≡ code_of NoEngine)
+    × (answer ≡ answer_code NoEngine)
 ReadsFile path (Some W) at out written before count answer =
-    CopiesPath (path_in path) W at out written before count answer
+    CopiesPath (path_in_fields path) W at out written before count answer

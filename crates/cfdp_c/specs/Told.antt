@@ -1,6 +1,6 @@
 -- A reply as the numbers that C sees.
 --   bare id kind        one that brings no numbers but its kind and its transaction
---   refused id refusal  the refusal of a list of filestore requests
+--   refusal_fields id refusal  the refusal of a list of filestore requests
 --   told id reply       a reply about a transaction. A reply that says out of memory, or of a full journal, does not go
 --                       to C: kind 0
 use Rattle.std.specs.Prelude.{ℕ}
@@ -29,27 +29,27 @@ bare id kind = record {
   other_number = 0;
 }
 
-abbrev pub refused : TransactionId → Refusal → ReplyFields
-refused id refusal.TooManyRequests = record (bare id 2) { refusal = 1 }
-refused id (refusal.BadPath place.Destination) = record (bare id 2) { refusal = 2 }
-refused id (refusal.BadPath (place.Request request)) = record (bare id 2) { refusal = 3; request = request }
-refused id (refusal.Conflict other) = record (bare id 2) {
+abbrev pub refusal_fields : TransactionId → Refusal → ReplyFields
+refusal_fields id refusal.TooManyRequests = record (bare id 2) { refusal = 1 }
+refusal_fields id (refusal.BadPath place.Destination) = record (bare id 2) { refusal = 2 }
+refusal_fields id (refusal.BadPath (place.Request request)) = record (bare id 2) { refusal = 3; request = request }
+refusal_fields id (refusal.Conflict other) = record (bare id 2) {
   refusal = 4;
   other_source = other.source;
   other_number = other.number;
 }
-refused id refusal.DestinationNotAllowed = record (bare id 2) { refusal = 5 }
-refused id (refusal.WouldFail request status) = record (bare id 2) {
+refusal_fields id refusal.DestinationNotAllowed = record (bare id 2) { refusal = 5 }
+refusal_fields id (refusal.WouldFail request status) = record (bare id 2) {
   refusal = 6;
   request = request;
   status = octet_of status;
 }
-refused id (refusal.TooLong steps) = record (bare id 2) { refusal = 7; steps = steps }
-refused id (refusal.NoRoom blocks spare) = record (bare id 2) { refusal = 8; blocks = blocks; spare = spare }
+refusal_fields id (refusal.TooLong steps) = record (bare id 2) { refusal = 7; steps = steps }
+refusal_fields id (refusal.NoRoom blocks spare) = record (bare id 2) { refusal = 8; blocks = blocks; spare = spare }
 
 abbrev pub told : TransactionId → Reply → ReplyFields
 told id (reply.Admitted blocks steps) = record (bare id 1) { blocks = blocks; steps = steps }
-told id (reply.Refused why) = refused id why
+told id (reply.Refused why) = refusal_fields id why
 told id reply.Stored = bare id 3
 told id reply.Dropped = bare id 4
 told id reply.Complete = bare id 5

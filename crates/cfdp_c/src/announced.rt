@@ -2,7 +2,7 @@
 ghost use Rattle.std.specs.Prelude.{◌≡◌};
 ghost use Rattle.std.specs.Option.{option_map};
 ghost use Rattle.cfdp_c.specs.Announced.{WritesName, metadata_numbers, metadata_of};
-ghost use Rattle.cfdp_c.specs.Calls.{named};
+ghost use Rattle.cfdp_c.specs.Calls.{transaction_named};
 ghost use Rattle.cfdp_c.specs.Reads.{Reads};
 
 use crate::answer::Answer;
@@ -33,7 +33,8 @@ pub extern "C" fn cfdp_metadata(
     number: u64,
     metadata: &mut MetadataNumbers,
 ) -> u32
-    ensures read { Reads (λ W. option_map metadata_numbers (metadata_of W (named source number))) engine.old.slot.engine
+    ensures read { Reads (λ W. option_map metadata_numbers (metadata_of W (transaction_named source number)))
+        engine.old.slot.engine
         metadata.old metadata.new result }
     ensures kept { engine.new.slot.engine ≡ engine.old.slot.engine }
 {
@@ -61,7 +62,7 @@ pub extern "C" fn cfdp_source_name(
     out: &mut [u8],
     count: &mut usize,
 ) -> u32
-    ensures name { WritesName (λ W. option_map (λ m. m.source_name) (metadata_of W (named source number)))
+    ensures name { WritesName (λ W. option_map (λ m. m.source_name) (metadata_of W (transaction_named source number)))
         engine.old.slot.engine out.old out.new count.old count.new result }
     ensures kept { engine.new.slot.engine ≡ engine.old.slot.engine }
 {
@@ -86,7 +87,8 @@ pub extern "C" fn cfdp_destination_name(
     out: &mut [u8],
     count: &mut usize,
 ) -> u32
-    ensures name { WritesName (λ W. option_map (λ m. m.destination_name) (metadata_of W (named source number)))
+    ensures name { WritesName (λ W. option_map (λ m. m.destination_name)
+        (metadata_of W (transaction_named source number)))
         engine.old.slot.engine out.old out.new count.old count.new result }
     ensures kept { engine.new.slot.engine ≡ engine.old.slot.engine }
 {

@@ -1,6 +1,6 @@
 //! What a call from C returns.
 ghost use Rattle.std.specs.Prelude.{◌≡◌};
-ghost use Rattle.cfdp_c.specs.Answers.{code_of, config_answer, fault_answer, put_answer, unheard_answer};
+ghost use Rattle.cfdp_c.specs.Answers.{answer_code, config_answer, fault_answer, put_answer, unheard_answer};
 
 use cfdp_entity::NotHeard;
 use cfdp_pdus::PduFault;
@@ -72,7 +72,7 @@ pub(crate) enum Answer {
 impl Answer {
     /// Its number in C.
     pub(crate) fn code(self) -> u32
-        ensures { result ≡ code_of self }
+        ensures { result ≡ answer_code self }
     {
         match self {
             Answer::Done => 0,

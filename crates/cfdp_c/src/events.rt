@@ -4,9 +4,9 @@ ghost use Rattle.cfdp_transactions.specs.declared.event.Event.TheVariants.{Cance
 ghost use Rattle.cfdp_transactions.specs.Next.{next};
 ghost use Rattle.cfdp_transactions.specs.Writable.{longest_finished};
 ghost use Rattle.cfdp_entity.specs.Sending.{sent};
-ghost use Rattle.cfdp_c.specs.Answers.{code_of};
+ghost use Rattle.cfdp_c.specs.Answers.{answer_code};
 ghost use Rattle.cfdp_c.specs.declared.answer.Answer.TheVariants.{Memory as OutOfMemory};
-ghost use Rattle.cfdp_c.specs.Calls.{Does, Receives, Takes, named};
+ghost use Rattle.cfdp_c.specs.Calls.{DoesEvent, Receives, Takes, transaction_named};
 
 use crate::answer::Answer;
 use crate::handle::Handle;
@@ -48,7 +48,8 @@ pub extern "C" fn cfdp_step(
     number: u64,
     reply: &mut ReplyFields,
 ) -> u32
-    ensures { Does (Step (named source number)) engine.old.slot.engine engine.new.slot.engine reply.old reply.new
+    ensures { DoesEvent (Step (transaction_named source number)) engine.old.slot.engine engine.new.slot.engine reply.old
+        reply.new
         result }
 {
     let Some(mut entity) = engine.take(alloc) else {
@@ -69,7 +70,8 @@ pub extern "C" fn cfdp_cancel(
     number: u64,
     reply: &mut ReplyFields,
 ) -> u32
-    ensures { Does (Cancel (named source number)) engine.old.slot.engine engine.new.slot.engine reply.old reply.new
+    ensures { DoesEvent (Cancel (transaction_named source number)) engine.old.slot.engine engine.new.slot.engine
+        reply.old reply.new
         result }
 {
     let Some(mut entity) = engine.take(alloc) else {
@@ -90,7 +92,8 @@ pub extern "C" fn cfdp_check(
     number: u64,
     reply: &mut ReplyFields,
 ) -> u32
-    ensures { Does (Check (named source number)) engine.old.slot.engine engine.new.slot.engine reply.old reply.new
+    ensures { DoesEvent (Check (transaction_named source number)) engine.old.slot.engine engine.new.slot.engine
+        reply.old reply.new
         result }
 {
     let Some(mut entity) = engine.take(alloc) else {
@@ -114,11 +117,12 @@ pub extern "C" fn cfdp_take(
     count: &mut usize,
     reply: &mut ReplyFields,
 ) -> u32
-    ensures takes { Takes (named source number) engine.old.slot.engine engine.new.slot.engine out.old out.new count.old
+    ensures takes { Takes (transaction_named source number) engine.old.slot.engine engine.new.slot.engine out.old
+        out.new count.old
         count.new reply.old reply.new result }
-    ensures lean { result ≢ code_of OutOfMemory }
+    ensures lean { result ≢ answer_code OutOfMemory }
     ensures most { IfSome engine.old.slot.engine (λ W. length
-        (sent (next W (Take (named source number))).1) ≤ longest_finished) }
+        (sent (next W (Take (transaction_named source number))).1) ≤ longest_finished) }
 {
     let Some(mut entity) = engine.take(alloc) else {
         return Answer::NoEngine.code();

@@ -2,7 +2,7 @@
 ghost use Rattle.std.specs.Prelude.{◌≡◌, ◌≢◌, None, OnOk, IfOk, IfErr, Ok, Err};
 ghost use Rattle.cfdp_transactions.specs.World.{start};
 ghost use Rattle.cfdp_c.specs.Calls.{Frees};
-ghost use Rattle.cfdp_c.specs.Making.{Opens, configured, protected_by};
+ghost use Rattle.cfdp_c.specs.Making.{OpensEngine, config_of_fields, protected_by};
 ghost use Rattle.cfdp_c.specs.declared.answer.Answer.TheVariants.{Memory};
 ghost use Rattle.cfdp_transactions.specs.Config.{Config as ConfigOf};
 
@@ -39,8 +39,8 @@ fn config_of(
     fields: &ConfigFields,
     prefixes: &[PathFields],
 ) -> Result<Config, Answer>
-    ensures ok { IfOk result (λ config. configured fields.now prefixes.now ≡ Ok config) }
-    ensures err { IfErr result (λ answer. answer ≢ Memory → configured fields.now prefixes.now ≡ Err answer) }
+    ensures ok { IfOk result (λ config. config_of_fields fields.now prefixes.now ≡ Ok config) }
+    ensures err { IfErr result (λ answer. answer ≢ Memory → config_of_fields fields.now prefixes.now ≡ Err answer) }
 {
     let mut protected = Protected::new();
     protect(alloc, prefixes, &mut protected)?;
@@ -63,9 +63,9 @@ fn make(
     fields: &ConfigFields,
     prefixes: &[PathFields],
 ) -> Result<Box<Entity>, Answer>
-    ensures ok { IfOk result (λ engine. (config : ConfigOf) × (configured fields.now prefixes.now ≡ Ok config)
+    ensures ok { IfOk result (λ engine. (config : ConfigOf) × (config_of_fields fields.now prefixes.now ≡ Ok config)
         × (engine.value ≡ start config)) }
-    ensures err { IfErr result (λ answer. answer ≢ Memory → configured fields.now prefixes.now ≡ Err answer) }
+    ensures err { IfErr result (λ answer. answer ≢ Memory → config_of_fields fields.now prefixes.now ≡ Err answer) }
 {
     let config = config_of(alloc, fields, prefixes)?;
     let Ok(entity) = Entity::new(alloc, config) else {
@@ -85,7 +85,7 @@ pub extern "C" fn cfdp_new(
     config: &ConfigFields,
     prefixes: &[PathFields],
 ) -> u32
-    ensures { Opens config.now prefixes.now engine.old.slot.engine engine.new.slot.engine result }
+    ensures { OpensEngine config.now prefixes.now engine.old.slot.engine engine.new.slot.engine result }
 {
     if engine.has_engine() {
         return Answer::HasEngine.code();

@@ -1,8 +1,9 @@
 //! What is in an engine's filestore, entry by entry. Nothing here changes it, or takes memory.
 ghost use Rattle.std.specs.Prelude.{◌≡◌, ◌≤◌, All, IfOk, IfErr, None, Some, length};
 ghost use Rattle.cfdp_paths.specs.Paths.{IsName};
-ghost use Rattle.cfdp_c.specs.Answers.{code_of};
-ghost use Rattle.cfdp_c.specs.Next.{GoesOn, GoesOnFrom, TellsNext, cursor_in, kind_number, spelled_fields};
+ghost use Rattle.cfdp_c.specs.Answers.{answer_code};
+ghost use Rattle.cfdp_c.specs.Next.{NextOrNone, GoesOnFrom, TellsNext, cursor_in, spelled_fields};
+ghost use Rattle.cfdp_c.specs.code.Next.{kind_number};
 ghost use Rattle.cfdp_c.specs.declared.answer.Answer.TheVariants.{BadPath};
 
 use crate::answer::Answer;
@@ -59,7 +60,8 @@ fn go_on(
     entry: &mut EntryFields,
 ) -> Answer
     requires { All IsName after }
-    ensures { GoesOn core.now.world.filestore after.entry path.old path.new entry.old entry.new (code_of result) }
+    ensures { NextOrNone core.now.world.filestore after.entry path.old path.new entry.old entry.new
+        (answer_code result) }
 {
     let mut text = [0; PATH_OCTETS];
     let Some(found) = core.store().next_entry(after, &mut text) else {
@@ -82,7 +84,7 @@ pub(crate) fn go_on_from(
     entry: &mut EntryFields,
 ) -> Answer
     ensures { GoesOnFrom (cursor_in path.old) core.now.world.filestore path.old path.new entry.old entry.new
-        (code_of result) }
+        (answer_code result) }
 {
     let mut cursor = *path;
     match cursor_of(&mut cursor) {

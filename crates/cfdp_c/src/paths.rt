@@ -1,7 +1,7 @@
 //! Paths that C gives.
 ghost use Rattle.std.specs.Prelude.{◌≡◌, ◌≢◌, None, Some, IfOk, IfErr};
 ghost use Rattle.cfdp_paths.specs.Paths.{IsPath};
-ghost use Rattle.cfdp_c.specs.Making.{path_in};
+ghost use Rattle.cfdp_c.specs.Making.{path_in_fields};
 ghost use Rattle.cfdp_c.specs.declared.answer.Answer.TheVariants.{BadPath, Memory};
 
 use crate::answer::Answer;
@@ -11,8 +11,8 @@ use std::alloc::Global;
 
 /// The path that is given as a struct.
 pub(crate) fn path_of(alloc: Global, fields: &PathFields) -> Result<Path, Answer>
-    ensures ok { IfOk result (λ path. path_in fields.now ≡ Some path) }
-    ensures err { IfErr result (λ answer. answer ≢ Memory → (answer ≡ BadPath) × (path_in fields.now ≡ None)) }
+    ensures ok { IfOk result (λ path. path_in_fields fields.now ≡ Some path) }
+    ensures err { IfErr result (λ answer. answer ≢ Memory → (answer ≡ BadPath) × (path_in_fields fields.now ≡ None)) }
 {
     let length = fields.length as usize;
     if length > PATH_OCTETS {
@@ -27,9 +27,9 @@ pub(crate) fn path_of(alloc: Global, fields: &PathFields) -> Result<Path, Answer
 
 /// The names of the path that is given as a struct, lent out of its octets. Takes no memory.
 pub(crate) fn names_of(fields: &mut PathFields) -> Result<Names<'_>, Answer>
-    ensures ok { IfOk result (λ names. path_in fields.old ≡ Some names) }
+    ensures ok { IfOk result (λ names. path_in_fields fields.old ≡ Some names) }
     ensures within { IfOk result (λ names. IsPath names) }
-    ensures err { IfErr result (λ answer. (answer ≡ BadPath) × (path_in fields.old ≡ None)) }
+    ensures err { IfErr result (λ answer. (answer ≡ BadPath) × (path_in_fields fields.old ≡ None)) }
 {
     let length = fields.length as usize;
     if length > PATH_OCTETS {

@@ -1,5 +1,5 @@
 //! Directories and files that C puts into an engine's filestore, before its first PDU.
-ghost use Rattle.cfdp_c.specs.Answers.{code_of};
+ghost use Rattle.cfdp_c.specs.Answers.{answer_code};
 ghost use Rattle.cfdp_c.specs.Puts.{Puts, PutsNode, node_in};
 
 use crate::answer::Answer;
@@ -12,7 +12,7 @@ use std::alloc::Global;
 
 /// Puts a directory, or a file with these octets, at a path.
 fn put_at(entity: &mut Entity, path: &Path, kind: u32, octets: &[u8]) -> Answer
-    ensures { PutsNode (node_in kind octets.now) entity.old path.now entity.new (code_of result) }
+    ensures { PutsNode (node_in kind octets.now) entity.old path.now entity.new (answer_code result) }
 {
     let put = match kind {
         1 => entity.put_file(path, octets),

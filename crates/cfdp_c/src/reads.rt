@@ -4,7 +4,7 @@ ghost use Rattle.std.specs.Option.{option_map};
 ghost use Rattle.cfdp_transactions.specs.Engine.{read_of};
 ghost use Rattle.cfdp_transactions.specs.Entry.{gaps, name_of, progress, reach};
 ghost use Rattle.cfdp_transactions.specs.World.{next_outcome, next_runnable};
-ghost use Rattle.cfdp_c.specs.Calls.{named};
+ghost use Rattle.cfdp_c.specs.Calls.{transaction_named};
 ghost use Rattle.cfdp_c.specs.Reads.{Reads, blocks_fields, gap_fields, gap_of, grant_fields, name_fields, phase_fields};
 
 use crate::answer::Answer;
@@ -135,7 +135,7 @@ pub extern "C" fn cfdp_phase(
     number: u64,
     phase: &mut PhaseFields,
 ) -> u32
-    ensures read { Reads (λ W. option_map phase_fields (read_of (λ e. e.phase) W (named source number)))
+    ensures read { Reads (λ W. option_map phase_fields (read_of (λ e. e.phase) W (transaction_named source number)))
         engine.old.slot.engine phase.old phase.new result }
     ensures kept { engine.new.slot.engine ≡ engine.old.slot.engine }
 {
@@ -163,7 +163,7 @@ pub extern "C" fn cfdp_grant(
     grant: &mut GrantFields,
 ) -> u32
     ensures read { Reads (λ W. option_map grant_fields (read_of (λ e. (e.blocks_granted, e.steps_granted)) W
-        (named source number))) engine.old.slot.engine grant.old grant.new result }
+        (transaction_named source number))) engine.old.slot.engine grant.old grant.new result }
     ensures kept { engine.new.slot.engine ≡ engine.old.slot.engine }
 {
     let Some(entity) = engine.take(alloc) else {
@@ -189,7 +189,8 @@ pub extern "C" fn cfdp_blocks_spent(
     number: u64,
     blocks: &mut i64,
 ) -> u32
-    ensures read { Reads (λ W. read_of (λ e. e.blocks_spent) W (named source number)) engine.old.slot.engine blocks.old
+    ensures read { Reads (λ W. read_of (λ e. e.blocks_spent) W
+        (transaction_named source number)) engine.old.slot.engine blocks.old
         blocks.new result }
     ensures kept { engine.new.slot.engine ≡ engine.old.slot.engine }
 {
@@ -216,7 +217,8 @@ pub extern "C" fn cfdp_steps_spent(
     number: u64,
     steps: &mut u32,
 ) -> u32
-    ensures read { Reads (λ W. read_of (λ e. e.steps_spent) W (named source number)) engine.old.slot.engine steps.old
+    ensures read { Reads (λ W. read_of (λ e. e.steps_spent) W
+        (transaction_named source number)) engine.old.slot.engine steps.old
         steps.new result }
     ensures kept { engine.new.slot.engine ≡ engine.old.slot.engine }
 {
@@ -262,9 +264,9 @@ pub extern "C" fn cfdp_gap(
     place: usize,
     gap: &mut GapFields,
 ) -> u32
-    ensures read { Reads (λ W. option_map gap_fields (gap_of (read_of gaps W (named source number)) place))
+    ensures read { Reads (λ W. option_map gap_fields (gap_of (read_of gaps W (transaction_named source number)) place))
         engine.old.slot.engine gap.old gap.new result }
-    ensures few { IfSome engine.old.slot.engine (λ W. IfSome (read_of gaps W (named source number))
+    ensures few { IfSome engine.old.slot.engine (λ W. IfSome (read_of gaps W (transaction_named source number))
         (λ all. length all ≤ 33)) }
     ensures kept { engine.new.slot.engine ≡ engine.old.slot.engine }
 {
@@ -291,7 +293,8 @@ pub extern "C" fn cfdp_progress(
     number: u64,
     offset: &mut u64,
 ) -> u32
-    ensures read { Reads (λ W. read_of progress W (named source number)) engine.old.slot.engine offset.old offset.new
+    ensures read { Reads (λ W. read_of progress W (transaction_named source number)) engine.old.slot.engine offset.old
+        offset.new
         result }
     ensures kept { engine.new.slot.engine ≡ engine.old.slot.engine }
 {
@@ -318,7 +321,8 @@ pub extern "C" fn cfdp_reach(
     number: u64,
     offset: &mut u64,
 ) -> u32
-    ensures read { Reads (λ W. read_of reach W (named source number)) engine.old.slot.engine offset.old offset.new
+    ensures read { Reads (λ W. read_of reach W (transaction_named source number)) engine.old.slot.engine offset.old
+        offset.new
         result }
     ensures kept { engine.new.slot.engine ≡ engine.old.slot.engine }
 {

@@ -2,7 +2,7 @@
 ghost use Rattle.std.specs.Prelude.{◌≡◌};
 ghost use Rattle.std.specs.Option.{option_map};
 ghost use Rattle.cfdp_c.specs.Announced.{WritesName, metadata_of};
-ghost use Rattle.cfdp_c.specs.Calls.{named};
+ghost use Rattle.cfdp_c.specs.Calls.{transaction_named};
 ghost use Rattle.cfdp_c.specs.Next.{TellsNext};
 ghost use Rattle.cfdp_c.specs.Receiving.{world_in};
 ghost use Rattle.cfdp_c.specs.Stored.{LooksUp, ReadsFile};
@@ -86,7 +86,8 @@ pub extern "C" fn cfdp_receiver_destination_name(
     out: &mut [u8],
     count: &mut usize,
 ) -> u32
-    ensures name { WritesName (λ W. option_map (λ m. m.destination_name) (metadata_of W (named source number)))
+    ensures name { WritesName (λ W. option_map (λ m. m.destination_name)
+        (metadata_of W (transaction_named source number)))
         (world_in receiver.old.slot.receiver) out.old out.new count.old count.new result }
     ensures kept { receiver.new.slot.receiver ≡ receiver.old.slot.receiver }
 {

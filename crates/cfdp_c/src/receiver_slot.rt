@@ -3,7 +3,7 @@ ghost use Rattle.std.specs.Prelude.{◌≡◌, Option, Some, None, IsSome, IsNon
 ghost use Rattle.std.specs.Coded.{coded_option};
 ghost use Rattle.cfdp_reception.specs.Reception.{ReceptionFields};
 ghost use Rattle.cfdp_reception.specs.contracts.reception.Reception as reception;
-ghost use Rattle.cfdp_c.specs.ReceiverOwnership.{receiver_owns};
+ghost use Rattle.cfdp_c.specs.code.ReceiverOwnership.{receiver_owns};
 
 use crate::raw_box::RawBox;
 use cfdp_reception::Reception;

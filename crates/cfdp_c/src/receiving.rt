@@ -3,10 +3,10 @@
 ghost use Rattle.std.specs.Prelude.{◌≡◌, None, Some, IfOk, slice_get};
 ghost use Rattle.cfdp_receiver.specs.State.{CancelAsked, Expire, ForgetAsked, Work, begin};
 ghost use Rattle.cfdp_reception.specs.Reception.{pdus_in};
-ghost use Rattle.cfdp_c.specs.Answers.{code_of};
-ghost use Rattle.cfdp_c.specs.Calls.{named};
+ghost use Rattle.cfdp_c.specs.Answers.{answer_code};
+ghost use Rattle.cfdp_c.specs.Calls.{transaction_named};
 ghost use Rattle.cfdp_c.specs.Mibs.{opened};
-ghost use Rattle.cfdp_c.specs.Receiving.{ReceiverDoes, Finishes, ReceiverFrees, ReceiverOpens, ReceiverReceives, TellsDeadline, WritesSent, WritesPdu, dropped_answer};
+ghost use Rattle.cfdp_c.specs.Receiving.{ReceiverDoes, TakesFinished, ReceiverFrees, ReceiverOpens, ReceiverReceives, TellsDeadline, WritesSent, WritesPdu, dropped_answer};
 
 use crate::answer::Answer;
 use crate::handle::Handle;
@@ -180,7 +180,7 @@ pub extern "C" fn cfdp_receiver_finish(
     now: u64,
     report: &mut ReportFields,
 ) -> u32
-    ensures { Finishes now receiver.old.slot.receiver receiver.new.slot.receiver report.old report.new result }
+    ensures { TakesFinished now receiver.old.slot.receiver receiver.new.slot.receiver report.old report.new result }
 {
     let Some(mut reception) = receiver.take(alloc) else {
         return Answer::NoEngine.code();
@@ -206,7 +206,8 @@ pub extern "C" fn cfdp_receiver_cancel(
     number: u64,
     report: &mut ReportFields,
 ) -> u32
-    ensures { ReceiverDoes (CancelAsked now (named source number)) receiver.old.slot.receiver receiver.new.slot.receiver
+    ensures { ReceiverDoes (CancelAsked now (transaction_named source number)) receiver.old.slot.receiver
+        receiver.new.slot.receiver
         report.old report.new result }
 {
     let Some(mut reception) = receiver.take(alloc) else {
@@ -264,7 +265,7 @@ pub extern "C" fn cfdp_receiver_deadline(
 /// WritesSent the PDU with this number of the last answer.
 fn write_pdu(reception: &Reception, number: usize, out: &mut [u8], count: &mut usize) -> Answer
     ensures { WritesSent reception.now.machine.state.mib
-        (slice_get (pdus_in reception.now) number) out.old out.new count.old count.new (code_of result) }
+        (slice_get (pdus_in reception.now) number) out.old out.new count.old count.new (answer_code result) }
 {
     match reception.write(number, out) {
         Ok(len) => {

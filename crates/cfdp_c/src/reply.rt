@@ -1,6 +1,6 @@
 //! A reply as a struct of numbers.
 ghost use Rattle.std.specs.Prelude.{◌≡◌};
-ghost use Rattle.cfdp_c.specs.Told.{bare, refused, told};
+ghost use Rattle.cfdp_c.specs.Told.{bare, refusal_fields, told};
 
 use cfdp_status::TransactionId;
 use cfdp_transactions::Reply;
@@ -77,7 +77,7 @@ impl ReplyFields {
 
     /// A refusal.
     fn of_refusal(id: TransactionId, refusal: Refusal) -> ReplyFields
-        ensures { result ≡ refused id refusal }
+        ensures { result ≡ refusal_fields id refusal }
     {
         match refusal {
             Refusal::TooManyRequests => ReplyFields::refused(id, 1),

@@ -1,7 +1,7 @@
 //! What a receiver answered to its last input, as C sees it.
 ghost use Rattle.std.specs.Prelude.{◌≡◌};
 ghost use Rattle.cfdp_c.specs.Reads.{name_fields};
-ghost use Rattle.cfdp_c.specs.Reports.{became_number, blank, indicated, reply_by, report_of, told_of, transaction_by, word_number};
+ghost use Rattle.cfdp_c.specs.Reports.{became_number, blank, indicated, reply_by, report_of, indication_fields_of, transaction_by, word_number};
 
 use crate::fields::NameFields;
 use crate::reply::ReplyFields;
@@ -142,7 +142,7 @@ impl IndicationFields {
 
     /// An indication.
     fn of(indication: Indication) -> IndicationFields
-        ensures { result ≡ told_of indication }
+        ensures { result ≡ indication_fields_of indication }
     {
         match indication {
             Indication::MetadataRecv(id, described) => IndicationFields {

@@ -3,7 +3,7 @@ ghost use Rattle.std.specs.Prelude.{◌≡◌, Option, Some, None, IsSome, IsNon
 ghost use Rattle.std.specs.Coded.{coded_option};
 ghost use Rattle.cfdp_transactions.specs.World.{World};
 ghost use Rattle.cfdp_entity.specs.contracts.entity.Entity as entity;
-ghost use Rattle.cfdp_c.specs.Ownership.{slot_owns};
+ghost use Rattle.cfdp_c.specs.code.Ownership.{slot_owns};
 
 use crate::raw_box::RawBox;
 use cfdp_entity::Entity;

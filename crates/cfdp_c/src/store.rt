@@ -2,8 +2,8 @@
 ghost use Rattle.std.specs.Prelude.{◌≡◌, All};
 ghost use Rattle.cfdp_actions.specs.Filestore.{node_at};
 ghost use Rattle.cfdp_paths.specs.Paths.{IsName};
-ghost use Rattle.cfdp_c.specs.Answers.{code_of};
-ghost use Rattle.cfdp_c.specs.Making.{path_in};
+ghost use Rattle.cfdp_c.specs.Answers.{answer_code};
+ghost use Rattle.cfdp_c.specs.Making.{path_in_fields};
 ghost use Rattle.cfdp_c.specs.Stored.{CopiesFile, CopiesPath, Looks, LooksUp, ReadsFile, looked};
 
 use crate::answer::Answer;
@@ -43,7 +43,7 @@ fn copy_file(
 ) -> Answer
     requires { All IsName names }
     ensures { CopiesFile (node_at core.now.world.filestore names.entry) at out.old out.new count.old count.new
-        (code_of result) }
+        (answer_code result) }
 {
     match core.store().read_at(names, at, out) {
         None => Answer::Nothing,
@@ -60,7 +60,7 @@ pub(crate) fn tell_entry(
     path: &PathFields,
     entry: &mut EntryFields,
 ) -> Answer
-    ensures { Looks (path_in path.now) core.now.world entry.old entry.new (code_of result) }
+    ensures { Looks (path_in_fields path.now) core.now.world entry.old entry.new (answer_code result) }
 {
     let mut path = *path;
     let names = match names_of(&mut path) {
@@ -84,7 +84,8 @@ pub(crate) fn copy_path(
     out: &mut [u8],
     count: &mut usize,
 ) -> Answer
-    ensures { CopiesPath (path_in path.now) core.now.world at out.old out.new count.old count.new (code_of result) }
+    ensures { CopiesPath (path_in_fields path.now) core.now.world at out.old out.new count.old count.new
+        (answer_code result) }
 {
     let mut path = *path;
     match names_of(&mut path) {

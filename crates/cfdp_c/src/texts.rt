@@ -1,9 +1,9 @@
 //! The lines that `replay` writes, of replies and of octets that brought none.
 ghost use Rattle.std.specs.Prelude.{◌≡◌, ◌≤◌, Some, IfOk, IfSome, IsErr, IsSome, length};
 ghost use Rattle.std.specs.Option.{option_copied, option_map};
-ghost use Rattle.cfdp_status.specs.Codes.{beside, statuses};
-ghost use Rattle.cfdp_c.specs.Answers.{code_of};
-ghost use Rattle.cfdp_c.specs.Shown.{HasWidths, Puts, PutsAny, ShownAsReplayed, Writes, answer_line, failure_in, longest_line, refusal_in, reply_in, shown, small, status_in, with_end};
+ghost use Rattle.cfdp_status.specs.Codes.{beside, status_octets};
+ghost use Rattle.cfdp_c.specs.Answers.{answer_code};
+ghost use Rattle.cfdp_c.specs.Shown.{HasWidths, PutsText, PutsAny, ShownAsReplayed, Writes, answer_line, failure_in, longest_line, refusal_in, reply_in, reply_shown, small, status_numbered, with_end};
 
 use crate::answer::Answer;
 use crate::reply::ReplyFields;
@@ -26,7 +26,7 @@ fn small(number: u32) -> Option<u8>
 
 /// The status of a number.
 fn status_of(number: u32) -> Option<Status>
-    ensures { result ≡ status_in number }
+    ensures { result ≡ status_numbered number }
 {
     Status::of_octet(small(number)?)
 }
@@ -91,8 +91,8 @@ fn line_of(
     fields: &ReplyFields,
     octets: &[u8],
 ) -> Result<Option<Vec<u8>>, AllocError>
-    ensures line { IfOk result (λ line. option_map (λ line. line.items) line ≡ shown fields.now octets.now) }
-    ensures lean { IsErr result → IsSome (shown fields.now octets.now) }
+    ensures line { IfOk result (λ line. option_map (λ line. line.items) line ≡ reply_shown fields.now octets.now) }
+    ensures lean { IsErr result → IsSome (reply_shown fields.now octets.now) }
 {
     let id = TransactionId {
         source: fields.source,
@@ -122,7 +122,7 @@ fn end(out: &mut [u8])
 /// Writes a text to the beginning of a buffer, and a 0 after it where there is room, and returns its length; or returns
 /// only that, where it does not fit.
 pub(crate) fn put(text: &[u8], out: &mut [u8], count: &mut usize) -> Answer
-    ensures { Puts text.now out.old out.new count.new (code_of result) }
+    ensures { PutsText text.now out.old out.new count.new (answer_code result) }
 {
     *count = text.len();
     if out.len() < text.len() {
@@ -143,8 +143,8 @@ pub extern "C" fn cfdp_reply_text(
     out: &mut [u8],
     count: &mut usize,
 ) -> u32
-    ensures text { Writes (shown reply.now octets.now) out.old out.new count.old count.new result }
-    ensures most { HasWidths reply.now → IfSome (shown reply.now octets.now)
+    ensures text { Writes (reply_shown reply.now octets.now) out.old out.new count.old count.new result }
+    ensures most { HasWidths reply.now → IfSome (reply_shown reply.now octets.now)
         (λ line. length line ≤ longest_line (length octets.now)) }
     ensures as_replay { ShownAsReplayed }
 {

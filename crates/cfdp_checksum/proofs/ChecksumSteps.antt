@@ -3,11 +3,11 @@ use Rattle.std.proofs.Common.{◌≡◌, ℕ, zero, suc, ◌+◌, ◌-◌, ◌*�
 use Rattle.std.proofs.lemmas.Bool.{cases_lt}
 use Rattle.std.proofs.lemmas.List.{drop_all, length-take-le}
 use Rattle.byteorder.specs.Endian.{big_number}
-use Rattle.cfdp_checksum.specs.Checksum.{weight, weighed_from, checksum_at, checksum}
+use Rattle.cfdp_checksum.specs.Checksum.{octet_weight, weighed_from, checksum_at, checksum}
 use Rattle.cfdp_checksum.specs.Laws.{PiecesAddUp, OffsetsAddUp, OnlyPlacesCount, ZerosAddNothing, PartsAreReplaced}
 
 -- the position in a word says all
-weight-place : (i j : ℕ) → i % 4 ≡ j % 4 → weight i ≡ weight j
+weight-place : (i j : ℕ) → i % 4 ≡ j % 4 → octet_weight i ≡ octet_weight j
 weight-place i j same = ap (λ (k : ℕ). 256 ^ (3 - k)) same
 
 weighed-place : (i j : ℕ) (octets : List ℕ) → i % 4 ≡ j % 4 → weighed_from i octets ≡ weighed_from j octets

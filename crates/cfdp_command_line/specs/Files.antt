@@ -1,19 +1,12 @@
 -- What the program reads of its files, and what can go wrong with them.
 --
---   fault_of        what an error of this kind is to the run
 --   IsInputFault    a file cannot be opened or read, or memory was refused
 --   AllPaired       two lists are of one length, and the fact holds of each pair, in order
 --   IsWhole         these octets are all that an input had, where it says that
 --   IsRead          a file was opened by this path, and these octets are all that it had
 use Rattle.std.specs.Prelude.{◌≡◌, ◌⊎◌, ⊤, ℕ, List, [], ◌∷◌, Option, IfSome}
-use Rattle.std.specs.declared.io.ErrorKind.{ErrorKind}
-use Rattle.std.specs.declared.io.ErrorKind.TheVariants.{OutOfMemory}
 use Rattle.cfdp_lines.specs.declared.faults.RunFault.{RunFault}
 use Rattle.cfdp_lines.specs.declared.faults.RunFault.TheVariants.{Read, Memory}
-
-abbrev pub fault_of : ErrorKind → RunFault
-fault_of OutOfMemory = Memory
-fault_of kind = Read
 
 abbrev pub IsInputFault : RunFault → Type 0
 IsInputFault fault = (fault ≡ Read) ⊎ (fault ≡ Memory)

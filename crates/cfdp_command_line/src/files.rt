@@ -3,7 +3,8 @@ ghost use Rattle.std.specs.Prelude.{◌≡◌, ◌≤◌, ℕ, List, length, IfE
 ghost use Rattle.std.specs.IoError.{error_kind};
 ghost use Rattle.std.specs.List.{AllByRecursion};
 ghost use Rattle.cfdp_lines.specs.Lines.{input_limit};
-ghost use Rattle.cfdp_command_line.specs.Files.{AllPaired, fault_of, IsInputFault, IsRead, IsWhole};
+ghost use Rattle.cfdp_command_line.specs.Files.{AllPaired, IsInputFault, IsRead, IsWhole};
+ghost use Rattle.cfdp_command_line.specs.code.Files.{run_fault_of};
 
 use cfdp_lines::{INPUT_LIMIT, RunFault};
 use std::alloc::Global;
@@ -13,7 +14,7 @@ use std::rt::Files;
 
 /// What a file that cannot be opened or read is to the run.
 fn fault_of(error: &Error) -> RunFault
-    ensures { result ≡ fault_of (error_kind error.now) }
+    ensures { result ≡ run_fault_of (error_kind error.now) }
 {
     match error.kind() {
         ErrorKind::OutOfMemory => RunFault::Memory,

@@ -4,7 +4,8 @@ ghost use Rattle.clap.specs.Words.{all_of, app_of, fault_of, found_of, kind_of, 
 ghost use Rattle.clap.specs.declared.error.kind.ErrorKind.TheVariants as kind;
 ghost use Rattle.cfdp_lines.specs.declared.faults.ProgramEnd.TheVariants.{Usage, Run};
 ghost use Rattle.cfdp_lines.specs.declared.faults.RunFault.TheVariants.{Memory};
-ghost use Rattle.cfdp_command_line.specs.Words.{IsAsked, has_globals, links_shape, program, replay_shape};
+ghost use Rattle.cfdp_command_line.specs.Words.{IsAsked, links_shape, program, replay_shape};
+ghost use Rattle.cfdp_command_line.specs.code.Words.{has_globals};
 
 use cfdp_lines::{ProgramEnd, RunFault};
 use clap::error::ErrorKind;

@@ -1,6 +1,6 @@
 -- A list that is copied index by index.
 use Rattle.std.proofs.Common.{◌≡◌, ℕ, suc, ◌+◌, List, [], ◌∷◌, ◌++◌, drop, Some, slice_get, sym, ap, ◌∙◌, subst, append_assoc, arith}
-use Rattle.cfdp_transactions.proofs.StepDone.{drop_get}
+use Rattle.cfdp_transactions.proofs.KeptTable.StepDone.{drop_get}
 
 -- one more than before is taken over
 pub taken_over : {X : Type 0} (taken more all : List X) (place : ℕ) (x : X) → slice_get all place ≡ Some x → more ≡ taken ++ x ∷ []

@@ -14,8 +14,8 @@ use Rattle.cfdp_transactions.specs.Events.{about, event_at, event_from, event_of
 use Rattle.cfdp_transactions.specs.Next.{next}
 use Rattle.cfdp_transactions.specs.World.{World}
 use Rattle.cfdp_transactions.specs.Writable.{FitsReply, IsReadable}
-use Rattle.cfdp_transactions.proofs.Handing.{only_take_hands_out}
-use Rattle.cfdp_entity.specs.Hearing.{heard, heard_in}
+use Rattle.cfdp_transactions.proofs.Promises.OnlyTakeHandsOut.{only_take_hands_out}
+use Rattle.cfdp_entity.specs.Hearing.{heard_event, heard_event_in}
 use Rattle.cfdp_texts.specs.Replies.{reply_line}
 use Rattle.cfdp_commands.specs.Commands.{local_event}
 use Rattle.cfdp_commands.specs.Replay.{Running, read_told}
@@ -31,16 +31,16 @@ local_readable Take id = tt
 
 -- ---- octets that came
 
-some_in : (came : Option Event) (event : Event) → heard_in (Ok came) ≡ Ok event → came ≡ Some event
+some_in : (came : Option Event) (event : Event) → heard_event_in (Ok came) ≡ Ok event → came ≡ Some event
 some_in None event same = absurd cc
 some_in (Some other) event same = let is : other ≡ event = cc in cc
 
-found_in : (read : Result (Option Event) PduFault) (event : Event) → heard_in read ≡ Ok event → read ≡ Ok (Some event)
+found_in : (read : Result (Option Event) PduFault) (event : Event) → heard_event_in read ≡ Ok event → read ≡ Ok (Some event)
 found_in (Err fault) event same = absurd cc
 found_in (Ok came) event same = ap Ok (some_in came event same)
 
 -- the event that was heard is that of the octets
-pub event_heard : (octets : List ℕ) (event : Event) → heard octets ≡ Ok event → event_at octets ≡ Ok (Some event)
+pub event_heard : (octets : List ℕ) (event : Event) → heard_event octets ≡ Ok event → event_at octets ≡ Ok (Some event)
 event_heard octets event same = found_in (event_at octets) event same
 
 -- ---- no PDU asks for an outcome
@@ -56,19 +56,19 @@ comes_otherwise (pdus.Eof h eof) event same = not_away h.toward_sender (Eof h eo
 comes_otherwise (pdus.Finished h finished) event same = absurd cc
 comes_otherwise (pdus.NotOurs h directive) event same = absurd cc
 
-heard_otherwise : (read : Result Pdu PduFault) (event : Event) → heard_in (event_from read) ≡ Ok event → is_take event ≡ false
+heard_otherwise : (read : Result Pdu PduFault) (event : Event) → heard_event_in (event_from read) ≡ Ok event → is_take event ≡ false
 heard_otherwise (Err fault) event same = absurd cc
 heard_otherwise (Ok pdu) event same = comes_otherwise pdu event (some_in (event_of pdu) event same)
 
 -- so no reply to one has an outcome
-pub heard_fits : (W V : World) (octets : List ℕ) (event : Event) (reply : Reply) → heard octets ≡ Ok event → next W event ≡ (V, reply) → FitsReply reply
+pub heard_fits : (W V : World) (octets : List ℕ) (event : Event) (reply : Reply) → heard_event octets ≡ Ok event → next W event ≡ (V, reply) → FitsReply reply
 heard_fits W V octets event (replied.Taken outcome) same follows =
     absurd (true≢false (only_take_hands_out W event (replied.Taken outcome) V follows (heard_otherwise (pdu_at octets) event same)))
 heard_fits W V octets event reply same follows = tt
 
 -- what is written of an event that was heard is what its octets come to
 pub heard_told : (W V : World) (octets : List ℕ) (event : Event) (id : TransactionId) (reply : Reply) (before after : List ℕ)
-    → heard octets ≡ Ok event → id ≡ about event → next W event ≡ (V, reply) → after ≡ before ++ reply_line id reply
+    → heard_event octets ≡ Ok event → id ≡ about event → next W event ≡ (V, reply) → after ≡ before ++ reply_line id reply
     → (lines : List ℕ) × (read_told W (event_at octets) ≡ (Running V, lines)) × (after ≡ before ++ lines)
 heard_told W V octets event id reply before after same named follows written = (
   reply_line id reply,

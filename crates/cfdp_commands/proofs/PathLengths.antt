@@ -3,7 +3,7 @@ use Rattle.std.proofs.Common.{◌≡◌, ◌∙◌, ap, ℕ, zero, suc, ◌+◌,
 use Rattle.std.specs.Prelude.{if◌then◌else◌}
 use Rattle.std.proofs.lemmas.List.Elements.{All-head, All-tail}
 use Rattle.cfdp_paths.specs.Paths.{Name, Path, IsName, Spells, joined, names_in, slash, path_of, without_slash}
-use Rattle.cfdp_paths.specs.Faults.{fault_of, fault_of_name, first_fault, or_else}
+use Rattle.cfdp_paths.specs.Faults.{fault_of, fault_of_name, first_fault, or_fault}
 use Rattle.cfdp_paths.specs.declared.fault.PathFault.{PathFault}
 use Rattle.cfdp_paths.specs.declared.fault.PathFault.TheVariants.{Empty, EmptyName, BadName, NameTooLong, Memory}
 use Rattle.cfdp_paths.proofs.Spelling.{spelled_from_path_of}
@@ -41,7 +41,7 @@ names_fault : (room : ℕ) (names : List Name) → first_fault room names ≡ So
 names_fault room [] e = absurd cc
 names_fault zero (n ∷ names) e = absurd cc
 names_fault (suc room) (n ∷ names) e =
-    elim (fault_of_name n) as (λ o. fault_of_name n ≡ o → or_else o (first_fault room names) ≡ Some Memory → ⊥) [
+    elim (fault_of_name n) as (λ o. fault_of_name n ≡ o → or_fault o (first_fault room names) ≡ Some Memory → ⊥) [
       | None ↦ λ is same. names_fault room names same
       | Some fault ↦ λ is same. name_fault _ _ _ (is ∙ same)
     ] refl e

@@ -9,9 +9,9 @@ use Rattle.cfdp_transactions.specs.World.{World}
 use Rattle.cfdp_transactions.specs.Writable.{IsReadable, FitsReply, OutcomesFit}
 use Rattle.cfdp_engine.specs.declared.entry.Entry.{Entry}
 use Rattle.cfdp_engine.specs.declared.receipt.Receipt.{Receipt}
-use Rattle.cfdp_engine.specs.Journal.{IsHistory, events_of, replies_of}
-use Rattle.cfdp_engine.specs.Seats.{Seated, receipts_in, is_taken, AreApart, AreEntered, AllEntered, IsReconciled}
-use Rattle.cfdp_engine.specs.Sharing.{told_of}
+use Rattle.cfdp_engine.specs.Journal.{IsHistory, journal_events, replies_of}
+use Rattle.cfdp_engine.specs.Seats.{Seated, receipts_in, is_number_taken, SeatsDiffer, AreEntered, AllEntered, IsReconciled}
+use Rattle.cfdp_engine.specs.Sharing.{receipt_events}
 use Rattle.cfdp_commands.specs.Linked.{AreHanded, HasReadable, Handed, events_by}
 use Rattle.cfdp_commands.specs.Links.{Said}
 
@@ -32,23 +32,23 @@ or_true : (b : Bool) → (b || true) ≡ true
 or_true true = refl
 or_true false = refl
 
-taken_more : (before : List Seated) (s : Seated) (number : ℕ) → IsTrue (is_taken before number) → IsTrue (is_taken (before ++ s ∷ []) number)
+taken_more : (before : List Seated) (s : Seated) (number : ℕ) → IsTrue (is_number_taken before number) → IsTrue (is_number_taken (before ++ s ∷ []) number)
 taken_more before s number taken =
     list_any-append (λ t. t.number == number) before (s ∷ [])
     ∙ ap (λ (b : Bool). b || list_any (λ t. t.number == number) (s ∷ [])) taken
 
-taken_here : (before : List Seated) (s : Seated) → IsTrue (is_taken (before ++ s ∷ []) s.number)
+taken_here : (before : List Seated) (s : Seated) → IsTrue (is_number_taken (before ++ s ∷ []) s.number)
 taken_here [] s = search rules
 taken_here (t ∷ ts) s = ap (λ (b : Bool). (t.number == s.number) || b) (taken_here ts s) ∙ or_true (t.number == s.number)
 
-none_has : (before seats : List Seated) (number : ℕ) → IsTrue (is_taken before number) → AreApart before seats → NoneHas number seats
+none_has : (before seats : List Seated) (number : ℕ) → IsTrue (is_number_taken before number) → SeatsDiffer before seats → NoneHas number seats
 none_has before [] number taken apart = tt
 none_has before (s ∷ ss) number taken apart = (
-  (λ same. both (is_taken before number) taken (subst (λ (n : ℕ). IsFalse (is_taken before n)) same apart.0)),
+  (λ same. both (is_number_taken before number) taken (subst (λ (n : ℕ). IsFalse (is_number_taken before n)) same apart.0)),
   none_has (before ++ s ∷ []) ss number (taken_more before s number taken) apart.1,
 )
 
-differ : (before seats : List Seated) → AreApart before seats → Differ seats
+differ : (before seats : List Seated) → SeatsDiffer before seats → Differ seats
 differ before [] apart = tt
 differ before (s ∷ ss) apart = (none_has (before ++ s ∷ []) ss s.number (taken_here before s) apart.1, differ (before ++ s ∷ []) ss apart.1)
 
@@ -58,11 +58,11 @@ differ before (s ∷ ss) apart = (none_has (before ++ s ∷ []) ss s.number (tak
 record PassesOne (J : List Entry) (number place : ℕ) (e : Entry) (rs : List Receipt) : Type 0 where
   left : List Receipt
   entered : AreEntered J number (place + 1) left
-  readable : AllByRecursion IsReadable (told_of left)
-  either : (rs ≡ left) ⊎ ((length rs ≡ length left + 1) × (e.seat ≡ number) × IsReadable e.event × (told_of rs ≡ e.event ∷ told_of left))
+  readable : AllByRecursion IsReadable (receipt_events left)
+  either : (rs ≡ left) ⊎ ((length rs ≡ length left + 1) × (e.seat ≡ number) × IsReadable e.event × (receipt_events rs ≡ e.event ∷ receipt_events left))
 
 pass_here : (J : List Entry) (number place : ℕ) (e : Entry) (r : Receipt) (rs : List Receipt) → slice_get J place ≡ Some e → place ≡ r.place
-    → AreEntered J number place (r ∷ rs) → AllByRecursion IsReadable (told_of (r ∷ rs)) → PassesOne J number place e (r ∷ rs)
+    → AreEntered J number place (r ∷ rs) → AllByRecursion IsReadable (receipt_events (r ∷ rs)) → PassesOne J number place e (r ∷ rs)
 pass_here J number place e r rs at same entered readable =
     let is : e ≡ record { seat = number; event = r.event; reply = r.reply } =
     let here : slice_get J place ≡ Some (record { seat = number; event = r.event; reply = r.reply }) = rw same entered.0.here in cc in
@@ -74,12 +74,12 @@ pass_here J number place e r rs at same entered readable =
         omega arith,
         ap (λ (x : Entry). x.seat) is,
         subst IsReadable (sym (ap (λ (x : Entry). x.event) is)) readable.0,
-        ap (λ (event : Event). event ∷ told_of rs) (sym (ap (λ (x : Entry). x.event) is)),
+        ap (λ (event : Event). event ∷ receipt_events rs) (sym (ap (λ (x : Entry). x.event) is)),
       );
     }
 
 pass_before : (J : List Entry) (number place : ℕ) (e : Entry) (r : Receipt) (rs : List Receipt) → place < r.place
-    → AreEntered J number place (r ∷ rs) → AllByRecursion IsReadable (told_of (r ∷ rs)) → PassesOne J number place e (r ∷ rs)
+    → AreEntered J number place (r ∷ rs) → AllByRecursion IsReadable (receipt_events (r ∷ rs)) → PassesOne J number place e (r ∷ rs)
 pass_before J number place e r rs before entered readable = record {
   left = r ∷ rs;
   entered = (record { rises = omega arith; here = entered.0.here }, entered.1);
@@ -88,7 +88,7 @@ pass_before J number place e r rs before entered readable = record {
 }
 
 pass_one : (J : List Entry) (number place : ℕ) (e : Entry) (rs : List Receipt) → slice_get J place ≡ Some e
-    → AreEntered J number place rs → AllByRecursion IsReadable (told_of rs) → PassesOne J number place e rs
+    → AreEntered J number place rs → AllByRecursion IsReadable (receipt_events rs) → PassesOne J number place e rs
 pass_one J number place e [] at entered readable = record { left = []; entered = tt; readable = tt; either = inl refl }
 pass_one J number place e (r ∷ rs) at entered readable =
     elim (eq-or-lt_of_le entered.0.rises) [
@@ -100,19 +100,19 @@ pass_one J number place e (r ∷ rs) at entered readable =
 
 -- of these entries, those of each seat have the events of its receipts
 abbrev Told : List Entry → List Seated → Type 0
-Told rest seats = AllByRecursion (λ s. events_by rest s ≡ told_of s.receipts) seats
+Told rest seats = AllByRecursion (λ s. events_by rest s ≡ receipt_events s.receipts) seats
 
 told_other : (e : Entry) (rest : List Entry) (s : Seated) (left : List Receipt) → s.receipts ≡ left → (e.seat ≢ s.number)
-    → events_by rest (record { number = s.number; receipts = left }) ≡ told_of left → events_by (e ∷ rest) s ≡ told_of s.receipts
+    → events_by rest (record { number = s.number; receipts = left }) ≡ receipt_events left → events_by (e ∷ rest) s ≡ receipt_events s.receipts
 told_other e rest s left same other told =
     let others = filter (λ (x : Entry). x.seat == s.number) rest in
-    ap (λ (b : Bool). events_of (cond b (e ∷ others) others)) (ne_eqb e.seat s.number other) ∙ told ∙ ap told_of (sym same)
+    ap (λ (b : Bool). journal_events (cond b (e ∷ others) others)) (ne_eqb e.seat s.number other) ∙ told ∙ ap receipt_events (sym same)
 
-told_own : (e : Entry) (rest : List Entry) (s : Seated) (left : List Receipt) → told_of s.receipts ≡ e.event ∷ told_of left → (e.seat ≡ s.number)
-    → events_by rest (record { number = s.number; receipts = left }) ≡ told_of left → events_by (e ∷ rest) s ≡ told_of s.receipts
+told_own : (e : Entry) (rest : List Entry) (s : Seated) (left : List Receipt) → receipt_events s.receipts ≡ e.event ∷ receipt_events left → (e.seat ≡ s.number)
+    → events_by rest (record { number = s.number; receipts = left }) ≡ receipt_events left → events_by (e ∷ rest) s ≡ receipt_events s.receipts
 told_own e rest s left same own told =
     let others = filter (λ (x : Entry). x.seat == s.number) rest in
-    ap (λ (b : Bool). events_of (cond b (e ∷ others) others)) (eq-eqb e.seat s.number own)
+    ap (λ (b : Bool). journal_events (cond b (e ∷ others) others)) (eq-eqb e.seat s.number own)
     ∙ ap (λ (events : List Event). e.event ∷ events) told
     ∙ sym same
 
@@ -229,7 +229,7 @@ none_left J place (s ∷ ss) end entered =
 -- there are at most as many receipts as entries are left, and if there are as many, each of these is one of them
 record Covered (rest : List Entry) (seats : List Seated) : Type 0 where
   few : receipts_in seats ≤ length rest
-  readable : receipts_in seats ≡ length rest → AllByRecursion IsReadable (events_of rest)
+  readable : receipts_in seats ≡ length rest → AllByRecursion IsReadable (journal_events rest)
 
 covered_one : (J : List Entry) (place : ℕ) (e : Entry) (rest : List Entry) (seats : List Seated) (p : Passes J place e seats)
     → Covered rest p.left → Covered (e ∷ rest) seats
@@ -256,7 +256,7 @@ each_from : (J : List Entry) (seats : List Seated) → AllEntered J seats → Ea
 each_from J [] entered = tt
 each_from J (s ∷ ss) entered = (entered.0, each_from J ss entered.1)
 
-no_receipts : (rs : List Receipt) → length rs ≡ 0 → told_of rs ≡ []
+no_receipts : (rs : List Receipt) → length rs ≡ 0 → receipt_events rs ≡ []
 no_receipts [] none = refl
 no_receipts (r ∷ rs) none = absurd (omega arith)
 
@@ -285,7 +285,7 @@ from_first J i = let same : 0 + i ≡ i = omega arith in ap (λ (k : ℕ). slice
 
 -- what the seats were informed of is what the journal has of them
 handed_by : (J : List Entry) (number : ℕ) (files : List (List Said)) (seats : List Seated) (dropped : List ℕ) → Told J seats
-    → AreHanded (λ s. told_of s.receipts) number files seats dropped → AreHanded (events_by J) number files seats dropped
+    → AreHanded (λ s. receipt_events s.receipts) number files seats dropped → AreHanded (events_by J) number files seats dropped
 handed_by J number [] [] [] known handed = tt
 handed_by J number (said ∷ files) (seat ∷ seats) (dropped ∷ others) known handed = (
   handed.0,
@@ -295,7 +295,7 @@ handed_by J number (said ∷ files) (seat ∷ seats) (dropped ∷ others) known 
 handed_by J number files seats others known handed = absurd handed
 
 handed_in : (J : List Entry) (files : List (List Said)) (seats : List Seated) (dropped : List ℕ) → IsReconciled J seats
-    → AllByRecursion HasReadable seats → AreHanded (λ s. told_of s.receipts) 0 files seats dropped → AreHanded (events_by J) 0 files seats dropped
+    → AllByRecursion HasReadable seats → AreHanded (λ s. receipt_events s.receipts) 0 files seats dropped → AreHanded (events_by J) 0 files seats dropped
 handed_in J files seats dropped reconciled readable handed =
     handed_by J 0 files seats dropped
     (told J 0 J seats (from_first J) (each_from J seats reconciled.entered) readable (differ [] seats reconciled.apart) (sym reconciled.counted))
@@ -303,11 +303,11 @@ handed_in J files seats dropped reconciled readable handed =
 
 -- where the seats are those that were asked
 pub handed_by_same : (J : List Entry) (files : List (List Said)) (seats asked : List Seated) (dropped : List ℕ) → IsReconciled J seats
-    → seats ≡ asked → AllByRecursion HasReadable asked → AreHanded (λ s. told_of s.receipts) 0 files asked dropped
+    → seats ≡ asked → AllByRecursion HasReadable asked → AreHanded (λ s. receipt_events s.receipts) 0 files asked dropped
     → AreHanded (events_by J) 0 files seats dropped
 handed_by_same J files seats asked dropped reconciled same readable handed =
     handed_in J files seats dropped reconciled (subst (AllByRecursion HasReadable) (sym same) readable)
-    (subst (λ (ss : List Seated). AreHanded (λ s. told_of s.receipts) 0 files ss dropped) (sym same) handed)
+    (subst (λ (ss : List Seated). AreHanded (λ s. receipt_events s.receipts) 0 files ss dropped) (sym same) handed)
 
 -- what seats handed in may come from PDUs that were read: so may all of a journal that is theirs, and its replies can be written
 pub replies_fit : OutcomesFit → (J : List Entry) (W : World) (seats : List Seated) → IsHistory J W → IsReconciled J seats
@@ -315,7 +315,7 @@ pub replies_fit : OutcomesFit → (J : List Entry) (W : World) (seats : List Sea
 replies_fit law J W seats history reconciled readable =
     let all = covered J 0 J seats (from_first J) (each_from J seats reconciled.entered) readable
     (differ [] seats reconciled.apart) in
-    subst (AllByRecursion FitsReply) history.replies (law W.config (events_of J) (all.readable (sym reconciled.counted)))
+    subst (AllByRecursion FitsReply) history.replies (law W.config (journal_events J) (all.readable (sym reconciled.counted)))
 
 -- what follows from what an answer is
 pub if_ok : {T E : Type 0} {P Q : T → Type 0} (result : Result T E) → ((answer : T) → P answer → Q answer) → IfOk result P → IfOk result Q

@@ -6,7 +6,8 @@ use Rattle.std.specs.Prelude.{List}
 use Rattle.cfdp_paths.specs.Paths.{Path}
 use Rattle.cfdp_actions.specs.Prefixes.{same_paths}
 use Rattle.cfdp_transactions.specs.Config.{Config}
-use Rattle.cfdp_transactions.specs.ConfigEquality.{config_equiv, same_config, same_store, same_counts}
+use Rattle.cfdp_transactions.specs.ConfigEquality.{same_config, same_store, same_counts}
+use Rattle.cfdp_transactions.specs.code.ConfigEquality.{config_equiv}
 
 paths_are : (ps qs : List Path) → same_paths ps qs ≡ true → ps ≡ qs
 paths_are ps qs same =

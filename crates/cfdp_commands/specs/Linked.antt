@@ -1,15 +1,6 @@
 -- What a run of `links` is.
 --
---   AddsLine         a line moved the stage on, and what it says came after what was there
---   IsBadLine        why a file is not read: out of memory, or the bad line that there is
 --   IsBadFile        why the files are not read: the same, of the first file that has a bad line
---   IsRunFault       a fault after the reading of all files, but not the writer's
---   fault_of         what a stop of a worker is to the whole run
---   first_stop       why the first worker stopped that did
---   Agree            each worker took what its file says, the entity has this configuration, and the seats' receipts
---                    are its journal
---   IsWorkFault      why there is no text of what workers did: the first stop; without a stop, out of memory, or they
---                    do not agree
 --   IsHeard          what is said may be handed in: of what is no PDU, an event whose outcome can be written
 --   HasReadable      the events that a seat handed in may come from PDUs that were read
 --   AllNumbered      a fact of each of some things, by their numbers
@@ -27,40 +18,24 @@
 --   IsLinkedBy       the same of some scripts, none of which has a bad line
 --   IsLinkRun        such a text was written
 --   IsLinkLost       a writer failed within such a text: a beginning of it was written, as far as the writer shows
-use Rattle.std.specs.Prelude.{◌≡◌, ⊤, ℕ, ◌+◌, List, [], ◌∷◌, ◌++◌, map, filter, ◌==◌, Option, Some, None, Result, Ok, Err, IsOk}
+use Rattle.std.specs.Prelude.{◌≡◌, ⊤, ℕ, ◌+◌, List, [], ◌∷◌, map, filter, ◌==◌, Option, None, Result, Ok, Err, IsOk}
 use Rattle.std.specs.Io.KnownBytes.{Appends}
 use Rattle.std.specs.List.{AllByRecursion}
-use Rattle.cfdp_transactions.specs.Config.{Config}
 use Rattle.cfdp_transactions.specs.declared.event.Event.{Event}
 use Rattle.cfdp_transactions.specs.World.{World}
 use Rattle.cfdp_transactions.specs.Writable.{IsReadable}
 use Rattle.cfdp_engine.specs.declared.entry.Entry.{Entry}
-use Rattle.cfdp_engine.specs.Journal.{IsHistory, Recorded, events_of}
+use Rattle.cfdp_engine.specs.Journal.{IsHistory, journal_events}
 use Rattle.cfdp_engine.specs.Seats.{Seated, IsReconciled}
-use Rattle.cfdp_engine.specs.Sharing.{told_of}
+use Rattle.cfdp_engine.specs.Sharing.{receipt_events}
 use Rattle.cfdp_engine.specs.declared.message.Message.{Message}
 use Rattle.cfdp_engine.specs.Working.{BringAll, passed_over}
-use Rattle.cfdp_engine.specs.declared.stop.Stop.{Stop}
-use Rattle.cfdp_engine.specs.declared.stop.Stop.TheVariants as stops
 use Rattle.cfdp_engine.specs.declared.working.Worked.{Worked}
 use Rattle.cfdp_commands.specs.JournalTexts.{journal_text}
-use Rattle.cfdp_commands.specs.Links.{Said, Happened, said_of, Reading, Files, link_answer, link_files}
-use Rattle.cfdp_commands.specs.Replay.{Stage}
-use Rattle.cfdp_lines.specs.Report.{line_answer}
+use Rattle.cfdp_commands.specs.Links.{Said, Happened, said_of, Files, link_files}
 use Rattle.cfdp_streams.specs.Streams.{LostWithin}
 use Rattle.cfdp_lines.specs.declared.faults.LinkFault.{LinkFault}
-use Rattle.cfdp_lines.specs.declared.faults.LinkFault.TheVariants.{Memory, BadLine, JournalFull, ReceiptsDiffer}
-
--- a line moved the stage on, and what it says came after what was there
-pub record AddsLine (from to : Stage) (line : List ℕ) (before after : List Said) : Type 0 where
-  pub said : List Said
-  pub answered : line_answer link_answer from line ≡ Some (to, said)
-  pub appended : after ≡ before ++ said
-
-abbrev pub IsBadLine : Result Reading ℕ → (file : ℕ) → LinkFault → Type 0
-IsBadLine read file Memory = ⊤
-IsBadLine read file (BadLine named line) = (named ≡ file) × (read ≡ Err line)
-IsBadLine read file fault = ⊥
+use Rattle.cfdp_lines.specs.declared.faults.LinkFault.TheVariants.{Memory, BadLine}
 
 abbrev pub IsBadFile : Result Files (ℕ × ℕ) → LinkFault → Type 0
 IsBadFile read Memory = ⊤
@@ -72,45 +47,12 @@ Stops read Memory = ⊤
 Stops read (BadLine file line) = read ≡ Err (file, line)
 Stops read fault = IsOk read
 
-abbrev pub IsRunFault : LinkFault → Type 0
-IsRunFault Memory = ⊤
-IsRunFault JournalFull = ⊤
-IsRunFault ReceiptsDiffer = ⊤
-IsRunFault fault = ⊥
-
-abbrev pub fault_of : Stop → LinkFault
-fault_of stops.Memory = Memory
-fault_of stops.JournalFull = JournalFull
-
-abbrev pub or_later : Option Stop → Option Stop → Option Stop
-or_later None later = later
-or_later (Some stop) later = Some stop
-
-abbrev pub first_stop : List Worked → Option Stop
-first_stop [] = None
-first_stop (worked ∷ workers) = or_later worked.stopped (first_stop workers)
-
-abbrev pub took_of : List Worked → List (List Said)
-took_of workers = map (λ worked. map said_of worked.taken.items) workers
-
-pub record Agree (config : Config) (journaled : Recorded) (said : List (List Said))
-    (workers : List Worked) : Type 0 where
-  pub took : took_of workers ≡ said
-  pub configured : journaled.core.world.config ≡ config
-  pub reconciled : IsReconciled journaled.journal (map (λ worked. worked.seat) workers)
-
-abbrev pub IsWorkFault : Option Stop → (agree : Type 0) → LinkFault → Type 0
-IsWorkFault (Some stop) agree fault = fault ≡ fault_of stop
-IsWorkFault None agree Memory = ⊤
-IsWorkFault None agree ReceiptsDiffer = ¬ agree
-IsWorkFault None agree fault = ⊥
-
 abbrev pub IsHeard : Said → Type 0
 IsHeard (Happened event) = IsReadable event
 IsHeard said = ⊤
 
 abbrev pub HasReadable : Seated → Type 0
-HasReadable seat = AllByRecursion IsReadable (told_of seat.receipts)
+HasReadable seat = AllByRecursion IsReadable (receipt_events seat.receipts)
 
 abbrev pub AllNumbered : {X : Type 0} → (ℕ → X → Type 0) → ℕ → List X → Type 0
 AllNumbered P number [] = ⊤
@@ -118,7 +60,7 @@ AllNumbered P number (x ∷ xs) = P number x × AllNumbered P (number + 1) xs
 
 pub record IsDone (number : ℕ) (worked : Worked) : Type 0 where
   pub seat : worked.seat.number ≡ number
-  pub brought : BringAll worked.taken.items (told_of worked.seat.receipts)
+  pub brought : BringAll worked.taken.items (receipt_events worked.seat.receipts)
   pub dropped : worked.dropped ≡ passed_over worked.taken.items
 
 pub record IsWork (number : ℕ) (worked : Worked) : Type 0 where
@@ -137,7 +79,7 @@ AreHanded events number (said ∷ files) (seat ∷ seats) (dropped ∷ others) =
 AreHanded events number files seats others = ⊥
 
 abbrev pub events_by : List Entry → Seated → List Event
-events_by journal seat = events_of (filter (λ e. e.seat == seat.number) journal)
+events_by journal seat = journal_events (filter (λ e. e.seat == seat.number) journal)
 
 pub record IsLinked (files : Files) (text : List ℕ) : Type 0 where
   pub journal : List Entry

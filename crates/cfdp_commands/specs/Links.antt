@@ -3,8 +3,8 @@
 --   Said           what a line says: the octets of a PDU that came, something of the entity's own, or a run
 --   said_of        what a message to a worker says
 --   running        the stage after the first event: the configuration is set
---   said_by        the stage after a command, and what it says to a worker; nothing where it is bad at this stage. As in
---                  `replay`, without `list`
+--   said_by        the stage after a command, and what it says to a worker; nothing where it is bad at this stage. As
+--                  in `replay`, without `list`
 --   link_said      what a line does, by what it says; one without words does nothing
 --   link_answer    what a line does: the stage after it, and what it says to a worker; nothing where it is bad
 --   Reading        how far a file is read: the stage, and what its lines said
@@ -22,7 +22,7 @@ use Rattle.cfdp_engine.specs.declared.message.Message.TheVariants as messages
 use Rattle.cfdp_commands.specs.Commands.{Command, command_in, local_event}
 use Rattle.cfdp_commands.specs.Commands as command
 use Rattle.cfdp_lines.specs.Lines.{lines_of}
-use Rattle.cfdp_commands.specs.Replay.{Stage, Running, at_first, configured, protected, silent, world_of}
+use Rattle.cfdp_commands.specs.Replay.{Stage, Running, at_first, configured, protected, silent, stage_world}
 use Rattle.cfdp_lines.specs.Report.{line_answer}
 
 pub data Said : Type 0 where
@@ -35,27 +35,22 @@ said_of (messages.Pdu octets) = Came octets.items
 said_of (messages.Event event) = Happened (arc_value event)
 said_of messages.Run = Steps
 
--- a line may say nothing
-abbrev pub said_in : Option Message → List Said
-said_in None = []
-said_in (Some message) = said_of message ∷ []
-
 -- ---- lines
 
 abbrev pub running : Stage → Stage
-running stage = Running (world_of stage)
+running stage = Running (stage_world stage)
 
-abbrev pub says : Stage → Said → Option (Stage × List Said)
-says stage said = Some (running stage, said ∷ [])
+abbrev pub says_one : Stage → Said → Option (Stage × List Said)
+says_one stage said = Some (running stage, said ∷ [])
 
 -- a line that prepares the entity says nothing to a worker
 abbrev pub said_by : Stage → Command → Option (Stage × List Said)
 said_by stage (command.Config entity blocks cap checks journal) =
     silent (configured stage entity blocks cap checks journal)
 said_by stage (command.Protect octets) = silent (protected stage octets)
-said_by stage (command.Pdu octets) = says stage (Came octets)
-said_by stage (command.Local which id) = says stage (Happened (local_event which id))
-said_by stage command.Run = says stage Steps
+said_by stage (command.Pdu octets) = says_one stage (Came octets)
+said_by stage (command.Local which id) = says_one stage (Happened (local_event which id))
+said_by stage command.Run = says_one stage Steps
 said_by stage command.ListAll = None
 
 -- a bad line, one without words, or a command
@@ -99,7 +94,7 @@ files_then file said (Err line) later = Err (file, line)
 files_then file said (Ok reading) later = later (running reading.stage) (said ++ reading.said ∷ [])
 
 abbrev pub files_from : ℕ → Stage → List (List Said) → List (List ℕ) → Result Files (ℕ × ℕ)
-files_from file stage said [] = Ok (record { config = (world_of stage).config; said = said })
+files_from file stage said [] = Ok (record { config = (stage_world stage).config; said = said })
 files_from file stage said (script ∷ scripts) =
     files_then file said (file_said stage script) (λ after more. files_from (file + 1) after more scripts)
 

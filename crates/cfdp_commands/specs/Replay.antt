@@ -6,9 +6,9 @@
 --   most_runs         how many steps `run` takes at most
 --   configured        the stage after a configuration is given, by its five numbers
 --   protected         the stage after a path is protected, by its octets
---   world_of          the world as the first event, and each later one, finds it
+--   stage_world       the world as the first event, and each later one, finds it
 --   silent            the stage after a line that writes nothing
---   told              the stage after some events, and the lines of their replies
+--   told_events       the stage after some events, and the lines of their replies
 --   steps_from        the steps of `run`, of the first transaction that can take one until none can
 --   read_told         what a PDU comes to, from what reading it answers
 --   obeyed            what a command does; nothing where it is bad at this stage
@@ -19,7 +19,7 @@ use Rattle.std.specs.Prelude.{ℕ, zero, suc, nat_lt, Bool, true, false, if◌th
 use Rattle.cfdp_status.specs.declared.transaction.TransactionId.{TransactionId}
 use Rattle.cfdp_paths.specs.Paths.{Path, path_of}
 use Rattle.cfdp_pdus.specs.declared.fault.PduFault.{PduFault}
-use Rattle.cfdp_transactions.specs.Config.{Config, first_fault}
+use Rattle.cfdp_transactions.specs.Config.{Config, config_fault}
 use Rattle.cfdp_transactions.specs.declared.config.ConfigFault.{ConfigFault}
 use Rattle.cfdp_transactions.specs.Events.{event_at}
 use Rattle.cfdp_transactions.specs.declared.event.Event.{Event}
@@ -54,7 +54,7 @@ config_without None config = Some (Preparing false config)
 -- only the first line that is not passed over may be one
 abbrev pub configured : Stage → (entity blocks cap checks journal : ℕ) → Option Stage
 configured (Preparing true config) entity blocks cap checks journal =
-    config_without (first_fault blocks cap checks journal)
+    config_without (config_fault blocks cap checks journal)
     (record { entity = entity; blocks = blocks; cap = cap; checks = checks; journal = journal; prefixes = [] })
 configured stage entity blocks cap checks journal = None
 
@@ -72,12 +72,12 @@ protected (Running W) octets = None
 
 -- ---- events
 
-abbrev pub world_of : Stage → World
-world_of (Preparing is_first config) = start config
-world_of (Running W) = W
+abbrev pub stage_world : Stage → World
+stage_world (Preparing is_first config) = start config
+stage_world (Running W) = W
 
-abbrev pub told : World → List Event → Stage × List ℕ
-told W events = (Running (run W events), told_lines events (replies W events))
+abbrev pub told_events : World → List Event → Stage × List ℕ
+told_events W events = (Running (run W events), told_lines events (replies W events))
 
 -- the first step, and those after it
 abbrev pub steps_by : Option TransactionId → (TransactionId → List Event) → List Event
@@ -92,7 +92,7 @@ steps_from (suc more) W = steps_by (next_runnable W.table) (λ id. steps_from mo
 abbrev pub read_told : World → Result (Option Event) PduFault → Stage × List ℕ
 read_told W (Err fault) = (Running W, fault_line fault)
 read_told W (Ok None) = (Running W, not_ours)
-read_told W (Ok (Some event)) = told W (event ∷ [])
+read_told W (Ok (Some event)) = told_events W (event ∷ [])
 
 -- ---- lines
 
@@ -104,10 +104,10 @@ abbrev pub obeyed : Stage → Command → Option (Stage × List ℕ)
 obeyed stage (command.Config entity blocks cap checks journal) =
     silent (configured stage entity blocks cap checks journal)
 obeyed stage (command.Protect octets) = silent (protected stage octets)
-obeyed stage (command.Pdu octets) = Some (read_told (world_of stage) (event_at octets))
-obeyed stage (command.Local which id) = Some (told (world_of stage) (local_event which id ∷ []))
-obeyed stage command.Run = Some (told (world_of stage) (steps_from most_runs (world_of stage)))
-obeyed stage command.ListAll = Some (Running (world_of stage), listing_text (world_of stage))
+obeyed stage (command.Pdu octets) = Some (read_told (stage_world stage) (event_at octets))
+obeyed stage (command.Local which id) = Some (told_events (stage_world stage) (local_event which id ∷ []))
+obeyed stage command.Run = Some (told_events (stage_world stage) (steps_from most_runs (stage_world stage)))
+obeyed stage command.ListAll = Some (Running (stage_world stage), listing_text (stage_world stage))
 
 -- a bad line, one without words, or a command
 abbrev pub answered : Stage → Option (Option Command) → Option (Stage × List ℕ)

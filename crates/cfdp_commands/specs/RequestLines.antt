@@ -4,7 +4,7 @@
 --   answerable      the request of a value, if it can be answered: one of 255 octets cannot, because its response
 --                   would be longer than a TLV can be
 --   request_alone   the request of a TLV's type and value, with nothing after it
---   request_in      the request of a TLV that was read, or of one that is cut
+--   request_of_tlv  the request of a TLV that was read, or of one that is cut
 --   request_on      the request of a line's octets, or the first fault: TLV cut, octets after it, another type, a value
 --                   that is no request, a value of 255 octets
 --   dropped_text    the line that is written for a line that is dropped
@@ -41,12 +41,12 @@ request_alone kind value (octet ∷ octets) = Err Trailing
 request_alone kind value [] = if kind == 0 then answerable value (request_at value) else Err NotARequest
 
 -- the whole line is one TLV, of type 00
-abbrev pub request_in : Result (ℕ × List ℕ × List ℕ) TlvFault → Result RequestFields Dropped
-request_in (Err fault) = Err Truncated
-request_in (Ok field) = request_alone field.0 field.1 field.2
+abbrev pub request_of_tlv : Result (ℕ × List ℕ × List ℕ) TlvFault → Result RequestFields Dropped
+request_of_tlv (Err fault) = Err Truncated
+request_of_tlv (Ok field) = request_alone field.0 field.1 field.2
 
 abbrev pub request_on : List ℕ → Result RequestFields Dropped
-request_on octets = request_in (tlv_at octets)
+request_on octets = request_of_tlv (tlv_at octets)
 
 -- the line that is written for a dropped one
 abbrev pub dropped_text : Dropped → List ℕ

@@ -2,8 +2,7 @@
 --
 --   setup_of     the stage that a setup is: before the first event, or right at it
 --   stage_of     the stage of a script of `replay`
---   HasBegun     it has an entity
-use Rattle.std.specs.Prelude.{⊤, true, false}
+use Rattle.std.specs.Prelude.{true, false}
 use Rattle.cfdp_transactions.specs.Config.{Config}
 use Rattle.cfdp_transactions.specs.World.{start}
 use Rattle.cfdp_commands.specs.Replay as spec
@@ -24,7 +23,3 @@ setup_of setup = stage_by setup.progress (record setup.config { prefixes = setup
 abbrev pub stage_of : Stage → spec.Stage
 stage_of (Preparing setup) = setup_of setup
 stage_of (Running W) = spec.Running W
-
-abbrev pub HasBegun : Stage → Type 0
-HasBegun (Preparing setup) = ⊥
-HasBegun (Running W) = ⊤

@@ -1,6 +1,7 @@
 //! What a line of `replay` and of `links` says.
 ghost use Rattle.std.specs.Prelude.{◌≡◌, ◌↔◌, Some, None, Err, IfOk, OnErr, option_map};
-ghost use Rattle.cfdp_commands.specs.Commands.{IsPdu, SaysPdu, alone, command_by, command_in, command_of, config_by, keyword_of, local_by, local_event, pdu_by, protect_by};
+ghost use Rattle.cfdp_commands.specs.Commands.{alone, command_by, command_in, config_by, keyword_of, local_by, local_event, pdu_by, protect_by};
+ghost use Rattle.cfdp_commands.specs.code.Commands.{IsPdu, SaysPdu, command_of};
 ghost use Rattle.cfdp_lines.specs.Hexadecimal.{octets_of_words};
 ghost use Rattle.cfdp_lines.specs.Words.{id_by, numbers_of, words_of};
 ghost use Rattle.cfdp_lines.specs.declared.script.LineFault.TheVariants.{Bad};

@@ -1,9 +1,10 @@
 //! The lines of the files of `links`: what each says to a worker.
 ghost use Rattle.std.specs.Prelude.{◌≡◌, ◌↔◌, ◌<◌, ◌≤◌, ◌∷◌, length, map, IfOk, IfErr, OnOk, OnErr, Err, Ok, Some, None};
-ghost use Rattle.cfdp_commands.specs.Commands.{command_of};
-ghost use Rattle.cfdp_commands.specs.Linked.{AddsLine, IsBadLine};
+ghost use Rattle.cfdp_commands.specs.code.Commands.{command_of};
+ghost use Rattle.cfdp_commands.specs.code.Linked.{AddsLine, IsBadLine};
 ghost use Rattle.cfdp_lines.specs.Lines.{input_limit, lines_of};
-ghost use Rattle.cfdp_commands.specs.Links.{Happened, file_said, link_answer, said_by, said_in, said_of};
+ghost use Rattle.cfdp_commands.specs.Links.{Happened, file_said, link_answer, said_by, said_of};
+ghost use Rattle.cfdp_commands.specs.code.Links.{said_in};
 ghost use Rattle.cfdp_lines.specs.Report.{line_answer};
 ghost use Rattle.cfdp_commands.specs.Stages.{setup_of};
 ghost use Rattle.cfdp_lines.specs.declared.script.LineFault.TheVariants.{Bad};

@@ -2,7 +2,7 @@
 ghost use Rattle.std.specs.Prelude.{◌≡◌, ℕ, ◌+◌, ◌≤◌, ◌++◌, length, Ok, Err, IfOk, OnOk, OnErr, Some};
 ghost use Rattle.cfdp_status.specs.Codes.{action_of};
 ghost use Rattle.cfdp_tlv.specs.Field.{tlv};
-ghost use Rattle.cfdp_tlv.specs.Grammar.{names_of, request_at, response_octets};
+ghost use Rattle.cfdp_tlv.specs.Grammar.{names_as_lv, request_at, response_octets};
 ghost use Rattle.cfdp_commands.specs.RequestLines.{answerable, request_on, response_line, response_to};
 ghost use Rattle.cfdp_commands.specs.declared.dropped.Dropped.{Dropped};
 ghost use Rattle.cfdp_commands.specs.declared.request_lines.NoRequest.TheVariants as no;
@@ -30,8 +30,8 @@ fn read_answerable(alloc: Global, value: &[u8]) -> Result<FilestoreRequest, NoRe
     ensures request { IfOk result (λ request. answerable value.now (request_at value.now) ≡ Ok request) }
     ensures dropped { (dropped : Dropped) → result ≡ Err (no.Dropped dropped)
         → answerable value.now (request_at value.now) ≡ Err dropped }
-    ensures names { IfOk result (λ request. length (names_of request.first request.second) + 1 ≡ length value.now) }
-    ensures short { IfOk result (λ request. length (names_of request.first request.second) ≤ 253) }
+    ensures names { IfOk result (λ request. length (names_as_lv request.first request.second) + 1 ≡ length value.now) }
+    ensures short { IfOk result (λ request. length (names_as_lv request.first request.second) ≤ 253) }
 {
     let parts = match request_parts(value) {
         Ok(parts) => parts,
@@ -50,7 +50,7 @@ fn read_answerable(alloc: Global, value: &[u8]) -> Result<FilestoreRequest, NoRe
 pub(crate) fn read_line(alloc: Global, octets: &[u8]) -> Result<FilestoreRequest, NoRequest>
     ensures request { IfOk result (λ request. request_on octets.now ≡ Ok request) }
     ensures dropped { (dropped : Dropped) → result ≡ Err (no.Dropped dropped) → request_on octets.now ≡ Err dropped }
-    ensures short { IfOk result (λ request. length (names_of request.first request.second) ≤ 253) }
+    ensures short { IfOk result (λ request. length (names_as_lv request.first request.second) ≤ 253) }
 {
     let Ok(field) = read_tlv(octets) else {
         return Err(NoRequest::Dropped(Dropped::Truncated));
@@ -72,7 +72,7 @@ pub(crate) fn write_answer(
     out: &mut Vec<u8>,
 ) -> Result<(), AllocError>
     requires action { action_of status ≡ request.action }
-    requires short { length (names_of request.first request.second) ≤ 253 }
+    requires short { length (names_as_lv request.first request.second) ≤ 253 }
     ensures ok { OnOk result (out.new.items ≡ out.old.items ++ response_line request status) }
     ensures kept { OnErr result (out.new.items ≡ out.old.items) }
 {
@@ -93,7 +93,7 @@ fn response_tlv(
     status: Status,
 ) -> Result<Vec<u8>, AllocError>
     requires action { action_of status ≡ request.action }
-    requires short { length (names_of request.first request.second) ≤ 253 }
+    requires short { length (names_as_lv request.first request.second) ≤ 253 }
     ensures { IfOk result (λ octets. octets.items ≡ tlv 1 (response_octets (response_to request status))) }
 {
     let mut octets = Vec::new(alloc);

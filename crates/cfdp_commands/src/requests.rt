@@ -25,14 +25,14 @@ pub struct Requests<S: Filestore> {
 
 impl<S: Filestore> Requests<S> {
     ghost use Rattle.cfdp_actions.specs.Store.{empty_store};
-    ghost use Rattle.cfdp_tlv.specs.Grammar.{names_of};
+    ghost use Rattle.cfdp_tlv.specs.Grammar.{names_as_lv};
     ghost use Rattle.cfdp_commands.specs.Plain.{plain_state, answer_to, octets_answer};
-    ghost use Rattle.cfdp_commands.specs.Scripts.{requests_of};
+    ghost use Rattle.cfdp_commands.specs.Scripts.{plain_state_of};
 
     /// No list has begun.
     pub fn new(alloc: Global, store: S) -> Self
         requires { (S.state store).capacity ≡ plain_blocks }
-        ensures { requests_of S.state result ≡ plain_state (S.state store) false }
+        ensures { plain_state_of S.state result ≡ plain_state (S.state store) false }
     {
         Requests {
             store,
@@ -66,7 +66,7 @@ impl<S: Filestore> Requests<S> {
         request: FilestoreRequest,
         out: &mut Vec<u8>,
     ) -> Result<(), AllocError>
-        requires { length (names_of request.first request.second) ≤ 253 }
+        requires { length (names_as_lv request.first request.second) ≤ 253 }
         ensures ok { OnOk result ((line : List ℕ) × (answer_to (plain_state (S.state self.old.store) self.old.stopped)
             (Ok request)
             ≡ (plain_state (S.state self.new.store) self.new.stopped, line))
@@ -104,11 +104,11 @@ impl<S: Filestore> Requests<S> {
 
 impl<S: Filestore> Script for Requests<S> {
     ghost use Rattle.cfdp_commands.specs.Plain.{PlainState, plain_answer};
-    ghost use Rattle.cfdp_commands.specs.Scripts.{requests_of};
+    ghost use Rattle.cfdp_commands.specs.Scripts.{plain_state_of};
 
     ghost State = { PlainState };
 
-    ghost state = { λ s. requests_of S.state s };
+    ghost state = { λ s. plain_state_of S.state s };
 
     ghost answer = { plain_answer };
 

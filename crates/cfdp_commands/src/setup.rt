@@ -1,8 +1,8 @@
 //! What a script sets up before its first event.
 ghost use Rattle.std.specs.Prelude.{◌≡◌, ◌↔◌, ◌≤◌, ◌^◌, [], None, Some, OnOk, OnErr, IfOk, IfSome, IsSome, Err};
-ghost use Rattle.cfdp_transactions.specs.Config.{first_fault};
+ghost use Rattle.cfdp_transactions.specs.Config.{config_fault};
 ghost use Rattle.cfdp_transactions.specs.World.{start};
-ghost use Rattle.cfdp_commands.specs.Replay.{Running, at_first, configured, default_config, protected, world_of};
+ghost use Rattle.cfdp_commands.specs.Replay.{Running, at_first, configured, default_config, protected, stage_world};
 ghost use Rattle.cfdp_commands.specs.Stages.{setup_of};
 ghost use Rattle.cfdp_lines.specs.declared.script.LineFault.TheVariants.{Bad};
 
@@ -89,8 +89,8 @@ fn config_of(
       journal = journal;
       prefixes = [];
     })
-        × (first_fault blocks cap checks journal ≡ None)) }
-    ensures bad { OnErr result (IsSome (first_fault blocks cap checks journal)) }
+        × (config_fault blocks cap checks journal ≡ None)) }
+    ensures bad { OnErr result (IsSome (config_fault blocks cap checks journal)) }
     ensures only { OnErr result (result ≡ Err Bad) }
 {
     let Some(blocks) = count_of(blocks) else {
@@ -192,14 +192,14 @@ impl Setup {
 
     /// The first event comes: nothing more is set up.
     pub(crate) fn close(&mut self)
-        ensures { setup_of self.new ≡ Running (world_of (setup_of self.old)) }
+        ensures { setup_of self.new ≡ Running (stage_world (setup_of self.old)) }
     {
         self.progress = Progress::Closed;
     }
 
     /// The configuration that was set up. It is moved out: nothing is protected any more in what is left.
     pub(crate) fn take_config(&mut self) -> Config
-        ensures { world_of (setup_of self.old) ≡ start result }
+        ensures { stage_world (setup_of self.old) ≡ start result }
     {
         with_prefixes(
             &self.config,

@@ -2,10 +2,11 @@
 ghost use Rattle.std.specs.Prelude.{◌≡◌, ◌↔◌, ◌++◌, ℕ, List, [], ◌∷◌, None, Some, OnOk, Err};
 ghost use Rattle.cfdp_transactions.specs.Writable.{IsReadable};
 ghost use Rattle.cfdp_transactions.specs.Events.{event_at};
-ghost use Rattle.cfdp_commands.specs.Commands.{command_of};
-ghost use Rattle.cfdp_commands.specs.Replay.{Running as IsRunning, at_first, configured, most_runs, obeyed, protected, read_told, steps_from, told, world_of};
+ghost use Rattle.cfdp_commands.specs.code.Commands.{command_of};
+ghost use Rattle.cfdp_commands.specs.Replay.{Running as IsRunning, at_first, configured, most_runs, obeyed, protected, read_told, steps_from, told_events, stage_world};
 ghost use Rattle.cfdp_texts.specs.Replies.{listing_text};
-ghost use Rattle.cfdp_commands.specs.Stages.{HasBegun, stage_of};
+ghost use Rattle.cfdp_commands.specs.Stages.{stage_of};
+ghost use Rattle.cfdp_commands.specs.code.Stages.{HasBegun};
 ghost use Rattle.cfdp_lines.specs.declared.script.LineFault.TheVariants.{Bad};
 
 use crate::commands::Command;
@@ -69,7 +70,7 @@ impl Stage {
     #[cold]
     #[inline(never)]
     fn create_entity(&mut self, alloc: Global) -> Result<(), AllocError>
-        ensures stage { OnOk result (stage_of self.new ≡ IsRunning (world_of (stage_of self.old))) }
+        ensures stage { OnOk result (stage_of self.new ≡ IsRunning (stage_world (stage_of self.old))) }
         ensures begun { OnOk result (HasBegun self.new) }
     {
         let Stage::Preparing(setup) = self else {
@@ -82,7 +83,7 @@ impl Stage {
 
     /// The same. Costs nothing after the first event.
     fn begin(&mut self, alloc: Global) -> Result<(), AllocError>
-        ensures stage { OnOk result (stage_of self.new ≡ IsRunning (world_of (stage_of self.old))) }
+        ensures stage { OnOk result (stage_of self.new ≡ IsRunning (stage_world (stage_of self.old))) }
         ensures begun { OnOk result (HasBegun self.new) }
     {
         match self {
@@ -94,7 +95,7 @@ impl Stage {
     /// Takes an event, and appends the line of its reply.
     fn tell(&mut self, alloc: Global, event: &Event, text: &mut Vec<u8>) -> Result<(), AllocError>
         requires { IsReadable event.now }
-        ensures { OnOk result ((lines : List ℕ) × (told (world_of (stage_of self.old)) (event.now ∷ [])
+        ensures { OnOk result ((lines : List ℕ) × (told_events (stage_world (stage_of self.old)) (event.now ∷ [])
             ≡ (stage_of self.new, lines))
             × (text.new.items ≡ text.old.items ++ lines)) }
     {
@@ -112,7 +113,7 @@ impl Stage {
         octets: &[u8],
         text: &mut Vec<u8>,
     ) -> Result<(), AllocError>
-        ensures { OnOk result ((lines : List ℕ) × (read_told (world_of (stage_of self.old)) (event_at octets.now)
+        ensures { OnOk result ((lines : List ℕ) × (read_told (stage_world (stage_of self.old)) (event_at octets.now)
             ≡ (stage_of self.new, lines))
             × (text.new.items ≡ text.old.items ++ lines)) }
     {
@@ -125,8 +126,8 @@ impl Stage {
 
     /// Performs the next items until there are none, and appends the lines of the replies.
     fn run(&mut self, alloc: Global, text: &mut Vec<u8>) -> Result<(), AllocError>
-        ensures { OnOk result ((lines : List ℕ) × (told (world_of (stage_of self.old))
-            (steps_from most_runs (world_of (stage_of self.old)))
+        ensures { OnOk result ((lines : List ℕ) × (told_events (stage_world (stage_of self.old))
+            (steps_from most_runs (stage_world (stage_of self.old)))
             ≡ (stage_of self.new, lines)) × (text.new.items ≡ text.old.items ++ lines)) }
     {
         self.begin(alloc)?;
@@ -138,8 +139,8 @@ impl Stage {
 
     /// Appends the lines of what is in the filestore.
     fn list(&mut self, alloc: Global, text: &mut Vec<u8>) -> Result<(), AllocError>
-        ensures stage { OnOk result (stage_of self.new ≡ IsRunning (world_of (stage_of self.old))) }
-        ensures text { OnOk result (text.new.items ≡ text.old.items ++ listing_text (world_of (stage_of self.old))) }
+        ensures stage { OnOk result (stage_of self.new ≡ IsRunning (stage_world (stage_of self.old))) }
+        ensures text { OnOk result (text.new.items ≡ text.old.items ++ listing_text (stage_world (stage_of self.old))) }
     {
         self.begin(alloc)?;
         let Stage::Running(entity) = self else {

@@ -3,7 +3,7 @@ ghost use Rattle.std.specs.Prelude.{◌≡◌, ◌++◌, ℕ, List, OnOk};
 ghost use Rattle.cfdp_transactions.specs.Events.{about, event_at};
 ghost use Rattle.cfdp_transactions.specs.Next.{next, replies, run};
 ghost use Rattle.cfdp_transactions.specs.Writable.{FitsReply, IsReadable};
-ghost use Rattle.cfdp_entity.specs.Hearing.{heard};
+ghost use Rattle.cfdp_entity.specs.Hearing.{heard_event};
 ghost use Rattle.cfdp_commands.specs.Replay.{Running, most_runs, read_told, steps_from};
 ghost use Rattle.cfdp_texts.specs.Replies.{listing_text, reply_line, told_lines};
 

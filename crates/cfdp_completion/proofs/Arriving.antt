@@ -18,15 +18,15 @@ use Rattle.cfdp_transactions.specs.declared.event.Event.{Event}
 use Rattle.cfdp_transactions.specs.declared.event.Event.TheVariants.{Metadata as MetadataCame, Eof as EofCame}
 use Rattle.cfdp_transactions.specs.declared.reply.Reply.{Reply}
 use Rattle.cfdp_transactions.specs.declared.reply.Reply.TheVariants as replied
-use Rattle.cfdp_transactions.specs.World.{World, entry_of, index_of, bound, spare, leases_of, free_slot}
+use Rattle.cfdp_transactions.specs.World.{World, entry_of, index_of, bound, spare_blocks, leases_of, free_slot}
 use Rattle.cfdp_transactions.specs.Admission.{judged, metadata_came, proposal_of, new_entry, is_known_checksum}
 use Rattle.cfdp_transactions.specs.Delivery.{data_came, data_at, eof_came, limit, stored, stores, storing, turns, turned, is_right_checksum}
 use Rattle.cfdp_transactions.specs.Next.{next, run, replies}
 use Rattle.cfdp_transactions.proofs.Lookups.{set_own, append_own}
-use Rattle.cfdp_transactions.proofs.Parsing.{granted_parsed}
+use Rattle.cfdp_transactions.proofs.Soundness.Parsing.{granted_parsed}
 use Rattle.cfdp_uploads.specs.Uploads.{UploadFields, IsUpload, piece_of, pieces_of, eof_of}
 use Rattle.cfdp_uploads.proofs.Pieces.{part, begins_within}
-use Rattle.cfdp_completion.specs.Delivering.{data_event, data_events, events_of, kept_piece, kept_after, StaysFew, AdmittedIsComplete}
+use Rattle.cfdp_completion.specs.Delivering.{data_event, data_events, upload_events, kept_piece, kept_after, StaysFew, AdmittedIsComplete}
 use Rattle.cfdp_completion.proofs.Keeping.{file_kept}
 
 -- ---- choices
@@ -211,7 +211,8 @@ module _ (W : World) (u : UploadFields) (granted steps : ℕ) where
   Begins a = a.1 ≡ replied.Admitted granted steps → Begun W a.0 u
 
   judged_begins : (v : Verdict) → u.header.destination ≡ W.config.entity → entry_of W (id_of u.header) ≡ None
-      → verdict W.config.prefixes W.filestore (leases_of W.table) (spare W) (proposal_of W.config u.metadata) ≡ v → Begins (judged W u.header u.metadata v)
+      → verdict W.config.prefixes W.filestore (leases_of W.table) (spare_blocks W) (proposal_of W.config u.metadata) ≡ v → Begins
+      (judged W u.header u.metadata v)
   judged_begins (Refuse r) ours absent is q = absurd cc
   judged_begins (Grant items blocks bound_steps) ours absent is q = record {
     entry = new_entry u.header u.metadata Receiving (free_slot W.table) items blocks bound_steps;
@@ -223,7 +224,7 @@ module _ (W : World) (u : UploadFields) (granted steps : ℕ) where
       metadata = refl;
       received = refl;
     };
-    items = granted_parsed W.config.prefixes W.filestore (leases_of W.table) (spare W) (proposal_of W.config u.metadata) items blocks bound_steps is;
+    items = granted_parsed W.config.prefixes W.filestore (leases_of W.table) (spare_blocks W) (proposal_of W.config u.metadata) items blocks bound_steps is;
   }
 
   metadata_begins : (o : Option Entry) → u.header.destination ≡ W.config.entity → entry_of W (id_of u.header) ≡ o
@@ -233,7 +234,7 @@ module _ (W : World) (u : UploadFields) (granted steps : ℕ) where
       cond_both (leb 64 (length W.table)) _ _ Begins (λ _ q. absurd cc)
       (λ _. cond_both (ltb 64 (length u.metadata.requests)) _ _ Begins (λ _ q. absurd cc)
       (λ _. cond_both (has_file u.metadata && not (is_known_checksum u.metadata.checksum_type)) _ _ Begins (λ _ q. absurd cc)
-      (λ _. judged_begins (verdict W.config.prefixes W.filestore (leases_of W.table) (spare W) (proposal_of W.config u.metadata)) ours absent refl)))
+      (λ _. judged_begins (verdict W.config.prefixes W.filestore (leases_of W.table) (spare_blocks W) (proposal_of W.config u.metadata)) ours absent refl)))
 
   pub begun : Begins (next W (MetadataCame u.header u.metadata))
   begun =
@@ -272,7 +273,7 @@ admitted_complete W u blocks steps is file few admitted =
     let some : 0 < length came.entry.items =
     omega (arith, ap (λ (l : List Item). length l) came.same_items, items_some W.config u.metadata first.entry.items file first.items) in
     let end = end_completes U u came.entry is file at some in
-    let over : run W (events_of u) ≡ turns U (index_of U (id_of u.header)) came.entry (Executing 0) came.entry.eof true =
+    let over : run W (upload_events u) ≡ turns U (index_of U (id_of u.header)) came.entry (Executing 0) came.entry.eof true =
     run_more V (data_events u u.order) (EofCame u.header (eof_of u) ∷ []) ∙ ap (λ (a : World × Reply). a.0) end in
     record {
       answers = ap (λ (r : Reply). r ∷ replies V (data_events u u.order ++ EofCame u.header (eof_of u) ∷ [])) admitted

@@ -9,7 +9,7 @@ use Rattle.cfdp_pdus.proofs.PduSteps.{pdu_again}
 use Rattle.cfdp_transactions.specs.Events.{event_at, event_from, event_of, to_receiver}
 use Rattle.cfdp_transactions.specs.declared.event.Event.{Event}
 use Rattle.cfdp_transactions.specs.declared.event.Event.TheVariants.{Metadata as MetadataCame, Eof as EofCame}
-use Rattle.cfdp_uploads.specs.Uploads.{UploadFields, IsUpload, eof_of, piece_pdu, pdus_of, octets_of}
+use Rattle.cfdp_uploads.specs.Uploads.{UploadFields, IsUpload, eof_of, piece_pdu, upload_pdus, sent_octets}
 use Rattle.cfdp_uploads.proofs.Pieces.{read_back}
 use Rattle.cfdp_completion.specs.Delivering.{data_event, data_events, OctetsAreEvents}
 
@@ -22,10 +22,10 @@ came event = Ok (Some event)
 abbrev taken : Pdu → Read
 taken pdu = Ok (event_of pdu)
 
-each_read : (pdus : List Pdu) → AllByRecursion (λ pdu. SpellsPdu (octets_of pdu) pdu) pdus → map (λ pdu. event_at (octets_of pdu)) pdus ≡ map taken pdus
+each_read : (pdus : List Pdu) → AllByRecursion (λ pdu. SpellsPdu (sent_octets pdu) pdu) pdus → map (λ pdu. event_at (sent_octets pdu)) pdus ≡ map taken pdus
 each_read [] all = refl
 each_read (pdu ∷ pdus) all =
-    ap (λ (read : Result Pdu PduFault). event_from read ∷ map (λ p. event_at (octets_of p)) pdus) (pdu_again (octets_of pdu) pdu all.0)
+    ap (λ (read : Result Pdu PduFault). event_from read ∷ map (λ p. event_at (sent_octets p)) pdus) (pdu_again (sent_octets pdu) pdu all.0)
     ∙ ap (λ (l : List Read). taken pdu ∷ l) (each_read pdus all.1)
 
 -- a PDU that goes toward the receiver
@@ -41,7 +41,7 @@ pieces_taken u is (index ∷ indices) =
 
 pub octets_events : OctetsAreEvents
 octets_events u is =
-    each_read (pdus_of u) (read_back u is)
+    each_read (upload_pdus u) (read_back u is)
     ∙ ap (λ (o : Option Event). Ok o ∷ map taken (map (piece_pdu u) u.order ++ pdus.Eof u.header (eof_of u) ∷ []))
     (ours u is (MetadataCame u.header u.metadata))
     ∙ ap (λ (l : List Read). came (MetadataCame u.header u.metadata) ∷ l) (pieces_taken u is u.order)

@@ -1,6 +1,6 @@
 -- What a receiving entity makes of an upload (CCSDS 727.0-B-5, copy file procedures).
 --   data_events          the File Data PDUs of some pieces, as events
---   events_of            the PDUs of an upload, as events
+--   upload_events        the PDUs of an upload, as events
 --   kept_after           what is kept after these pieces came
 --   StaysFew             after none of these pieces more than 32 separate pieces are kept
 --   IsComplete           after the events, the transaction has its whole file, and its items are performed next
@@ -23,7 +23,7 @@ use Rattle.cfdp_transactions.specs.declared.reply.Reply.TheVariants as replied
 use Rattle.cfdp_transactions.specs.World.{World, entry_of}
 use Rattle.cfdp_transactions.specs.Admission.{proposal_of}
 use Rattle.cfdp_transactions.specs.Next.{next, run, replies}
-use Rattle.cfdp_uploads.specs.Uploads.{UploadFields, IsUpload, eof_of, piece_of, pieces_of, pdus_of, octets_of}
+use Rattle.cfdp_uploads.specs.Uploads.{UploadFields, IsUpload, eof_of, piece_of, pieces_of, upload_pdus, sent_octets}
 
 abbrev pub data_event : UploadFields → ℕ → Event
 data_event u index = DataCame u.header (piece_of u index)
@@ -31,8 +31,8 @@ data_event u index = DataCame u.header (piece_of u index)
 abbrev pub data_events : UploadFields → List ℕ → List Event
 data_events u indices = map (data_event u) indices
 
-abbrev pub events_of : UploadFields → List Event
-events_of u = MetadataCame u.header u.metadata ∷ (data_events u u.order ++ EofCame u.header (eof_of u) ∷ [])
+abbrev pub upload_events : UploadFields → List Event
+upload_events u = MetadataCame u.header u.metadata ∷ (data_events u u.order ++ EofCame u.header (eof_of u) ∷ [])
 
 abbrev pub kept_piece : UploadFields → Received → ℕ → Received
 kept_piece u rs index = kept_with rs (piece_of u index).offset (piece_of u index).octets
@@ -56,7 +56,7 @@ pub record IsComplete (W V : World) (u : UploadFields) : Type 0 where
 abbrev pub OctetsAreEvents : Type 0
 OctetsAreEvents =
     (u : UploadFields) → IsUpload u →
-    map (λ pdu. event_at (octets_of pdu)) (pdus_of u) ≡ map (λ event. Ok (Some event)) (events_of u)
+    map (λ pdu. event_at (sent_octets pdu)) (upload_pdus u) ≡ map (λ event. Ok (Some event)) (upload_events u)
 
 abbrev pub FileIsKept : Type 0
 FileIsKept = (u : UploadFields) → IsUpload u → kept_after u [] u.order ≡ map Some u.file
@@ -67,8 +67,8 @@ answers_of u blocks steps =
     replied.Admitted blocks steps ∷ (replicate (length u.order) replied.Stored ++ replied.Complete ∷ [])
 
 pub record Completes (W : World) (u : UploadFields) (blocks steps : ℕ) : Type 0 where
-  pub answers : replies W (events_of u) ≡ answers_of u blocks steps
-  pub complete : IsComplete W (run W (events_of u)) u
+  pub answers : replies W (upload_events u) ≡ answers_of u blocks steps
+  pub complete : IsComplete W (run W (upload_events u)) u
 
 abbrev pub AdmittedIsComplete : Type 0
 AdmittedIsComplete =

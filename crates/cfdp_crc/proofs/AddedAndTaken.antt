@@ -7,7 +7,7 @@ use Rattle.cfdp_crc.specs.Laws.{AreOctets}
 use Rattle.cfdp_crc.specs.declared.sealing.CrcFault.{CrcFault}
 use Rattle.cfdp_crc.specs.declared.sealing.SealFault.{SealFault}
 use Rattle.cfdp_crc.specs.declared.sealing.SealFault.TheVariants.{NotAPdu, HasCrc, TooLong}
-use Rattle.cfdp_crc.specs.Seal.{header_len, sealed_by, sealed_at, opened_by, unsealed, plain_by, plain_len, with_flag, followed, sealed_from, UnsealsSealed}
+use Rattle.cfdp_crc.specs.Seal.{header_len, sealed_by, sealed_at, opened_by, unsealed, plain_by, plain_len, with_flag, with_crc, sealed_from, UnsealsSealed}
 use Rattle.cfdp_crc.proofs.Noticing.{nothing_is_left}
 
 -- a PDU that can get a CRC, by its first four octets and the others
@@ -76,12 +76,12 @@ by_right_crc octets len whole long some left =
 of_plain : (first high low fourth : ℕ) (rest : List ℕ) (L : ℕ) → AreOctets (first ∷ high ∷ low ∷ fourth ∷ rest) →
     IsPlain first high low fourth rest L →
     let front = with_flag (first ∷ high ∷ low ∷ fourth ∷ rest) L in
-    unsealed (followed front (crc_of front)) ≡ Ok (first ∷ high ∷ low ∷ fourth ∷ rest)
+    unsealed (with_crc front (crc_of front)) ≡ Ok (first ∷ high ∷ low ∷ fourth ∷ rest)
 unfolding sealed_at
 of_plain first high low fourth rest L all plain =
     let front : List ℕ = (first + 2) ∷ ((L + 2) / 256) ∷ ((L + 2) % 256) ∷ fourth ∷ rest in
     let crc = crc_of front in
-    let whole = followed front crc in
+    let whole = with_crc front crc in
     let len = 256 * ((L + 2) / 256) + (L + 2) % 256 in
     let len-is : len ≡ L + 2 = omega arith in
     let low-lt : low < 256 = all.1.1.0 in
@@ -108,7 +108,7 @@ of_plain first high low fourth rest L all plain =
     ∙ ap (λ (xs : List ℕ). Ok (first ∷ high ∷ low ∷ fourth ∷ xs)) cut
 
 of_sealed : (octets : List ℕ) (len : ℕ) → AreOctets octets → plain_len octets ≡ Ok len →
-    unsealed (followed (with_flag octets len) (crc_of (with_flag octets len))) ≡ Ok octets
+    unsealed (with_crc (with_flag octets len) (crc_of (with_flag octets len))) ≡ Ok octets
 unfolding plain_len
 of_sealed [] len all e = absurd cc
 of_sealed (a ∷ []) len all e = absurd (none_of (eqb (a / 32) 1) (eqb (a / 2 % 2) 0) len e)
@@ -120,7 +120,7 @@ of_sealed (a ∷ b ∷ c ∷ d ∷ rest) len all e = of_plain a b c d rest len a
 by_told : (found : Result ℕ SealFault) (octets whole : List ℕ) → AreOctets octets → plain_len octets ≡ found →
     sealed_from found octets ≡ Ok whole → unsealed whole ≡ Ok octets
 by_told (Ok len) octets whole all plain e =
-    let whole-is : followed (with_flag octets len) (crc_of (with_flag octets len)) ≡ whole = cc in
+    let whole-is : with_crc (with_flag octets len) (crc_of (with_flag octets len)) ≡ whole = cc in
     ap unsealed (sym whole-is) ∙ of_sealed octets len all plain
 by_told (Err fault) octets whole all plain e = absurd cc
 

@@ -4,7 +4,7 @@ use Rattle.std.specs.Int.Bits.{bit_xor}
 use Rattle.std.proofs.lemmas.Nat.{xor_lt, xor_comm, xor_block}
 use Rattle.std.proofs.lemmas.Bool.{eqb-true}
 use Rattle.cfdp_crc.specs.Crc.{divided, with_octet}
-use Rattle.cfdp_crc.specs.declared.table.TheConstants.{WORDS}
+use Rattle.cfdp_crc.specs.declared.remainders.TheConstants.{WORDS}
 use Rattle.cfdp_crc.proofs.Dividing.{joined, doubled, divided_xor}
 
 -- each word of the list is what is left of its index, counted from n

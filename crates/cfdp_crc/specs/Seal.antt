@@ -40,14 +40,14 @@ sealed_at (first ∷ rest) =
     then (if first / 2 % 2 == 0 then Ok None else sealed_in first rest)
     else Err BadVersion
 
-abbrev pub opened : Option ℕ → List ℕ → List ℕ
-opened None octets = octets
-opened (Some len) octets =
+abbrev pub without_crc : Option ℕ → List ℕ → List ℕ
+without_crc None octets = octets
+without_crc (Some len) octets =
     take (length octets - 2) (slice_set (slice_set (slice_set octets 0 (slice_index octets 0 - 2)) 1 ((len - 2) / 256))
     2 ((len - 2) % 256))
 
 abbrev pub opened_by : Result (Option ℕ) CrcFault → List ℕ → Result (List ℕ) CrcFault
-opened_by (Ok found) octets = Ok (opened found octets)
+opened_by (Ok found) octets = Ok (without_crc found octets)
 opened_by (Err fault) octets = Err fault
 
 abbrev pub unsealed : List ℕ → Result (List ℕ) CrcFault
@@ -79,11 +79,11 @@ with_flag octets len =
     slice_set (slice_set (slice_set octets 0 (slice_index octets 0 + 2)) 1 ((len + 2) / 256)) 2 ((len + 2) % 256)
 
 -- the octets, and then these two
-abbrev pub followed : List ℕ → ℕ → List ℕ
-followed front crc = front ++ crc / 256 ∷ crc % 256 ∷ []
+abbrev pub with_crc : List ℕ → ℕ → List ℕ
+with_crc front crc = front ++ crc / 256 ∷ crc % 256 ∷ []
 
 abbrev pub sealed_from : Result ℕ SealFault → List ℕ → Result (List ℕ) SealFault
-sealed_from (Ok len) octets = Ok (followed (with_flag octets len) (crc_of (with_flag octets len)))
+sealed_from (Ok len) octets = Ok (with_crc (with_flag octets len) (crc_of (with_flag octets len)))
 sealed_from (Err fault) octets = Err fault
 
 abbrev pub sealed : List ℕ → Result (List ℕ) SealFault

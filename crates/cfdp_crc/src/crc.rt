@@ -3,7 +3,7 @@
 ghost use Rattle.std.specs.Prelude.{◌≡◌};
 ghost use Rattle.cfdp_crc.specs.Crc.{crc_of, with_octet};
 
-use crate::table::word_of;
+use crate::remainders::word_of;
 
 /// What is left after the bits of one more octet.
 fn with_octet(left: u16, octet: u8) -> u16

@@ -9,8 +9,8 @@
 
 mod crc;
 pub mod laws;
+mod remainders;
 mod sealing;
-mod table;
 
 pub use crc::crc16;
 pub use sealing::{CrcFault, SealFault, seal, unseal};

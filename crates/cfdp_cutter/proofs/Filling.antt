@@ -9,7 +9,7 @@ use Rattle.std.proofs.lemmas.List.{append-nil}
 use Rattle.std.proofs.Math.Seq.{take-append_seam, drop-append_seam}
 use Rattle.cfdp_crc.specs.Seal.{header_len}
 use Rattle.cfdp_cutter.specs.Laws.{LittleIsKept}
-use Rattle.cfdp_cutter.specs.Cutting.{First, Whole, Open, Lost, begins, first_by, first_pdu, pdu_len}
+use Rattle.cfdp_cutter.specs.Cutting.{First, Whole, Open, Lost, begins_pdu, first_by, first_pdu, pdu_len}
 
 -- ---- the version
 
@@ -17,15 +17,15 @@ going_by : (version : Bool) (front : First) → (cond version front Lost ≡ Los
 going_by true front not_lost = refl
 going_by false front not_lost = absurd (not_lost refl)
 
-pub is_going : (s : List ℕ) → (first_pdu s ≡ Lost → ⊥) → begins s ≡ true
+pub is_going : (s : List ℕ) → (first_pdu s ≡ Lost → ⊥) → begins_pdu s ≡ true
 unfolding first_pdu
-is_going s not_lost = going_by (begins s) (first_by (pdu_len s) s) not_lost
+is_going s not_lost = going_by (begins_pdu s) (first_by (pdu_len s) s) not_lost
 
-begins_front : (b o : List ℕ) → begins (b ++ o) ≡ true → begins b ≡ true
+begins_front : (b o : List ℕ) → begins_pdu (b ++ o) ≡ true → begins_pdu b ≡ true
 begins_front [] o e = refl
 begins_front (x ∷ b) o e = e
 
-begins_more : (b o : List ℕ) → b ≡ [] ⊎ (0 < length b) → begins b ≡ true → (b ≡ [] → begins o ≡ true) → begins (b ++ o) ≡ true
+begins_more : (b o : List ℕ) → b ≡ [] ⊎ (0 < length b) → begins_pdu b ≡ true → (b ≡ [] → begins_pdu o ≡ true) → begins_pdu (b ++ o) ≡ true
 begins_more [] o some e f = f refl
 begins_more (x ∷ b) o some e f = e
 
@@ -54,13 +54,13 @@ len-append (x ∷ y ∷ z ∷ w ∷ b) o n e = e
 
 -- ---- what is open
 
-open_of : (s : List ℕ) (n : ℕ) → begins s ≡ true → pdu_len s ≡ Some n → length s < n → first_pdu s ≡ Open
+open_of : (s : List ℕ) (n : ℕ) → begins_pdu s ≡ true → pdu_len s ≡ Some n → length s < n → first_pdu s ≡ Open
 unfolding first_pdu
 open_of s n good e short =
     ap (λ version. cond version (first_by (pdu_len s) s) Lost) good ∙ ap (λ o. first_by o s) e
     ∙ ap (λ b. cond b Open (Whole (take n s) (drop n s))) (lt-ltb (length s) n short)
 
-open_none : (s : List ℕ) → begins s ≡ true → pdu_len s ≡ None → first_pdu s ≡ Open
+open_none : (s : List ℕ) → begins_pdu s ≡ true → pdu_len s ≡ None → first_pdu s ≡ Open
 unfolding first_pdu
 open_none s good e = ap (λ version. cond version (first_by (pdu_len s) s) Lost) good ∙ ap (λ o. first_by o s) e
 
@@ -72,16 +72,16 @@ short_by false short p r e = absurd (cc e)
 pub open-short : (s : List ℕ) (n : ℕ) → first_pdu s ≡ Open → pdu_len s ≡ Some n → length s < n
 unfolding first_pdu
 open-short s n e f =
-    let g = ap (λ o. cond (begins s) (first_by o s) Lost) (sym f) ∙ e in
-    ltb-true (length s) n (short_by (begins s) (nat_lt (length s) n) (take n s) (drop n s) g)
+    let g = ap (λ o. cond (begins_pdu s) (first_by o s) Lost) (sym f) ∙ e in
+    ltb-true (length s) n (short_by (begins_pdu s) (nat_lt (length s) n) (take n s) (drop n s) g)
 
 open_good_by : (version : Bool) (front : First) → cond version front Lost ≡ Open → version ≡ true
 open_good_by true front e = refl
 open_good_by false front e = absurd (cc e)
 
-pub open-begins : (s : List ℕ) → first_pdu s ≡ Open → begins s ≡ true
+pub open-begins : (s : List ℕ) → first_pdu s ≡ Open → begins_pdu s ≡ true
 unfolding first_pdu
-open-begins s e = open_good_by (begins s) (first_by (pdu_len s) s) e
+open-begins s e = open_good_by (begins_pdu s) (first_by (pdu_len s) s) e
 
 pub nothing_open : first_pdu [] ≡ Open
 unfolding first_pdu
@@ -123,7 +123,7 @@ fixed_short b0 b o s n f e = still_short b0 b o s n f e (pdu_len b0) refl
 
 pub fixed_open : (b0 b o s : List ℕ) (n : ℕ) → Fixed b0 b o s → pdu_len b ≡ Some n → first_pdu b ≡ Open
 fixed_open b0 b o s n f e =
-    let good : begins (b ++ o) ≡ true = ap begins f.stream ∙ is_going s f.going in
+    let good : begins_pdu (b ++ o) ≡ true = ap begins_pdu f.stream ∙ is_going s f.going in
     open_of b n (begins_front b o good) e (fixed_short b0 b o s n f e)
 
 -- ---- and up to the end of the PDU
@@ -160,7 +160,7 @@ pub lost_here : (b o : List ℕ) (x : ℕ) (rest : List ℕ) → b ≡ [] → o 
 unfolding first_pdu
 lost_here b o x rest e f not bad =
     let spelled : b ++ o ≡ x ∷ rest = ap (λ q. q ++ o) e ∙ f in
-    ap (λ s. cond (begins s) (first_by (pdu_len s) s) Lost) spelled
+    ap (λ s. cond (begins_pdu s) (first_by (pdu_len s) s) Lost) spelled
     ∙ ap (λ version. cond version (first_by (pdu_len (x ∷ rest)) (x ∷ rest)) Lost) bad
 
 some_octet : (b : List ℕ) → (length b ≡ 0 → ⊥) → b ≡ [] ⊎ (0 < length b)
@@ -175,9 +175,9 @@ not_lost_by true (Some n) s e f = elim (nat_lt (length s) n) as (λ b. cond b Op
 ] f
 not_lost_by false o s e f = cc e
 
-pub not_lost : (s : List ℕ) → begins s ≡ true → first_pdu s ≡ Lost → ⊥
+pub not_lost : (s : List ℕ) → begins_pdu s ≡ true → first_pdu s ≡ Lost → ⊥
 unfolding first_pdu
-not_lost s e f = not_lost_by (begins s) (pdu_len s) s e f
+not_lost s e f = not_lost_by (begins_pdu s) (pdu_len s) s e f
 
 -- a PDU has begun already
 pub going_on : (b o : List ℕ) → (length b ≡ 0 → ⊥) → first_pdu b ≡ Open → first_pdu (b ++ o) ≡ Lost → ⊥
@@ -186,14 +186,14 @@ going_on (x ∷ b) o some here = not_lost (x ∷ b ++ o) (open-begins (x ∷ b) 
 
 -- nothing more comes
 pub going_empty : (b o : List ℕ) → o ≡ [] → first_pdu b ≡ Open → first_pdu (b ++ o) ≡ Lost → ⊥
-going_empty b o e here = let same : b ++ o ≡ b = ap (λ q. b ++ q) e ∙ append-nil b in not_lost (b ++ o) (ap begins same ∙ open-begins b here)
+going_empty b o e here = let same : b ++ o ≡ b = ap (λ q. b ++ q) e ∙ append-nil b in not_lost (b ++ o) (ap begins_pdu same ∙ open-begins b here)
 
 -- the next octet has the version
 pub going_next : (b o : List ℕ) (x : ℕ) (rest : List ℕ) → b ≡ [] → o ≡ x ∷ rest → x / 32 ≡ 1 → first_pdu (b ++ o) ≡ Lost → ⊥
 going_next b o x rest e f version =
     let spelled : b ++ o ≡ x ∷ rest = ap (λ q. q ++ o) e ∙ f in
     let good : (x / 32 == 1) ≡ true = ap (λ m. m == 1) version in
-    not_lost (b ++ o) (ap begins spelled ∙ good)
+    not_lost (b ++ o) (ap begins_pdu spelled ∙ good)
 
 pub got : (o : List ℕ) (x : ℕ) → slice_get o 0 ≡ Some x → (rest : List ℕ) × (o ≡ x ∷ rest)
 got [] x e = absurd (cc e)

@@ -1,7 +1,7 @@
 -- How a stream of octets is cut into PDUs, of which each says its length by its header (CCSDS 727.0-B-5 §5.1).
 --     pdu_len octets        how many octets the PDU has that these begin; None where they are fewer than 4
 --     longest_pdu           how many octets a PDU has at most
---     begins octets         they can begin a PDU: the version is 001
+--     begins_pdu octets     they can begin a PDU: the version is 001
 --     First, first_pdu      what a stream begins with: a whole PDU, and what is after it; a PDU that is not whole yet,
 --                           or nothing; or what is no PDU, so that it cannot be known where the next one begins
 --     Cut, cut              all PDUs that are whole in a stream, and what is after them
@@ -20,9 +20,9 @@ pdu_len octets = None
 abbrev pub longest_pdu : ℕ
 longest_pdu = 65563
 
-abbrev pub begins : List ℕ → Bool
-begins [] = true
-begins (first ∷ rest) = first / 32 == 1
+abbrev pub begins_pdu : List ℕ → Bool
+begins_pdu [] = true
+begins_pdu (first ∷ rest) = first / 32 == 1
 
 pub data First : Type 0 where
   Whole : (pdu rest : List ℕ) → First
@@ -34,7 +34,7 @@ first_by None stream = Open
 first_by (Some len) stream = if nat_lt (length stream) len then Open else Whole (take len stream) (drop len stream)
 
 unfoldable pub first_pdu : List ℕ → First
-first_pdu stream = if begins stream then first_by (pdu_len stream) stream else Lost
+first_pdu stream = if begins_pdu stream then first_by (pdu_len stream) stream else Lost
 
 -- ---- all of a stream
 

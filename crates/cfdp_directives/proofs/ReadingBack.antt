@@ -23,7 +23,7 @@ use Rattle.cfdp_directives.specs.declared.prompt.Prompt.{Prompt}
 use Rattle.cfdp_directives.specs.declared.prompt.Prompt.TheVariants as prompts
 use Rattle.cfdp_directives.specs.declared.read.Directive.TheVariants as directives
 use Rattle.cfdp_directives.specs.Laws.{AckReadsBack, NakReadsBack, PromptReadsBack, KeepAliveReadsBack}
-use Rattle.cfdp_directives.specs.Reading.{status_code, status_of, ack_at, prompt_at, keep_alive_at, directive_in, directive_at, directive_from, are_pairs, pair_len, pairs_in, pairs_at, pairs_from, nak_of, request_count}
+use Rattle.cfdp_directives.specs.Reading.{status_code, status_coded, ack_at, prompt_at, keep_alive_at, directive_in, directive_spelled, directive_from, are_pairs, pair_len, pairs_in, pairs_at, pairs_from, nak_of, request_count}
 use Rattle.cfdp_directives.specs.Spelling.{IsSizedKeepAlive, range_octets, ack_field, nak_field, prompt_flags, prompt_field, keep_alive_field}
 use Rattle.cfdp_directives.proofs.Lengths.{range_len, ranges_len, nak_short}
 use Rattle.cfdp_directives.proofs.Ranges.{range_again, ranges_again, are_whole, are_counted}
@@ -78,8 +78,8 @@ start_again header code octets is other short =
     ) refl
 
 directive_again : (header : Header) (code : ℕ) (octets : List ℕ) → IsHeader header → IsOther code → length (code ∷ octets) ≤ 65535
-    → directive_at (pdu_octets false header (code ∷ octets)) ≡ directive_in header (code ∷ octets)
-unfolding directive_at
+    → directive_spelled (pdu_octets false header (code ∷ octets)) ≡ directive_in header (code ∷ octets)
+unfolding directive_spelled
 directive_again header code octets is other short = ap (λ read. read >>= directive_from) (start_again header code octets is other short)
 
 -- ---- ACK
@@ -100,7 +100,7 @@ code_back condition Active = omega arith
 code_back condition Terminated = omega arith
 code_back condition Unrecognized = omega arith
 
-status_back : (status : TransactionStatus) → status_of (status_code status) ≡ status
+status_back : (status : TransactionStatus) → status_coded (status_code status) ≡ status
 status_back Undefined = refl
 status_back Active = refl
 status_back Terminated = refl
@@ -113,10 +113,10 @@ ack_in : (header : Header) (ack : Ack) → directive_in header (ack_field ack) �
 unfolding ack_field directive_in ack_at
 ack_in header ack =
     let state = 16 * ack.condition + status_code ack.status in
-    ap (λ (d : ℕ). Ok (directives.Ack header (ack_of d (state / 16) (status_of (state % 4))))) (kind_back ack.directive (ack.directive == 5))
-    ∙ ap (λ (c : ℕ). Ok (directives.Ack header (ack_of ack.directive c (status_of (state % 4))))) (state_back ack.condition ack.status)
+    ap (λ (d : ℕ). Ok (directives.Ack header (ack_of d (state / 16) (status_coded (state % 4))))) (kind_back ack.directive (ack.directive == 5))
+    ∙ ap (λ (c : ℕ). Ok (directives.Ack header (ack_of ack.directive c (status_coded (state % 4))))) (state_back ack.condition ack.status)
     ∙ ap (λ (s : TransactionStatus). Ok (directives.Ack header (ack_of ack.directive ack.condition s)))
-    (ap status_of (code_back ack.condition ack.status) ∙ status_back ack.status)
+    (ap status_coded (code_back ack.condition ack.status) ∙ status_back ack.status)
 
 pub ack_reads_back : AckReadsBack
 unfolding ack_field

@@ -7,13 +7,13 @@ use Rattle.cfdp_directives.specs.declared.ack.Ack.{Ack}
 use Rattle.cfdp_directives.specs.declared.keep_alive.KeepAlive.{KeepAlive}
 use Rattle.cfdp_directives.specs.declared.prompt.Prompt.{Prompt}
 use Rattle.cfdp_directives.specs.declared.read.Directive.TheVariants as directives
-use Rattle.cfdp_directives.specs.Reading.{directive_at, nak_at}
+use Rattle.cfdp_directives.specs.Reading.{directive_spelled, nak_at}
 use Rattle.cfdp_directives.specs.Spelling.{IsSizedAck, IsSizedRange, IsSizedKeepAlive, most_requests, ack_pdu, nak_field, nak_pdu, prompt_pdu, keep_alive_pdu}
 
 abbrev pub AckReadsBack : Type 0
 AckReadsBack =
     (header : Header) (ack : Ack) → IsHeader header → IsSizedAck ack →
-    directive_at (ack_pdu header ack) ≡ Ok (directives.Ack header ack)
+    directive_spelled (ack_pdu header ack) ≡ Ok (directives.Ack header ack)
 
 abbrev pub NakReadsBack : Type 0
 NakReadsBack =
@@ -30,9 +30,9 @@ MostRequestsFit =
 abbrev pub PromptReadsBack : Type 0
 PromptReadsBack =
     (header : Header) (prompt : Prompt) → IsHeader header →
-    directive_at (prompt_pdu header prompt) ≡ Ok (directives.Prompt header prompt)
+    directive_spelled (prompt_pdu header prompt) ≡ Ok (directives.Prompt header prompt)
 
 abbrev pub KeepAliveReadsBack : Type 0
 KeepAliveReadsBack =
     (header : Header) (keep_alive : KeepAlive) → IsHeader header → IsSizedKeepAlive header.large keep_alive →
-    directive_at (keep_alive_pdu header keep_alive) ≡ Ok (directives.KeepAlive header keep_alive)
+    directive_spelled (keep_alive_pdu header keep_alive) ≡ Ok (directives.KeepAlive header keep_alive)

@@ -1,8 +1,8 @@
 -- ACK, NAK, Prompt and Keep Alive PDUs: how each is read (CCSDS 727.0-B-5 §5.2.4, §5.2.6 to §5.2.8).
---   status_code, status_of       the two bits of a transaction status, and what they say
+--   status_code, status_coded    the two bits of a transaction status, and what they say
 --   ack_at, prompt_at, keep_alive_at     what comes after the directive code, or the first fault
 --   directive_in header field    the data field of an ACK, Prompt or Keep Alive PDU
---   directive_at octets          the ACK, Prompt or Keep Alive PDU that the octets spell, or the first fault
+--   directive_spelled octets     the ACK, Prompt or Keep Alive PDU that the octets spell, or the first fault
 --   NakFields                    what a NAK PDU says
 --   pair_len large               how many octets a start and an end have
 --   pairs_in header field        the header of a NAK PDU, and the octets of its starts and ends
@@ -34,8 +34,8 @@ status_code Active = 1
 status_code Terminated = 2
 status_code Unrecognized = 3
 
-abbrev pub status_of : ℕ → TransactionStatus
-status_of code =
+abbrev pub status_coded : ℕ → TransactionStatus
+status_coded code =
     if code == 0 then Undefined
     else if code == 1 then Active
     else if code == 2 then Terminated
@@ -46,7 +46,7 @@ status_of code =
 -- spare bits and the directive subtype code are passed over
 unfoldable pub ack_at : List ℕ → Result Ack PduFault
 ack_at (kind ∷ state ∷ []) =
-    Ok (record { directive = kind / 16; condition = state / 16; status = status_of (state % 4) })
+    Ok (record { directive = kind / 16; condition = state / 16; status = status_coded (state % 4) })
 ack_at octets = Err LengthMismatch
 
 unfoldable pub prompt_at : List ℕ → Result Prompt PduFault
@@ -70,8 +70,8 @@ directive_in header (code ∷ octets) =
 abbrev pub directive_from : Start → Result Directive PduFault
 directive_from start = if start.file_data then Err BadDirective else directive_in start.header start.field
 
-unfoldable pub directive_at : List ℕ → Result Directive PduFault
-directive_at octets = start_at octets >>= directive_from
+unfoldable pub directive_spelled : List ℕ → Result Directive PduFault
+directive_spelled octets = start_at octets >>= directive_from
 
 -- ---- NAK
 

@@ -6,7 +6,7 @@ ghost use Rattle.cfdp_tlv.specs.Reading.{Answers};
 ghost use Rattle.cfdp_pdus.specs.Canonical.{IsHeader};
 ghost use Rattle.cfdp_pdus.specs.declared.fault.WriteFault.TheVariants.{Memory};
 ghost use Rattle.cfdp_pdus.specs.Placing.{filled};
-ghost use Rattle.cfdp_directives.specs.Reading.{ack_at, status_code, status_of};
+ghost use Rattle.cfdp_directives.specs.Reading.{ack_at, status_code, status_coded};
 ghost use Rattle.cfdp_directives.specs.Spelling.{IsSizedAck, ack_field, ack_pdu};
 
 use crate::put::{put_pdu, write_pdu};
@@ -41,7 +41,7 @@ impl TransactionStatus {
     /// The status of two bits.
     pub fn of_code(code: u8) -> TransactionStatus
         requires { code < 4 }
-        ensures { result ≡ status_of code }
+        ensures { result ≡ status_coded code }
     {
         match code {
             0 => TransactionStatus::Undefined,

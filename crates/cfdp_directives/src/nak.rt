@@ -6,7 +6,7 @@ ghost use Rattle.std.specs.List.{flat_map};
 ghost use Rattle.cfdp_tlv.specs.Reading.{Answers};
 ghost use Rattle.cfdp_pdus.specs.Canonical.{IsHeader};
 ghost use Rattle.cfdp_pdus.specs.declared.fault.WriteFault.TheVariants.{Memory};
-ghost use Rattle.cfdp_pdus.specs.Placing.{filled, overwritten};
+ghost use Rattle.cfdp_pdus.specs.Placing.{filled, with_octets_at};
 ghost use Rattle.cfdp_directives.specs.Reading.{are_pairs, nak_in, nak_within, pair_len, pairs_at, pairs_in, range_at, ranges_at};
 ghost use Rattle.cfdp_directives.specs.Spelling.{IsSizedRange, most_requests, nak_field, nak_pdu, range_octets};
 
@@ -179,7 +179,7 @@ pub fn read_nak(octets: &[u8], requests: &mut [Range]) -> Result<Nak, NakFault>
 fn put_range(out: &mut [u8], at: usize, large: bool, range: Range)
     requires sized { IsSizedRange large range }
     requires room { at + pair_len large ≤ length out.old }
-    ensures { out.new ≡ overwritten out.old at (range_octets large range) }
+    ensures { out.new ≡ with_octets_at out.old at (range_octets large range) }
 {
     let len = size_len(large);
     put_number(out, at, range.0, len);
@@ -190,7 +190,7 @@ fn put_range(out: &mut [u8], at: usize, large: bool, range: Range)
 fn put_ranges(out: &mut [u8], at: usize, large: bool, ranges: &[Range])
     requires sized { All (IsSizedRange large) ranges.now }
     requires room { at + length (flat_map (range_octets large) ranges.now) ≤ length out.old }
-    ensures { out.new ≡ overwritten out.old at (flat_map (range_octets large) ranges.now) }
+    ensures { out.new ≡ with_octets_at out.old at (flat_map (range_octets large) ranges.now) }
 {
     let mut next = at;
     for range in ranges {

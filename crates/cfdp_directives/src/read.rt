@@ -1,7 +1,7 @@
 //! Reading an ACK, Prompt or Keep Alive PDU.
 
 ghost use Rattle.cfdp_tlv.specs.Reading.{Answers};
-ghost use Rattle.cfdp_directives.specs.Reading.{directive_in, directive_at};
+ghost use Rattle.cfdp_directives.specs.Reading.{directive_in, directive_spelled};
 
 use crate::ack::read_ack;
 use crate::keep_alive::read_keep_alive;
@@ -46,9 +46,9 @@ fn read_field(header: Header, field: &[u8]) -> Result<Directive, PduFault>
 /// The faults of a header come first, as `cfdp_pdus::read_start` gives them. Then, in the data field: `BadDirective`
 /// for file data, `LengthMismatch` for no directive code, `BadDirective` for another code, also that of a NAK PDU,
 /// and `LengthMismatch` for another length than the PDU has.
-#[tactic(auto, unfolding(crate::specs::Reading::directive_at))]
+#[tactic(auto, unfolding(crate::specs::Reading::directive_spelled))]
 pub fn read_directive(octets: &[u8]) -> Result<Directive, PduFault>
-    ensures exact { Answers (λ directive. directive) result (directive_at octets.now) }
+    ensures exact { Answers (λ directive. directive) result (directive_spelled octets.now) }
 {
     let start = read_start(octets)?;
     if start.file_data {

@@ -5,7 +5,7 @@ use Rattle.std.specs.Prelude.{bytes_eq, if◌then◌else◌}
 use Rattle.cfdp_disturb.specs.declared.draws.Copies.TheVariants.{Lost, Once, Twice}
 use Rattle.cfdp_disturb.specs.Disturbing.{Copies, Drawn, both, copies_of, disturbed, is_held, is_pdu_line, said}
 use Rattle.cfdp_disturb.proofs.Taking.{alone}
-use Rattle.cfdp_disturb.specs.Laws.{IsQuiet, QuietIsSame, OthersPart, EachComes, count_of, times, times_drawn}
+use Rattle.cfdp_disturb.specs.Laws.{IsQuiet, QuietIsSame, OthersPart, EachComes, count_of, times_of_line, times_drawn}
 
 -- nothing happens --------------------------------------------------------------------
 
@@ -78,7 +78,7 @@ others_part (x ∷ y ∷ rest) after a other =
 abbrev weight : List ℕ → Drawn → ℕ
 weight line a = if bytes_eq line a.0 then (if is_pdu_line a.0 then count_of a.1.copies else 1) else 0
 
-times-append : (line : List ℕ) (xs ys : List (List ℕ)) → times line (xs ++ ys) ≡ times line xs + times line ys
+times-append : (line : List ℕ) (xs ys : List (List ℕ)) → times_of_line line (xs ++ ys) ≡ times_of_line line xs + times_of_line line ys
 times-append line [] ys = omega arith
 times-append line (x ∷ xs) ys = let later = times-append line xs ys in omega (arith, later)
 
@@ -94,32 +94,32 @@ twice_times : (same : Bool) → (if same then 1 else 0) + ((if same then 1 else 
 twice_times true = refl
 twice_times false = refl
 
-by_copies : (copies : Copies) (line other : List ℕ) → times line (copies_of copies other) ≡ (if bytes_eq line other then count_of copies else 0)
+by_copies : (copies : Copies) (line other : List ℕ) → times_of_line line (copies_of copies other) ≡ (if bytes_eq line other then count_of copies else 0)
 by_copies Lost line other = sym (lost_times (bytes_eq line other) 0)
 by_copies Once line other = once_times (bytes_eq line other)
 by_copies Twice line other = twice_times (bytes_eq line other)
 
 by_pdu : (pdu : Bool) (copies : Copies) (line other : List ℕ) →
-    times line (cond pdu (copies_of copies other) (other ∷ [])) ≡ (if bytes_eq line other then (if pdu then count_of copies else 1) else 0)
+    times_of_line line (cond pdu (copies_of copies other) (other ∷ [])) ≡ (if bytes_eq line other then (if pdu then count_of copies else 1) else 0)
 by_pdu true copies line other = by_copies copies line other
 by_pdu false copies line other = by_copies Once line other
 
-times_said : (line : List ℕ) (a : Drawn) → times line (said a) ≡ weight line a
+times_said : (line : List ℕ) (a : Drawn) → times_of_line line (said a) ≡ weight line a
 unfolding said
 times_said line a = by_pdu (is_pdu_line a.0) a.1.copies line a.0
 
-times_both_by : (pdu : Bool) (line : List ℕ) (a b : Drawn) → times line (cond pdu (said b ++ said a) (said a ++ said b)) ≡ weight line a + weight line b
+times_both_by : (pdu : Bool) (line : List ℕ) (a b : Drawn) → times_of_line line (cond pdu (said b ++ said a) (said a ++ said b)) ≡ weight line a + weight line b
 times_both_by true line a b = let one = times-append line (said b) (said a) in let two = times_said line a in let three = times_said line b in
     omega (arith, one, two, three)
 times_both_by false line a b = let one = times-append line (said a) (said b) in let two = times_said line a in let three = times_said line b in
     omega (arith, one, two, three)
 
-times_both : (line : List ℕ) (a b : Drawn) → times line (both a b) ≡ weight line a + weight line b
+times_both : (line : List ℕ) (a b : Drawn) → times_of_line line (both a b) ≡ weight line a + weight line b
 unfolding both
 times_both line a b = times_both_by (is_pdu_line b.0) line a b
 
-more_by : (h : Bool) (line : List ℕ) (a b : Drawn) (xs ys : List (List ℕ)) (n : ℕ) → times line xs ≡ n → times line ys ≡ weight line b + n →
-    times line (cond h (both a b ++ xs) (said a ++ ys)) ≡ weight line a + (weight line b + n)
+more_by : (h : Bool) (line : List ℕ) (a b : Drawn) (xs ys : List (List ℕ)) (n : ℕ) → times_of_line line xs ≡ n → times_of_line line ys ≡ weight line b + n →
+    times_of_line line (cond h (both a b ++ xs) (said a ++ ys)) ≡ weight line a + (weight line b + n)
 more_by true line a b xs ys n e f = let one = times-append line (both a b) xs in let two = times_both line a b in omega (arith, one, two, e)
 more_by false line a b xs ys n e f = let one = times-append line (said a) ys in let two = times_said line a in omega (arith, one, two, f)
 

@@ -9,18 +9,18 @@
 use Rattle.std.proofs.Common.{◌≡◌, sym, ◌∙◌, ap, subst, ℕ, true, false, cond, List, [], ◌∷◌, ◌++◌, append_assoc, append-nil}
 use Rattle.std.specs.Prelude.{Result, Ok, Err, OnOk}
 use Rattle.std.proofs.lemmas.List.Concat.{flat_map-append}
-use Rattle.cfdp_disturb.specs.Holding.{AreHeld}
-use Rattle.cfdp_disturb.specs.Disturbing.{Drawn, both, disturbed, is_held, is_pdu_line, line_text, said, text_of}
+use Rattle.cfdp_disturb.specs.code.Holding.{AreHeld}
+use Rattle.cfdp_disturb.specs.Disturbing.{Drawn, both, disturbed, is_held, is_pdu_line, with_newline, said, lines_text}
 
-pub text_of-append : (xs ys : List (List ℕ)) → text_of (xs ++ ys) ≡ text_of xs ++ text_of ys
-unfolding text_of
-text_of-append xs ys = flat_map-append line_text xs ys
+pub text_of-append : (xs ys : List (List ℕ)) → lines_text (xs ++ ys) ≡ lines_text xs ++ lines_text ys
+unfolding lines_text
+text_of-append xs ys = flat_map-append with_newline xs ys
 
-pub text_of_both : {T E : Type 0} (r : Result T E) (old mid new : List ℕ) (xs ys whole : List (List ℕ)) → whole ≡ xs ++ ys → mid ≡ old ++ text_of xs →
-    OnOk r (new ≡ mid ++ text_of ys) → OnOk r (new ≡ old ++ text_of whole)
+pub text_of_both : {T E : Type 0} (r : Result T E) (old mid new : List ℕ) (xs ys whole : List (List ℕ)) → whole ≡ xs ++ ys → mid ≡ old ++ lines_text xs →
+    OnOk r (new ≡ mid ++ lines_text ys) → OnOk r (new ≡ old ++ lines_text whole)
 text_of_both (Ok x) old mid new xs ys whole is one two =
-    two ∙ ap (λ t. t ++ text_of ys) one ∙ append_assoc old (text_of xs) (text_of ys) ∙ ap (λ t. old ++ t) (sym (text_of-append xs ys))
-    ∙ ap (λ w. old ++ text_of w) (sym is)
+    two ∙ ap (λ t. t ++ lines_text ys) one ∙ append_assoc old (lines_text xs) (lines_text ys) ∙ ap (λ t. old ++ t) (sym (text_of-append xs ys))
+    ∙ ap (λ w. old ++ lines_text w) (sym is)
 text_of_both (Err e) old mid new xs ys whole is one two = tt
 
 pub swapped : (a b : Drawn) → is_pdu_line b.0 ≡ true → both a b ≡ said b ++ said a
@@ -40,30 +40,32 @@ pair : (a b : Drawn) (more : List Drawn) → is_held a ≡ true → disturbed (a
 unfolding disturbed
 pair a b more held = ap (λ h. cond h (both a b ++ disturbed more) (said a ++ disturbed (b ∷ more))) held
 
-moved : (old new : List ℕ) (come : List (List ℕ)) (lines more : List Drawn) → disturbed lines ≡ come ++ disturbed more → new ≡ old ++ text_of come →
-    old ++ text_of (disturbed lines) ≡ new ++ text_of (disturbed more)
+moved : (old new : List ℕ) (come : List (List ℕ)) (lines more : List Drawn) → disturbed lines ≡ come ++ disturbed more → new ≡ old ++ lines_text come →
+    old ++ lines_text (disturbed lines) ≡ new ++ lines_text (disturbed more)
 moved old new come lines more is written =
-    ap (λ t. old ++ text_of t) is ∙ ap (λ t. old ++ t) (text_of-append come (disturbed more)) ∙ sym (append_assoc old (text_of come) (text_of (disturbed more)))
-    ∙ ap (λ t. t ++ text_of (disturbed more)) (sym written)
+    ap (λ t. old ++ lines_text t) is ∙ ap (λ t. old ++ t) (text_of-append come (disturbed more)) ∙ sym
+    (append_assoc old (lines_text come) (lines_text (disturbed more)))
+    ∙ ap (λ t. t ++ lines_text (disturbed more)) (sym written)
 
 -- the whole script, where no line or one is held back
-pub finished_none : (held : List Drawn) (old : List ℕ) → held ≡ [] → old ≡ old ++ text_of (disturbed held)
-unfolding disturbed text_of
-finished_none held old is = sym (append-nil old) ∙ ap (λ h. old ++ text_of (disturbed h)) (sym is)
+pub finished_none : (held : List Drawn) (old : List ℕ) → held ≡ [] → old ≡ old ++ lines_text (disturbed held)
+unfolding disturbed lines_text
+finished_none held old is = sym (append-nil old) ∙ ap (λ h. old ++ lines_text (disturbed h)) (sym is)
 
-pub finished : (held : List Drawn) (old new : List ℕ) (a : Drawn) → held ≡ a ∷ [] → new ≡ old ++ text_of (said a) → new ≡ old ++ text_of (disturbed held)
+pub finished : (held : List Drawn) (old new : List ℕ) (a : Drawn) → held ≡ a ∷ [] → new ≡ old ++ lines_text (said a) → new ≡ old ++ lines_text (disturbed held)
 unfolding disturbed
-finished held old new a is written = written ∙ ap (λ h. old ++ text_of (disturbed h)) (sym is)
+finished held old new a is written = written ∙ ap (λ h. old ++ lines_text (disturbed h)) (sym is)
 
 pub taken_alone : {T E : Type 0} (r : Result T E) (held : List Drawn) (old new : List ℕ) (a : Drawn) → held ≡ [] → is_held a ≡ false →
-    OnOk r (new ≡ old ++ text_of (said a)) →
-    OnOk r ((more : List Drawn) → old ++ text_of (disturbed (a ∷ more)) ≡ new ++ text_of (disturbed (held ++ more)))
+    OnOk r (new ≡ old ++ lines_text (said a)) →
+    OnOk r ((more : List Drawn) → old ++ lines_text (disturbed (a ∷ more)) ≡ new ++ lines_text (disturbed (held ++ more)))
 taken_alone (Ok x) held old new a is free written = λ more.
-    moved old new (said a) (a ∷ more) more (alone a more free) written ∙ ap (λ h. new ++ text_of (disturbed (h ++ more))) (sym is)
+    moved old new (said a) (a ∷ more) more (alone a more free) written ∙ ap (λ h. new ++ lines_text (disturbed (h ++ more))) (sym is)
 taken_alone (Err e) held old new a is free written = tt
 
-pub taken_both : (held : List Drawn) (old new : List ℕ) (a b : Drawn) → held ≡ a ∷ [] → AreHeld held → new ≡ old ++ text_of (both a b) → (more : List Drawn) →
-    old ++ text_of (disturbed (held ++ b ∷ more)) ≡ new ++ text_of (disturbed more)
+pub taken_both : (held : List Drawn) (old new : List ℕ) (a b : Drawn) → held ≡ a ∷ [] → AreHeld held → new ≡ old ++ lines_text (both a b) → (more : List Drawn)
+    →
+    old ++ lines_text (disturbed (held ++ b ∷ more)) ≡ new ++ lines_text (disturbed more)
 taken_both held old new a b is are written more =
     let held_a : AreHeld (a ∷ []) = subst AreHeld is are in
-    ap (λ h. old ++ text_of (disturbed (h ++ b ∷ more))) is ∙ moved old new (both a b) (a ∷ b ∷ more) more (pair a b more held_a.0) written
+    ap (λ h. old ++ lines_text (disturbed (h ++ b ∷ more))) is ∙ moved old new (both a b) (a ∷ b ∷ more) more (pair a b more held_a.0) written

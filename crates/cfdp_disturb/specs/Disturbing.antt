@@ -7,7 +7,7 @@
 --     both a b              what results from such a line and the one after it: where that is a PDU line they are
 --                           swapped
 --     disturbed             the lines that are written
---     text_of               lines, each with a newline after it
+--     lines_text            lines, each with a newline after it
 use Rattle.std.specs.Prelude.{ℕ, Bool, false, ◌&&◌, ◌||◌, if◌then◌else◌, List, [], ◌∷◌, ◌++◌, bytes_eq, codes}
 use Rattle.std.specs.List.{flat_map}
 use Rattle.cfdp_lines.specs.Words.{words_of}
@@ -54,8 +54,8 @@ disturbed [] = []
 disturbed (a ∷ []) = said a
 disturbed (a ∷ b ∷ rest) = if is_held a then both a b ++ disturbed rest else said a ++ disturbed (b ∷ rest)
 
-abbrev pub line_text : List ℕ → List ℕ
-line_text line = line ++ 10 ∷ []
+abbrev pub with_newline : List ℕ → List ℕ
+with_newline line = line ++ 10 ∷ []
 
-unfoldable pub text_of : List (List ℕ) → List ℕ
-text_of lines = flat_map line_text lines
+unfoldable pub lines_text : List (List ℕ) → List ℕ
+lines_text lines = flat_map with_newline lines

@@ -1,3 +1,3 @@
 pub mod Disturbing
-pub mod Holding
 pub mod Laws
+pub mod code

@@ -1,7 +1,7 @@
 //! The link.
 
 ghost use Rattle.std.specs.Prelude.{◌≡◌, ◌++◌, ◌∷◌, [], List, OnErr, OnOk};
-ghost use Rattle.cfdp_disturb.specs.Disturbing.{Drawn, both, disturbed, is_held, line_text, said, text_of};
+ghost use Rattle.cfdp_disturb.specs.Disturbing.{Drawn, both, disturbed, is_held, with_newline, said, lines_text};
 
 use crate::draws::{Copies, Draw};
 use crate::lines::is_pdu_line;
@@ -24,7 +24,7 @@ pub struct Link {
 impl Model for Link {
     ghost use Rattle.std.specs.Prelude.{List};
     ghost use Rattle.cfdp_disturb.specs.Disturbing.{Drawn};
-    ghost use Rattle.cfdp_disturb.specs.Holding.{AreHeld, held_of};
+    ghost use Rattle.cfdp_disturb.specs.code.Holding.{AreHeld, held_of};
 
     ghost Value = { List Drawn };
 
@@ -35,16 +35,16 @@ impl Model for Link {
 
 /// Appends a line.
 fn push_line(line: &[u8], text: &mut Vec<u8>) -> Result<(), AllocError>
-    ensures { OnOk result (text.new.items ≡ text.old.items ++ line_text line.now) }
+    ensures { OnOk result (text.new.items ≡ text.old.items ++ with_newline line.now) }
 {
     text.extend_from_slice(line)?;
     Ok(text.push(b'\n')?)
 }
 
 /// Appends what results from a line by itself.
-#[tactic(auto, unfolding(crate::specs::Disturbing::said, crate::specs::Disturbing::text_of))]
+#[tactic(auto, unfolding(crate::specs::Disturbing::said, crate::specs::Disturbing::lines_text))]
 fn push_said(line: &[u8], draw: Draw, text: &mut Vec<u8>) -> Result<(), AllocError>
-    ensures { OnOk result (text.new.items ≡ text.old.items ++ text_of (said (line.now, draw))) }
+    ensures { OnOk result (text.new.items ≡ text.old.items ++ lines_text (said (line.now, draw))) }
 {
     if !is_pdu_line(line) {
         return push_line(line, text);
@@ -71,7 +71,7 @@ fn is_held(line: &[u8], draw: Draw) -> bool
 #[tactic(auto, unfolding(crate::specs::Disturbing::both))]
 fn push_both(held: &Held, line: &[u8], draw: Draw, text: &mut Vec<u8>) -> Result<(), AllocError>
     ensures { OnOk result (text.new.items ≡ text.old.items
-        ++ text_of (both (held.now.line.items, held.now.draw) (line.now, draw))) }
+        ++ lines_text (both (held.now.line.items, held.now.draw) (line.now, draw))) }
 {
     if is_pdu_line(line) {
         push_said(line, draw, text)?;
@@ -100,8 +100,8 @@ impl Link {
     ) -> Result<(), AllocError>
         requires { self.old ≡ [] }
         ensures ok { OnOk result ((more : List Drawn) →
-            text.old.items ++ text_of (disturbed ((line.now, draw) ∷ more)) ≡ text.new.items
-            ++ text_of (disturbed (self.new ++ more))) }
+            text.old.items ++ lines_text (disturbed ((line.now, draw) ∷ more)) ≡ text.new.items
+            ++ lines_text (disturbed (self.new ++ more))) }
         ensures err { OnErr result (self.new ≡ self.old) }
     {
         if !is_held(line, draw) {
@@ -127,8 +127,8 @@ impl Link {
         text: &mut Vec<u8>,
     ) -> Result<(), AllocError>
         ensures ok { OnOk result ((more : List Drawn) →
-            text.old.items ++ text_of (disturbed (self.old ++ (line.now, draw) ∷ more)) ≡ text.new.items
-            ++ text_of (disturbed (self.new ++ more))) }
+            text.old.items ++ lines_text (disturbed (self.old ++ (line.now, draw) ∷ more)) ≡ text.new.items
+            ++ lines_text (disturbed (self.new ++ more))) }
         ensures err { OnErr result (self.new ≡ self.old) }
     {
         let Some(held) = &self.held else {
@@ -145,7 +145,7 @@ impl Link {
     ///
     /// Out of memory: a part of a line may have been appended, and the link is as before.
     pub fn finish(&mut self, text: &mut Vec<u8>) -> Result<(), AllocError>
-        ensures ok { OnOk result (text.new.items ≡ text.old.items ++ text_of (disturbed self.old)) }
+        ensures ok { OnOk result (text.new.items ≡ text.old.items ++ lines_text (disturbed self.old)) }
         ensures none { OnOk result (self.new ≡ []) }
         ensures err { OnErr result (self.new ≡ self.old) }
     {

@@ -3,7 +3,7 @@
 --     harmless_octet, harmless      what is written of an octet, and of a text
 use Rattle.std.proofs.Common.{◌≡◌, refl, ℕ, ◌+◌, ◌/◌, ◌%◌, ◌<◌, ◌==◌, ◌&&◌, not, Bool, true, false, nat_lt, nat_le, if◌then◌else◌, arith, List, [], ◌∷◌, ◌++◌, codes}
 use Rattle.std.specs.List.{AllByRecursion}
-use Rattle.cfdp_draw.specs.Words.{EscapedIsHarmless, IsHarmless, digit_of, escaped, escaped_octet, is_plain}
+use Rattle.cfdp_draw.specs.Words.{EscapedIsHarmless, IsHarmless, digit_of, escaped, escaped_octet, is_plain_in_xml}
 
 pub harmless_digit : (value : ℕ) → value < 16 → IsHarmless (digit_of value)
 harmless_digit value within =
@@ -53,7 +53,7 @@ harmless_octet octet within =
     choose (octet == 60) (codes "&lt;") _ (λ is. all_known (codes "&lt;") refl) (λ less.
     choose (octet == 62) (codes "&gt;") _ (λ is. all_known (codes "&gt;") refl) (λ greater.
     choose (octet == 34) (codes "&quot;") _ (λ is. all_known (codes "&quot;") refl) (λ quote.
-    choose (is_plain octet) (octet ∷ []) (37 ∷ digit_of (octet / 16) ∷ digit_of (octet % 16) ∷ [])
+    choose (is_plain_in_xml octet) (octet ∷ []) (37 ∷ digit_of (octet / 16) ∷ digit_of (octet % 16) ∷ [])
     (λ plain. (record { no_less = grind arith; no_greater = grind arith; no_quote = grind arith; printed = grind arith; ascii = grind arith }, tt))
     (λ other. (known 37 refl, (harmless_digit (octet / 16) (omega arith), (harmless_digit (octet % 16) (omega arith), tt))))))))
 

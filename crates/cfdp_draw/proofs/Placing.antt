@@ -4,7 +4,7 @@
 use Rattle.std.proofs.Common.{◌≡◌, refl, ℕ, ◌*◌, ◌/◌, ◌≤◌, ◌<◌, ◌==◌, Bool, true, false, min, if◌then◌else◌, arith, subst, mul_comm}
 use Rattle.std.proofs.Math.Nat.{div-le_of_le-mul, div-mul-le_self, le_trans, mul-le-mul_left, min-le_left, min-le_right, le-min}
 use Rattle.std.proofs.lemmas.Nat.{le-div}
-use Rattle.cfdp_draw.specs.Axis.{StaysInside, TimeGoesRight, level_of, pitch, right_of, room, x_of}
+use Rattle.cfdp_draw.specs.Axis.{StaysInside, TimeGoesRight, level_of, pitch, axis_end, room, x_of}
 use Rattle.cfdp_draw.specs.declared.axis.TheConstants.{LEFT}
 
 pub min_rises : (a b w : ℕ) → a ≤ b → min a w ≤ min b w
@@ -44,10 +44,10 @@ time_goes_right total a b moments places =
     omega arith
 
 pub stays_inside : StaysInside
-unfolding x_of right_of
+unfolding x_of axis_end
 stays_inside total at =
     let wide : pitch total * min at.places total.places ≤ pitch total * total.places = mul-le-mul_left (pitch total) (min-le_right at.places total.places) in
     let long : level_of (room total) at.moments total.moments ≤ room total = level_within (room total) at.moments total.moments in
     let first : LEFT ≤ x_of total at = omega arith in
-    let last : x_of total at ≤ right_of total = omega arith in
+    let last : x_of total at ≤ axis_end total = omega arith in
     (first, last)

@@ -3,7 +3,7 @@
 --     pitch                how wide a mark is
 --     room                 what is left for the moments
 --     x_of total at        where a position of the time axis is
---     right_of             the end of the axis
+--     axis_end             the end of the axis
 --     has_data_words       there is room for the words of File Data PDUs too
 --     level_of             how high a part of a whole is
 --     TimeGoesRight, StaysInside      what is later is not further left;  all is between the ends of the axis
@@ -26,8 +26,8 @@ has_data_words total = has_words total && nat_le (WORDED * total.moments) (room 
 unfoldable pub level_of : ℕ → ℕ → ℕ → ℕ
 level_of height part whole = if whole == 0 then 0 else height * min part whole / whole
 
-unfoldable pub right_of : At → ℕ
-right_of total = LEFT + pitch total * total.places + room total
+unfoldable pub axis_end : At → ℕ
+axis_end total = LEFT + pitch total * total.places + room total
 
 unfoldable pub x_of : At → At → ℕ
 x_of total at = LEFT + pitch total * min at.places total.places + level_of (room total) at.moments total.moments
@@ -36,4 +36,4 @@ abbrev pub TimeGoesRight : Type 0
 TimeGoesRight = (total a b : At) → a.moments ≤ b.moments → a.places ≤ b.places → x_of total a ≤ x_of total b
 
 abbrev pub StaysInside : Type 0
-StaysInside = (total at : At) → (LEFT ≤ x_of total at) × (x_of total at ≤ right_of total)
+StaysInside = (total at : At) → (LEFT ≤ x_of total at) × (x_of total at ≤ axis_end total)

@@ -1,6 +1,6 @@
 -- What the marks and colours of a picture mean.
 --     kind_of_directive     the kind of a PDU by its directive code (CCSDS 727.0-B-5 §5.2)
---     kind_words            a kind in words
+--     kind_in_words         a kind in words
 --     letter_of             the letter in a mark;  none for file data
 --     outline_of            the outline of a mark, as the data of a path: a box that points down, a triangle for file
 --                           data, a disc for what is no PDU
@@ -25,18 +25,18 @@ kind_of_directive code =
     else if code == 12 then KeepAlive
     else NoPdu
 
-unfoldable pub kind_words : Kind → List ℕ
-kind_words Metadata = codes "Metadata"
-kind_words FileData = codes "File Data"
-kind_words Eof = codes "EOF"
-kind_words Nak = codes "NAK"
-kind_words Ack = codes "ACK"
-kind_words Finished = codes "Finished"
-kind_words KeepAlive = codes "Keep Alive"
-kind_words Prompt = codes "Prompt"
-kind_words NoPdu = codes "no PDU"
-kind_words Timer = codes "timer"
-kind_words Cancel = codes "cancel"
+unfoldable pub kind_in_words : Kind → List ℕ
+kind_in_words Metadata = codes "Metadata"
+kind_in_words FileData = codes "File Data"
+kind_in_words Eof = codes "EOF"
+kind_in_words Nak = codes "NAK"
+kind_in_words Ack = codes "ACK"
+kind_in_words Finished = codes "Finished"
+kind_in_words KeepAlive = codes "Keep Alive"
+kind_in_words Prompt = codes "Prompt"
+kind_in_words NoPdu = codes "no PDU"
+kind_in_words Timer = codes "timer"
+kind_in_words Cancel = codes "cancel"
 
 unfoldable pub letter_of : Kind → List ℕ
 letter_of Metadata = codes "M"

@@ -1,23 +1,23 @@
 -- The lanes of a picture. Where something is in a lane is counted from the lane's top.
 --     span_of                       a part of the time axis
 --     until_phase, until_file       where a change ends: where the next one begins
---     phase_label, phase_text       the name of a phase where there is room for it, or its first letter;  a phase
+--     phase_label, phase_shape      the name of a phase where there is room for it, or its first letter;  a phase
 --     phases_text                   the phases of a transaction
 --     end_text                      the octets of a file up to an offset: the first are at the bottom
 --     gap_text                      a gap, 1 pixel high at least
 --     received_text, file_text      what was received of a file;  what is there of it
 --     files_text                    how a file fills
 --     id_text, title_text           the name of a transaction;  at the left of its lane, in two lines where it is long
---     name_text                     the name of a lane, and of its file, with its size
+--     lane_name_text                the name of a lane, and of its file, with its size
 --     top_of, lane_opening          the top of a lane;  where it is, and the line above it
 --     lane_text                     a lane
 use Rattle.std.specs.Prelude.{ℕ, ◌+◌, ◌-◌, ◌*◌, ◌==◌, nat_le, nat_lt, min, max, if◌then◌else◌, List, [], ◌∷◌, ◌++◌, Option, Some, None, codes, flat_map}
 use Rattle.cfdp_status.specs.declared.transaction.TransactionId.{TransactionId}
-use Rattle.cfdp_draw.specs.Axis.{level_of, right_of, x_of}
+use Rattle.cfdp_draw.specs.Axis.{level_of, axis_end, x_of}
 use Rattle.cfdp_draw.specs.Kinds.{phase_letter, phase_words}
 use Rattle.cfdp_draw.specs.Marks.{mark_text}
-use Rattle.cfdp_draw.specs.Shapes.{label_text, line_text, number_text, rect_text, text_closing, text_opening}
-use Rattle.cfdp_draw.specs.Words.{digits_of, labelled}
+use Rattle.cfdp_draw.specs.Shapes.{label_text, line_text, number_shape, rect_text, text_closing, text_opening}
+use Rattle.cfdp_draw.specs.Words.{digits_of, labelled_number}
 use Rattle.cfdp_draw.specs.declared.axis.At.{At}
 use Rattle.cfdp_draw.specs.declared.chart.FileChange.{FileChange}
 use Rattle.cfdp_draw.specs.declared.chart.Lane.{Lane}
@@ -40,15 +40,15 @@ phase_label phase s =
     else if nat_le 11 s.width then label_text (codes "kind") (record { x = s.x + 3; y = 59 }) (phase_letter phase)
     else []
 
-unfoldable pub phase_text : Option Phase → Span → List ℕ
-phase_text None s = []
-phase_text (Some phase) s =
+unfoldable pub phase_shape : Option Phase → Span → List ℕ
+phase_shape None s = []
+phase_shape (Some phase) s =
     rect_text (phase_words phase) (record { x = s.x; y = PHASES; width = s.width; height = PHASE_HEIGHT })
     ++ phase_label phase s
 
 abbrev pub phases_text : At → List PhaseChange → List ℕ
 phases_text total [] = []
-phases_text total (change ∷ rest) = phase_text change.phase (span_of total change.at (until_phase total rest))
+phases_text total (change ∷ rest) = phase_shape change.phase (span_of total change.at (until_phase total rest))
     ++ phases_text total rest
 
 unfoldable pub end_text : ℕ → ℕ → Span → List ℕ
@@ -84,34 +84,34 @@ files_text total size (change ∷ rest) = file_text size (span_of total change.a
     ++ files_text total size rest
 
 unfoldable pub id_text : TransactionId → List ℕ
-id_text id = labelled [] id.source ++ labelled (codes "/") id.number
+id_text id = labelled_number [] id.source ++ labelled_number (codes "/") id.number
 
 unfoldable pub title_text : TransactionId → List ℕ
 title_text id =
     if nat_lt 12 (digits_of id.source + digits_of id.number)
-    then number_text (codes "plain") (record { x = 10; y = 14 }) [] id.source
-    ++ number_text (codes "plain") (record { x = 10; y = 27 }) (codes "/") id.number
+    then number_shape (codes "plain") (record { x = 10; y = 14 }) [] id.source
+    ++ number_shape (codes "plain") (record { x = 10; y = 27 }) (codes "/") id.number
     else text_opening (codes "id") (record { x = 10; y = 22 }) ++ id_text id ++ text_closing
 
 abbrev pub name_by : Option TransactionId → Lane → List ℕ
 name_by None lane = label_text (codes "id") (record { x = 10; y = 22 }) (codes "no transaction")
 name_by (Some id) lane =
     title_text id ++ label_text (codes "plain") (record { x = 10; y = 40 }) lane.file.items
-    ++ number_text (codes "plain") (record { x = 10; y = 54 }) (codes "octets: ") lane.size
+    ++ number_shape (codes "plain") (record { x = 10; y = 54 }) (codes "octets: ") lane.size
 
-unfoldable pub name_text : Lane → List ℕ
-name_text lane = name_by lane.id lane
+unfoldable pub lane_name_text : Lane → List ℕ
+lane_name_text lane = name_by lane.id lane
 
 unfoldable pub top_of : ℕ → ℕ
 top_of lane = TOP + LANE * lane
 
 unfoldable pub lane_opening : At → ℕ → List ℕ
 lane_opening total index =
-    labelled (codes "<g transform=\"translate(0,") (top_of index) ++ codes ")\">\n"
-    ++ line_text (record { x = 0; y = 0 }) (right_of total + MARGIN)
+    labelled_number (codes "<g transform=\"translate(0,") (top_of index) ++ codes ")\">\n"
+    ++ line_text (record { x = 0; y = 0 }) (axis_end total + MARGIN)
 
 unfoldable pub lane_text : At → Lane → List ℕ
 lane_text total lane =
-    lane_opening total lane.index ++ name_text lane ++ files_text total lane.size lane.files.items
+    lane_opening total lane.index ++ lane_name_text lane ++ files_text total lane.size lane.files.items
     ++ phases_text total lane.phases.items
     ++ flat_map (mark_text total) lane.marks.items ++ codes "</g>\n"

@@ -10,7 +10,7 @@ use Rattle.std.specs.Prelude.{ℕ, ◌+◌, true, false, List, [], ◌++◌, cod
 use Rattle.cfdp_draw.specs.Kinds.{phase_words}
 use Rattle.cfdp_draw.specs.Marks.{mark_opening, shape_text}
 use Rattle.cfdp_draw.specs.Shapes.{label_text, rect_text}
-use Rattle.cfdp_draw.specs.Words.{labelled}
+use Rattle.cfdp_draw.specs.Words.{labelled_number}
 use Rattle.cfdp_draw.specs.declared.kinds.Kind.{Kind}
 use Rattle.cfdp_draw.specs.declared.kinds.Kind.TheVariants.{Eof}
 use Rattle.cfdp_draw.specs.declared.kinds.Phase.{Phase}
@@ -19,10 +19,12 @@ use Rattle.cfdp_draw.specs.declared.kinds.Way.TheVariants.{Came}
 use Rattle.cfdp_draw.specs.declared.legend.TheConstants.{FILE, FIRST, KINDS, PHASES, STYLE, WAYS}
 
 unfoldable pub size_text : ℕ → ℕ → List ℕ
-size_text width height = FIRST.now ++ labelled (codes "\" width=\"") width ++ labelled (codes "\" height=\"") height
+size_text width height = FIRST.now ++ labelled_number (codes "\" width=\"") width ++ labelled_number
+    (codes "\" height=\"") height
 
 unfoldable pub ground_text : ℕ → ℕ → List ℕ
-ground_text width height = STYLE.now ++ labelled [] width ++ labelled (codes "v") height ++ codes "H0z\"/>\n"
+ground_text width height = STYLE.now ++ labelled_number [] width ++ labelled_number (codes "v") height
+    ++ codes "H0z\"/>\n"
 
 unfoldable pub opening_text : ℕ → ℕ → List ℕ → List ℕ
 opening_text width height title =

@@ -10,3 +10,4 @@ pub mod Picture
 pub mod Shapes
 pub mod Times
 pub mod Words
+pub mod code

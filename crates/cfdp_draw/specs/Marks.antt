@@ -1,15 +1,15 @@
 -- The marks of a picture.
---     is_named             marks of a kind have it in words
+--     is_in_words          marks of a kind have it in words
 --     letter_text, cross_text         the letter in a mark;  the cross of what is dropped
 --     words_text, kind_text           a kind in words;  where a mark has it
 --     shape_text           all of these, after the outline
 --     mark_opening         which way a mark goes, and where it is
---     row_of               where the marks of a way are in a lane
+--     mark_row             where the marks of a way are in a lane
 --     mark_text            a mark
 use Rattle.std.specs.Prelude.{ℕ, Bool, if◌then◌else◌, List, [], ◌++◌, codes}
 use Rattle.cfdp_draw.specs.Axis.{has_words, has_data_words, x_of}
-use Rattle.cfdp_draw.specs.Kinds.{kind_words, letter_of, outline_of, way_opening}
-use Rattle.cfdp_draw.specs.Words.{escaped, labelled}
+use Rattle.cfdp_draw.specs.Kinds.{kind_in_words, letter_of, outline_of, way_opening}
+use Rattle.cfdp_draw.specs.Words.{escaped, labelled_number}
 use Rattle.cfdp_draw.specs.declared.axis.At.{At}
 use Rattle.cfdp_draw.specs.declared.chart.Mark.{Mark}
 use Rattle.cfdp_draw.specs.declared.kinds.Kind.{Kind}
@@ -18,9 +18,9 @@ use Rattle.cfdp_draw.specs.declared.kinds.Way.{Way}
 use Rattle.cfdp_draw.specs.declared.kinds.Way.TheVariants.{Came, Dropped, Sent}
 use Rattle.cfdp_draw.specs.declared.shapes.Spot.{Spot}
 
-unfoldable pub is_named : At → Kind → Bool
-is_named total FileData = has_data_words total
-is_named total _ = has_words total
+unfoldable pub is_in_words : At → Kind → Bool
+is_in_words total FileData = has_data_words total
+is_in_words total _ = has_words total
 
 unfoldable pub letter_text : Kind → List ℕ
 letter_text kind = codes "<text class=\"letter\" x=\"7\" y=\"10\">" ++ letter_of kind ++ codes "</text>"
@@ -31,7 +31,7 @@ cross_text Came = []
 cross_text Sent = []
 
 unfoldable pub words_text : Kind → List ℕ
-words_text kind = codes "<text class=\"kind\" x=\"17\" y=\"11\">" ++ kind_words kind ++ codes "</text>"
+words_text kind = codes "<text class=\"kind\" x=\"17\" y=\"11\">" ++ kind_in_words kind ++ codes "</text>"
 
 unfoldable pub kind_text : Bool → Kind → List ℕ
 kind_text named kind = if named then words_text kind else []
@@ -43,15 +43,15 @@ shape_text named kind way =
 
 unfoldable pub mark_opening : Way → Spot → List ℕ
 mark_opening way spot =
-    labelled (way_opening way) spot.x ++ labelled (codes ",") spot.y ++ codes ")\">"
+    labelled_number (way_opening way) spot.x ++ labelled_number (codes ",") spot.y ++ codes ")\">"
 
-abbrev pub row_of : Way → ℕ
-row_of Came = 4
-row_of Dropped = 4
-row_of Sent = 64
+abbrev pub mark_row : Way → ℕ
+mark_row Came = 4
+mark_row Dropped = 4
+mark_row Sent = 64
 
 unfoldable pub mark_text : At → Mark → List ℕ
 mark_text total mark =
-    mark_opening mark.way (record { x = x_of total mark.at; y = row_of mark.way }) ++ codes "<title>"
+    mark_opening mark.way (record { x = x_of total mark.at; y = mark_row mark.way }) ++ codes "<title>"
     ++ escaped mark.words.items ++ codes "</title>"
-    ++ shape_text (is_named total mark.kind) mark.kind mark.way
+    ++ shape_text (is_in_words total mark.kind) mark.kind mark.way

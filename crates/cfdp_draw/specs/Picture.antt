@@ -4,11 +4,11 @@
 --     plot_text            what is above the notes
 --     picture_text         the picture of what was collected
 use Rattle.std.specs.Prelude.{ℕ, ◌+◌, ◌*◌, min, List, ◌++◌, None, codes, flat_map, length}
-use Rattle.cfdp_draw.specs.Axis.{right_of}
+use Rattle.cfdp_draw.specs.Axis.{axis_end}
 use Rattle.cfdp_draw.specs.Blocks.{blocks_text}
 use Rattle.cfdp_draw.specs.Lanes.{lane_text}
 use Rattle.cfdp_draw.specs.Legend.{legend_text, opening_text}
-use Rattle.cfdp_draw.specs.Notes.{lines_of, notes_text, pointer_text}
+use Rattle.cfdp_draw.specs.Notes.{note_lines, notes_text, pointer_text}
 use Rattle.cfdp_draw.specs.Times.{times_text}
 use Rattle.cfdp_draw.specs.declared.blocks.TheConstants.{BASE}
 use Rattle.cfdp_draw.specs.declared.chart.Chart.{Chart}
@@ -21,7 +21,7 @@ unfoldable pub bottom_of : List Lane → ℕ
 bottom_of lanes = TOP + LANE * min (length lanes) MOST_LANES
 
 unfoldable pub height_of : Chart → ℕ
-height_of chart = bottom_of chart.lanes.items + BASE + LINE * lines_of chart.notes.items + 52
+height_of chart = bottom_of chart.lanes.items + BASE + LINE * note_lines chart.notes.items + 52
 
 unfoldable pub plot_text : Chart → List ℕ
 plot_text chart =
@@ -31,5 +31,5 @@ plot_text chart =
 
 unfoldable pub picture_text : Chart → List ℕ
 picture_text chart =
-    opening_text (right_of chart.here + MARGIN) (height_of chart) chart.title.items ++ legend_text ++ plot_text chart
+    opening_text (axis_end chart.here + MARGIN) (height_of chart) chart.title.items ++ legend_text ++ plot_text chart
     ++ notes_text chart (bottom_of chart.lanes.items + BASE + 14) ++ codes "</svg>\n"

@@ -5,7 +5,7 @@
 --     times_text           the times of moments, where there is room for them
 use Rattle.std.specs.Prelude.{ℕ, ◌+◌, ◌*◌, ◌==◌, ◌&&◌, Bool, true, not, nat_le, if◌then◌else◌, List, [], ◌∷◌, ◌++◌, Option, Some, None, codes}
 use Rattle.cfdp_draw.specs.Axis.{x_of}
-use Rattle.cfdp_draw.specs.Shapes.{grid_text, number_text}
+use Rattle.cfdp_draw.specs.Shapes.{grid_text, number_shape}
 use Rattle.cfdp_draw.specs.Words.{digits_of}
 use Rattle.cfdp_draw.specs.declared.axis.At.{At}
 use Rattle.cfdp_draw.specs.declared.blocks.TheConstants.{BASE}
@@ -25,7 +25,7 @@ is_shown free last x time = is_other last time && nat_le free x
 unfoldable pub time_text : ℕ → ℕ → ℕ → List ℕ
 time_text bottom x time =
     grid_text (record { x = x; y = TOP }) (bottom + BASE)
-    ++ number_text (codes "plain") (record { x = x; y = bottom + 15 }) [] time
+    ++ number_shape (codes "plain") (record { x = x; y = bottom + 15 }) [] time
 
 abbrev pub times_text : At → ℕ → ℕ → Option ℕ → List Moment → List ℕ
 times_text total bottom free last [] = []

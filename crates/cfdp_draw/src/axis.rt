@@ -1,7 +1,7 @@
 //! Where things are in a picture, in pixels.
 
 ghost use Rattle.std.specs.Prelude.{◌≡◌, ◌≤◌, ◌^◌};
-ghost use Rattle.cfdp_draw.specs.Axis.{has_data_words, has_words, level_of, pitch, right_of, room, x_of};
+ghost use Rattle.cfdp_draw.specs.Axis.{has_data_words, has_words, level_of, pitch, axis_end, room, x_of};
 
 /// Where the time axis begins.
 pub(crate) const LEFT: u64 = 150;
@@ -62,9 +62,9 @@ pub(crate) fn has_data_words(total: At) -> bool
 }
 
 /// The end of the time axis.
-#[tactic(auto, unfolding(crate::specs::Axis::right_of))]
+#[tactic(auto, unfolding(crate::specs::Axis::axis_end))]
 pub(crate) fn right_of(total: At) -> u64
-    ensures value { result ≡ right_of total }
+    ensures value { result ≡ axis_end total }
     ensures most { result ≤ 2 ^ 40 }
 {
     LEFT + pitch(total) * u64::from(total.places) + u64::from(room(total))

@@ -1,7 +1,7 @@
 //! The blocks of the filestore, below the lanes of a picture.
 
 ghost use Rattle.std.specs.Prelude.{◌≡◌, ◌++◌, OnOk, flat_map};
-ghost use Rattle.cfdp_draw.specs.Blocks.{amount, blocks_text, colour_text, level_text, line_opening, meaning_text, path_text, scale_text, step_text};
+ghost use Rattle.cfdp_draw.specs.Blocks.{amount, blocks_text, colour_text, level_text, line_opening, blocks_meaning, path_text, scale_text, step_text};
 
 use crate::axis::{At, LEFT, level_of, right_of, x_of};
 use crate::chart::{Blocks, Chart, Moment};
@@ -134,9 +134,9 @@ fn push_colour(words: &[u8], y: u32, text: &mut Vec<u8>) -> Result<(), AllocErro
 }
 
 /// Appends what the lines mean, and the most blocks that were taken.
-#[tactic(auto, unfolding(crate::specs::Blocks::meaning_text))]
+#[tactic(auto, unfolding(crate::specs::Blocks::blocks_meaning))]
 fn push_meaning(most: u32, text: &mut Vec<u8>) -> Result<(), AllocError>
-    ensures { OnOk result (text.new.items ≡ text.old.items ++ meaning_text most) }
+    ensures { OnOk result (text.new.items ≡ text.old.items ++ blocks_meaning most) }
 {
     push_label(b"id", Spot { x: 10, y: 52 }, b"blocks", text)?;
     push_colour(b"used", 60, text)?;

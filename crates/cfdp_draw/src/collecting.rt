@@ -2,7 +2,8 @@
 
 ghost use Rattle.std.specs.Prelude.{◌≡◌, ◌≢◌, ◌↔◌, ◌+◌, ◌≤◌, ◌++◌, ◌∷◌, [], ℕ, None, Some, Err, IfOk, IfSome, IsTrue, OnOk, slice_get};
 ghost use Rattle.std.specs.List.{AllByRecursion};
-ghost use Rattle.cfdp_draw.specs.Collecting.{Gains, HasLane, IsNoted, ids_of, is_wide, last_phase, marks_at, next_of};
+ghost use Rattle.cfdp_draw.specs.Collecting.{Gains, HasLane, IsNoted, ids_of, marks_at};
+ghost use Rattle.cfdp_draw.specs.code.Collecting.{is_wide, last_phase, next_of};
 
 use crate::axis::At;
 use crate::chart::{
@@ -66,7 +67,7 @@ impl Lane {
     }
 
     /// Where the next mark of a way is.
-    #[tactic(auto, unfolding(crate::specs::Collecting::next_of))]
+    #[tactic(auto, unfolding(crate::specs::code::Collecting::next_of))]
     fn next(&self, way: Way, here: At) -> At
         ensures { result ≡ next_of self.now way here }
     {

@@ -1,7 +1,7 @@
 //! What the marks and colours of a picture mean.
 
 ghost use Rattle.std.specs.Prelude.{◌≡◌};
-ghost use Rattle.cfdp_draw.specs.Kinds.{kind_of_directive, letter_of, outline_of, kind_words, phase_letter, phase_words, way_opening};
+ghost use Rattle.cfdp_draw.specs.Kinds.{kind_of_directive, letter_of, outline_of, kind_in_words, phase_letter, phase_words, way_opening};
 
 /// What a mark shows.
 #[derive(Clone, Copy, Debug, PartialEq, Eq)]
@@ -67,9 +67,9 @@ impl Kind {
     }
 
     /// The kind in words.
-    #[tactic(auto, unfolding(crate::specs::Kinds::kind_words))]
+    #[tactic(auto, unfolding(crate::specs::Kinds::kind_in_words))]
     pub fn words(self) -> &'static [u8]
-        ensures { result.now ≡ kind_words self }
+        ensures { result.now ≡ kind_in_words self }
     {
         match self {
             Kind::Metadata => b"Metadata",

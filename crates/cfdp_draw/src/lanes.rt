@@ -1,7 +1,7 @@
 //! The lanes of a picture.
 
 ghost use Rattle.std.specs.Prelude.{◌≡◌, ◌≤◌, ◌^◌, ◌++◌, OnOk, flat_map};
-ghost use Rattle.cfdp_draw.specs.Lanes.{end_text, file_text, files_text, gap_text, id_text, lane_opening, lane_text, name_text, phase_label, phase_text, phases_text, received_text, span_of, title_text, top_of, until_file, until_phase};
+ghost use Rattle.cfdp_draw.specs.Lanes.{end_text, file_text, files_text, gap_text, id_text, lane_opening, lane_text, lane_name_text, phase_label, phase_shape, phases_text, received_text, span_of, title_text, top_of, until_file, until_phase};
 
 use crate::axis::{At, level_of, right_of, x_of};
 use crate::chart::{FileChange, Lane, PhaseChange, Range, Received};
@@ -73,10 +73,10 @@ fn push_phase_label(phase: Phase, span: Span, text: &mut Vec<u8>) -> Result<(), 
 }
 
 /// Appends a phase.
-#[tactic(auto, unfolding(crate::specs::Lanes::phase_text))]
+#[tactic(auto, unfolding(crate::specs::Lanes::phase_shape))]
 fn push_phase(phase: Option<Phase>, span: Span, text: &mut Vec<u8>) -> Result<(), AllocError>
     requires { span.x ≤ 2 ^ 40 }
-    ensures { OnOk result (text.new.items ≡ text.old.items ++ phase_text phase span) }
+    ensures { OnOk result (text.new.items ≡ text.old.items ++ phase_shape phase span) }
 {
     let Some(phase) = phase else {
         return Ok(());
@@ -261,9 +261,9 @@ fn push_title(id: TransactionId, text: &mut Vec<u8>) -> Result<(), AllocError>
 }
 
 /// Appends the name of a lane, and of its file, with its size.
-#[tactic(auto, unfolding(crate::specs::Lanes::name_text))]
+#[tactic(auto, unfolding(crate::specs::Lanes::lane_name_text))]
 fn push_name(lane: &Lane, text: &mut Vec<u8>) -> Result<(), AllocError>
-    ensures { OnOk result (text.new.items ≡ text.old.items ++ name_text lane.now) }
+    ensures { OnOk result (text.new.items ≡ text.old.items ++ lane_name_text lane.now) }
 {
     let Some(id) = lane.id else {
         return push_label(b"id", Spot { x: 10, y: 22 }, b"no transaction", text);

@@ -1,7 +1,7 @@
 //! The marks of a picture.
 
 ghost use Rattle.std.specs.Prelude.{◌≡◌, ◌++◌, OnOk, flat_map};
-ghost use Rattle.cfdp_draw.specs.Marks.{cross_text, is_named, kind_text, letter_text, mark_opening, mark_text, row_of, shape_text, words_text};
+ghost use Rattle.cfdp_draw.specs.Marks.{cross_text, is_in_words, kind_text, letter_text, mark_opening, mark_text, mark_row, shape_text, words_text};
 
 use crate::axis::{At, has_data_words, has_words, x_of};
 use crate::chart::Mark;
@@ -11,9 +11,9 @@ use crate::words::{push_escaped, push_labelled};
 use std::alloc::AllocError;
 
 /// Whether marks of a kind have it in words.
-#[tactic(auto, unfolding(crate::specs::Marks::is_named))]
+#[tactic(auto, unfolding(crate::specs::Marks::is_in_words))]
 fn is_named(total: At, kind: Kind) -> bool
-    ensures { result ≡ is_named total kind }
+    ensures { result ≡ is_in_words total kind }
 {
     match kind {
         Kind::FileData => has_data_words(total),
@@ -97,7 +97,7 @@ pub(crate) fn open_mark(way: Way, spot: Spot, text: &mut Vec<u8>) -> Result<(), 
 
 /// Where the marks of a way are in a lane.
 fn row_of(way: Way) -> u64
-    ensures { result ≡ row_of way }
+    ensures { result ≡ mark_row way }
 {
     match way {
         Way::Came | Way::Dropped => 4,

@@ -1,7 +1,7 @@
 //! The notes of a picture: what is refused, faulted or dropped, in words.
 
 ghost use Rattle.std.specs.Prelude.{◌≡◌, ◌≤◌, ◌^◌, ◌++◌, OnOk, flat_map};
-ghost use Rattle.cfdp_draw.specs.Notes.{ending_text, lines_of, note_text, notes_text, others_text, pointer_text, said_text, whose_text, why_text};
+ghost use Rattle.cfdp_draw.specs.Notes.{ending_text, note_lines, note_text, notes_text, others_text, pointer_text, said_text, whose_text, why_text};
 
 use crate::axis::{At, x_of};
 use crate::chart::{Chart, MOST_NOTES, Note};
@@ -126,9 +126,9 @@ fn push_ending(ending: &[u8], y: u64, text: &mut Vec<u8>) -> Result<(), AllocErr
 }
 
 /// How many lines of notes there are.
-#[tactic(auto, unfolding(crate::specs::Notes::lines_of))]
+#[tactic(auto, unfolding(crate::specs::Notes::note_lines))]
 pub(crate) fn lines_of(notes: &[Note]) -> u64
-    ensures value { result ≡ lines_of notes.now }
+    ensures value { result ≡ note_lines notes.now }
     ensures most { result ≤ 99 }
 {
     notes.len().min(MOST_NOTES) as u64

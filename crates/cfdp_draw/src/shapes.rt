@@ -1,7 +1,7 @@
 //! Elements of a picture.
 
 ghost use Rattle.std.specs.Prelude.{◌≡◌, ◌++◌, OnOk};
-ghost use Rattle.cfdp_draw.specs.Shapes.{area_text, grid_text, label_text, line_text, number_text, rect_text, text_closing, text_opening};
+ghost use Rattle.cfdp_draw.specs.Shapes.{area_text, grid_text, label_text, line_text, number_shape, rect_text, text_closing, text_opening};
 
 use crate::words::{push_escaped, push_labelled};
 use std::alloc::AllocError;
@@ -79,7 +79,7 @@ pub(crate) fn push_label(
 }
 
 /// Appends a number as a text, with a label before it.
-#[tactic(auto, unfolding(crate::specs::Shapes::number_text))]
+#[tactic(auto, unfolding(crate::specs::Shapes::number_shape))]
 pub(crate) fn push_number(
     class: &[u8],
     spot: Spot,
@@ -87,7 +87,7 @@ pub(crate) fn push_number(
     number: u64,
     text: &mut Vec<u8>,
 ) -> Result<(), AllocError>
-    ensures { OnOk result (text.new.items ≡ text.old.items ++ number_text class.now spot label.now number) }
+    ensures { OnOk result (text.new.items ≡ text.old.items ++ number_shape class.now spot label.now number) }
 {
     open_text(class, spot, text)?;
     push_labelled(label, number, text)?;

@@ -1,15 +1,15 @@
 //! Words of a picture.
 
 ghost use Rattle.std.specs.Prelude.{◌≡◌, ◌<◌, ◌≤◌, ◌++◌, flat_map, OnOk};
-ghost use Rattle.cfdp_draw.specs.Words.{digit_of, digits_of, escaped, escaped_octet, is_plain, labelled};
+ghost use Rattle.cfdp_draw.specs.Words.{digit_of, digits_of, escaped, escaped_octet, is_plain_in_xml, labelled_number};
 
 use itoa::Buffer;
 use std::alloc::AllocError;
 
 /// Appends a label, and a number in decimal.
-#[tactic(auto, unfolding(crate::specs::Words::labelled))]
+#[tactic(auto, unfolding(crate::specs::Words::labelled_number))]
 pub(crate) fn push_labelled(label: &[u8], number: u64, text: &mut Vec<u8>) -> Result<(), AllocError>
-    ensures { OnOk result (text.new.items ≡ text.old.items ++ labelled label.now number) }
+    ensures { OnOk result (text.new.items ≡ text.old.items ++ labelled_number label.now number) }
 {
     text.extend_from_slice(label)?;
     let mut buffer = Buffer::new();
@@ -40,7 +40,7 @@ fn digit_of(value: u8) -> u8
 
 /// Whether an octet is written as it is.
 fn is_plain(octet: u8) -> bool
-    ensures { result ≡ is_plain octet }
+    ensures { result ≡ is_plain_in_xml octet }
 {
     (b' '..=b'~').contains(&octet) && octet != b'%'
 }

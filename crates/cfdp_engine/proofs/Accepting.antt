@@ -8,7 +8,8 @@ use Rattle.cfdp_transactions.specs.World.{World}
 use Rattle.cfdp_transactions.specs.Engine.{Engine}
 use Rattle.cfdp_transactions.specs.Next.{next}
 use Rattle.cfdp_transactions.specs.Needs.{Follows}
-use Rattle.cfdp_engine.specs.Journal.{Recorded, IsWhole, is_answered, is_full, entered}
+use Rattle.cfdp_engine.specs.Journal.{Recorded, is_answered, has_full_journal, entered}
+use Rattle.cfdp_engine.specs.code.Journal.{IsWholeJournal}
 use Rattle.cfdp_engine.proofs.Keeping.{is_journal_full, next_keeps}
 use Rattle.cfdp_engine.proofs.Histories.{history_more}
 
@@ -25,7 +26,7 @@ answered_by reply other taken = refl
 pub not_full : (reply : Reply) → IsFalse (is_journal_full reply) → reply ≡ Reply.JournalFull → ⊥
 not_full reply taken is = let q = ap is_journal_full is in cc
 
-pub below : (j : Recorded) → length j.journal < j.core.world.config.journal → IsTrue (is_full j) → ⊥
+pub below : (j : Recorded) → length j.journal < j.core.world.config.journal → IsTrue (has_full_journal j) → ⊥
 below j room full = grind (arith, nat_tests)
 
 module _ (j : Recorded) (seat : ℕ) (event : Event) (reply : Reply) (E : Engine) (follows : Follows j.core.world event reply E.world) (other : reply
@@ -42,8 +43,8 @@ module _ (j : Recorded) (seat : ℕ) (event : Event) (reply : Reply) (E : Engine
   config : E.world.config ≡ j.core.world.config
   config = subst (λ (a : World × Reply). a.0.config ≡ j.core.world.config) now (next_keeps j.core.world event).config
 
-  pub whole_more : (capacity : ℕ) → IsWhole capacity j → length j.journal < j.core.world.config.journal
-      → IsWhole capacity (record { core = E; journal = j.journal ++ record { seat = seat; event = event; reply = reply } ∷ [] })
+  pub whole_more : (capacity : ℕ) → IsWholeJournal capacity j → length j.journal < j.core.world.config.journal
+      → IsWholeJournal capacity (record { core = E; journal = j.journal ++ record { seat = seat; event = event; reply = reply } ∷ [] })
   whole_more capacity old room = record {
     history = history_more j.journal j.core.world E.world (record { seat = seat; event = event; reply = reply }) old.history now;
     within = rw (config, length-append) (omega arith);

@@ -2,10 +2,10 @@
 use Rattle.std.proofs.Common.{◌≡◌, ℕ, ◌≤◌, [], refl, sym, arith}
 use Rattle.cfdp_transactions.specs.World.{start}
 use Rattle.cfdp_transactions.specs.Engine.{Engine}
-use Rattle.cfdp_engine.specs.Journal.{IsWhole}
+use Rattle.cfdp_engine.specs.code.Journal.{IsWholeJournal}
 
 pub whole_start : (capacity : ℕ) (E : Engine) → E.world ≡ start E.world.config → E.world.config.journal ≤ capacity →
-    IsWhole capacity (record { core = E; journal = [] })
+    IsWholeJournal capacity (record { core = E; journal = [] })
 whole_start capacity E begun room = record {
   history = record { replies = refl; world = sym begun };
   within = omega arith;

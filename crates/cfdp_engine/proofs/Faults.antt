@@ -2,12 +2,12 @@
 use Rattle.std.proofs.Common.{ℕ, ◌+◌, List, [], ◌∷◌, ◌++◌, inl, inr}
 use Rattle.std.specs.Prelude.{Bool, IsTrue, IsFalse}
 use Rattle.cfdp_engine.specs.Journal.{Entry}
-use Rattle.cfdp_engine.specs.Seats.{Receipt, Fault, CountDiffers, SeatTwice, ReceiptDiffers, Seated, AreApart, IsFirstTwice, AreEntered, AllEntered, IsFirstUnentered, IsFirstDiffering, IsReconciled, IsFirstFault}
+use Rattle.cfdp_engine.specs.Seats.{Receipt, Fault, CountDiffers, SeatTwice, ReceiptDiffers, Seated, SeatsDiffer, IsFirstTwice, AreEntered, AllEntered, IsFirstUnentered, IsFirstDiffering, IsReconciled, IsFirstFault}
 
 both : (b : Bool) → IsTrue b → IsFalse b → ⊥
 both b holds fails = cc
 
-twice_apart : (before seats : List Seated) (number : ℕ) → IsFirstTwice before seats number → AreApart before seats → ⊥
+twice_apart : (before seats : List Seated) (number : ℕ) → IsFirstTwice before seats number → SeatsDiffer before seats → ⊥
 twice_apart before [] number twice apart = twice
 twice_apart before (s ∷ ss) number twice apart = elim twice [
   | inl here ↦ both _ here.0 apart.0

@@ -5,7 +5,7 @@ use Rattle.cfdp_transactions.specs.declared.reply.Reply.{Reply}
 use Rattle.cfdp_transactions.specs.Config.{Config}
 use Rattle.cfdp_transactions.specs.World.{World, start}
 use Rattle.cfdp_transactions.specs.Next.{next, run, replies}
-use Rattle.cfdp_engine.specs.Journal.{Entry, IsHistory, events_of, replies_of}
+use Rattle.cfdp_engine.specs.Journal.{Entry, IsHistory, journal_events, replies_of}
 use Rattle.cfdp_engine.proofs.Keeping.{next_keeps}
 
 run_more : (W : World) (events : List Event) (event : Event) → run W (events ++ event ∷ []) ≡ (next (run W events) event).0
@@ -16,7 +16,7 @@ replies_more : (W : World) (events : List Event) (event : Event) → replies W (
 replies_more W [] event = refl
 replies_more W (v ∷ vs) event = ap (λ rs. (next W v).1 ∷ rs) (replies_more (next W v).0 vs event)
 
-events_more : (journal : List Entry) (e : Entry) → events_of (journal ++ e ∷ []) ≡ events_of journal ++ e.event ∷ []
+events_more : (journal : List Entry) (e : Entry) → journal_events (journal ++ e ∷ []) ≡ journal_events journal ++ e.event ∷ []
 events_more [] e = refl
 events_more (d ∷ ds) e = ap (λ vs. d.event ∷ vs) (events_more ds e)
 
@@ -25,10 +25,10 @@ replied_more [] e = refl
 replied_more (d ∷ ds) e = ap (λ rs. d.reply ∷ rs) (replied_more ds e)
 
 events_end : (journal : List Entry) (W V : World) (e : Entry) → IsHistory journal W → next W e.event ≡ (V, e.reply) →
-    run (start W.config) (events_of (journal ++ e ∷ [])) ≡ V
+    run (start W.config) (journal_events (journal ++ e ∷ [])) ≡ V
 events_end journal W V e h follows =
     ap (λ (vs : List Event). run (start W.config) vs) (events_more journal e)
-    ∙ run_more (start W.config) (events_of journal) e.event
+    ∙ run_more (start W.config) (journal_events journal) e.event
     ∙ ap (λ (X : World). (next X e.event).0) h.world
     ∙ ap (λ (a : World × Reply). a.0) follows
 
@@ -39,11 +39,11 @@ history_more journal W V e h follows =
       replies = rw (
         config,
         events_more journal e,
-        replies_more (start W.config) (events_of journal) e.event,
+        replies_more (start W.config) (journal_events journal) e.event,
         h.world,
         follows,
         replied_more journal e,
         h.replies,
       ) refl;
-      world = subst (λ (c : Config). run (start c) (events_of (journal ++ e ∷ [])) ≡ V) (sym config) (events_end journal W V e h follows);
+      world = subst (λ (c : Config). run (start c) (journal_events (journal ++ e ∷ [])) ≡ V) (sym config) (events_end journal W V e h follows);
     }

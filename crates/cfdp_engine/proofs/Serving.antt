@@ -8,30 +8,33 @@ use Rattle.cfdp_status.specs.declared.transaction.TransactionId.{TransactionId}
 use Rattle.cfdp_transactions.specs.declared.event.Event.{Event}
 use Rattle.cfdp_transactions.specs.declared.event.Event.TheVariants.{Step}
 use Rattle.cfdp_engine.specs.Seats.{Seated, Receipt}
-use Rattle.cfdp_engine.specs.Sharing.{IsReceived, Adds, told_of}
-use Rattle.cfdp_engine.specs.Working.{Message, is_step, AreSteps, Brings, BringAll, BeginsOne, BeginAll, event_in, is_passed_over, passed_over}
+use Rattle.cfdp_engine.specs.Sharing.{IsReceived, AddsReceipts, receipt_events}
+use Rattle.cfdp_engine.specs.Working.{Message, is_step_event, AreSteps, Brings, BringAll, BeginAll, event_in, is_passed_over, passed_over}
+use Rattle.cfdp_engine.specs.code.Working.{BeginsOne}
 use Rattle.cfdp_engine.specs.declared.message.Message.TheVariants as messages
 
-told_more : (rs qs : List Receipt) → told_of (rs ++ qs) ≡ told_of rs ++ told_of qs
+told_more : (rs qs : List Receipt) → receipt_events (rs ++ qs) ≡ receipt_events rs ++ receipt_events qs
 told_more [] qs = refl
 told_more (r ∷ rs) qs = ap (λ (es : List Event). r.event ∷ es) (told_more rs qs)
 
 -- nothing more
-pub adds_none : (P : List Event → Type 0) (s : Seated) → P [] → Adds P s s
+pub adds_none : (P : List Event → Type 0) (s : Seated) → P [] → AddsReceipts P s s
 adds_none P s p = record { added = []; number = refl; receipts = sym (append-nil s.receipts); events = p }
 
 -- and then some more
-pub adds_both : (P Q R : List Event → Type 0) (old mid new : Seated) → ((es fs : List Event) → P es → Q fs → R (es ++ fs)) → Adds P old mid → Adds Q mid new →
-    Adds R old new
+pub adds_both : (P Q R : List Event → Type 0) (old mid new : Seated) → ((es fs : List Event) → P es → Q fs → R (es ++ fs)) → AddsReceipts P old mid →
+    AddsReceipts Q mid new →
+    AddsReceipts R old new
 adds_both P Q R old mid new joined a b = record {
   added = a.added ++ b.added;
   number = b.number ∙ a.number;
   receipts = b.receipts ∙ ap (λ (rs : List Receipt). rs ++ b.added) a.receipts ∙ append_assoc old.receipts a.added b.added;
-  events = subst R (sym (told_more a.added b.added)) (joined (told_of a.added) (told_of b.added) a.events b.events);
+  events = subst R (sym (told_more a.added b.added)) (joined (receipt_events a.added) (receipt_events b.added) a.events b.events);
 }
 
 -- one receipt
-pub adds_one : (P : List Event → Type 0) (old new : Seated) (place : ℕ) (event : Event) → IsReceived old new place event → P (event ∷ []) → Adds P old new
+pub adds_one : (P : List Event → Type 0) (old new : Seated) (place : ℕ) (event : Event) → IsReceived old new place event → P (event ∷ []) →
+    AddsReceipts P old new
 adds_one P old new place event r p = record {
   added = record { place = place; event = event; reply = r.reply } ∷ [];
   number = r.number;
@@ -41,27 +44,28 @@ adds_one P old new place event r p = record {
 
 -- steps --------------------------------------------------------------------------
 
-all_steps : (es : List Event) (id : TransactionId) → AllByRecursion (λ e. IsTrue (is_step e)) es → AllByRecursion (λ e. IsTrue (is_step e)) (es ++ Step id ∷ [])
+all_steps : (es : List Event) (id : TransactionId) → AllByRecursion (λ e. IsTrue (is_step_event e)) es → AllByRecursion (λ e. IsTrue (is_step_event e))
+    (es ++ Step id ∷ [])
 all_steps [] id all = (refl, tt)
 all_steps (e ∷ es) id all = (all.0, all_steps es id all.1)
 
 no_steps : AreSteps 0 []
 no_steps = record { steps = tt; few = omega arith }
 
-pub adds_no_step : (s : Seated) → Adds (AreSteps 0) s s
+pub adds_no_step : (s : Seated) → AddsReceipts (AreSteps 0) s s
 adds_no_step s = adds_none (AreSteps 0) s no_steps
 
 one_step : (most : ℕ) (es : List Event) (id : TransactionId) → AreSteps most es → AreSteps (most + 1) (es ++ Step id ∷ [])
 one_step most es id steps = record { steps = all_steps es id steps.steps; few = rw length-append (let few = steps.few in omega arith) }
 
-pub adds_step : (most : ℕ) (old mid new : Seated) (place : ℕ) (id : TransactionId) → Adds (AreSteps most) old mid → IsReceived mid new place (Step id) →
-    Adds (AreSteps (most + 1)) old new
+pub adds_step : (most : ℕ) (old mid new : Seated) (place : ℕ) (id : TransactionId) → AddsReceipts (AreSteps most) old mid → IsReceived mid new place (Step id) →
+    AddsReceipts (AreSteps (most + 1)) old new
 adds_step most old mid new place id before received =
     adds_both (AreSteps most) (λ es. es ≡ Step id ∷ []) (AreSteps (most + 1)) old mid new
     (λ es fs steps one. subst (λ (xs : List Event). AreSteps (most + 1) (es ++ xs)) (sym one) (one_step most es id steps))
     before (adds_one (λ es. es ≡ Step id ∷ []) mid new place (Step id) received refl)
 
-pub adds_fewer : (few most : ℕ) (old new : Seated) → few ≤ most → Adds (AreSteps few) old new → Adds (AreSteps most) old new
+pub adds_fewer : (few most : ℕ) (old new : Seated) → few ≤ most → AddsReceipts (AreSteps few) old new → AddsReceipts (AreSteps most) old new
 adds_fewer few most old new less a = record {
   added = a.added;
   number = a.number;
@@ -92,20 +96,20 @@ begins_none (messages.Pdu octets) = record { more = option_to_list (event_in oct
 begins_none (messages.Event event) = record { more = arc_value event ∷ []; brings = refl }
 begins_none messages.Run = record { more = []; brings = record { steps = tt; few = omega arith } }
 
-pub adds_nothing : (m : Message) (old new : Seated) → new ≡ old → Adds (BeginsOne m) old new
+pub adds_nothing : (m : Message) (old new : Seated) → new ≡ old → AddsReceipts (BeginsOne m) old new
 adds_nothing m old new same = rw same (adds_none (BeginsOne m) old (begins_none m))
 
 pub on_err : {T E : Type 0} (r : Result T E) (P : Type 0) → P → OnErr r P
 on_err (Ok x) P p = tt
 on_err (Err e) P p = p
 
-pub all_more : (ms : List Message) (m : Message) (old mid new : Seated) → Adds (BringAll ms) old mid → Adds (Brings m) mid new →
-    Adds (BringAll (ms ++ m ∷ [])) old new
+pub all_more : (ms : List Message) (m : Message) (old mid new : Seated) → AddsReceipts (BringAll ms) old mid → AddsReceipts (Brings m) mid new →
+    AddsReceipts (BringAll (ms ++ m ∷ [])) old new
 all_more ms m old mid new before one = adds_both (BringAll ms) (Brings m) (BringAll (ms ++ m ∷ [])) old mid new
     (λ es fs all here. bring_more ms m es fs all here) before one
 
-pub all_begun : (ms : List Message) (m : Message) (old mid new : Seated) → Adds (BringAll ms) old mid → Adds (BeginsOne m) mid new →
-    Adds (BeginAll (ms ++ m ∷ [])) old new
+pub all_begun : (ms : List Message) (m : Message) (old mid new : Seated) → AddsReceipts (BringAll ms) old mid → AddsReceipts (BeginsOne m) mid new →
+    AddsReceipts (BeginAll (ms ++ m ∷ [])) old new
 all_begun ms m old mid new before one = adds_both (BringAll ms) (BeginsOne m) (BeginAll (ms ++ m ∷ [])) old mid new
     (λ es fs all here. begin_more ms m es fs all here) before one
 

@@ -1,14 +1,13 @@
 -- The journal: each event that was taken, in order, with the number of the seat that handed it in and the reply.
 --     is_answered reply         the event was taken: it was refused neither because it is out of memory nor because the
 --                               journal is full
---     events_of, replies_of     what was handed in;  what was replied
+--     journal_events, replies_of  what was handed in;  what was replied
 --     IsHistory journal W       the journal is what one thread does: its events, run from the start, give each entry's
 --                               reply, and the world after them is W
 --     Recorded                the core, and its journal
---     is_full                   the journal has no room for another entry
+--     has_full_journal          the journal has no room for another entry
 --     entered j seat event reply        the journal after a call: one entry longer, where the event was taken
---     IsWhole                   what is true of a journal, by the room that it has, at all times
-use Rattle.std.specs.Prelude.{◌≡◌, ℕ, ◌≤◌, Bool, true, false, nat_le, if◌then◌else◌, List, [], ◌∷◌, ◌++◌, length, map}
+use Rattle.std.specs.Prelude.{◌≡◌, ℕ, Bool, true, false, nat_le, if◌then◌else◌, List, [], ◌∷◌, ◌++◌, length, map}
 use Rattle.cfdp_transactions.specs.declared.event.Event.{Event}
 use Rattle.cfdp_transactions.specs.declared.reply.Reply.{Reply}
 use Rattle.cfdp_transactions.specs.World.{World, start}
@@ -21,29 +20,24 @@ is_answered Reply.Memory = false
 is_answered Reply.JournalFull = false
 is_answered reply = true
 
-abbrev pub events_of : List Entry → List Event
-events_of journal = map (λ e. e.event) journal
+abbrev pub journal_events : List Entry → List Event
+journal_events journal = map (λ e. e.event) journal
 
 abbrev pub replies_of : List Entry → List Reply
 replies_of journal = map (λ e. e.reply) journal
 
 -- from the start of the configuration, which no event changes
 pub record IsHistory (journal : List Entry) (W : World) : Type 0 where
-  pub replies : replies (start W.config) (events_of journal) ≡ replies_of journal
-  pub world : run (start W.config) (events_of journal) ≡ W
+  pub replies : replies (start W.config) (journal_events journal) ≡ replies_of journal
+  pub world : run (start W.config) (journal_events journal) ≡ W
 
 pub record Recorded : Type 0 where
   pub core : Engine
   pub journal : List Entry
 
-abbrev pub is_full : Recorded → Bool
-is_full j = nat_le j.core.world.config.journal (length j.journal)
+abbrev pub has_full_journal : Recorded → Bool
+has_full_journal j = nat_le j.core.world.config.journal (length j.journal)
 
 abbrev pub entered : List Entry → (seat : ℕ) → Event → Reply → List Entry
 entered journal seat event reply = if is_answered reply then journal
     ++ record { seat = seat; event = event; reply = reply } ∷ [] else journal
-
-pub record IsWhole (capacity : ℕ) (j : Recorded) : Type 0 where
-  pub history : IsHistory j.journal j.core.world
-  pub within : length j.journal ≤ j.core.world.config.journal
-  pub room : j.core.world.config.journal ≤ capacity

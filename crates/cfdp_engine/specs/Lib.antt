@@ -2,3 +2,4 @@ pub mod Journal
 pub mod Seats
 pub mod Sharing
 pub mod Working
+pub mod code

@@ -1,8 +1,8 @@
 -- Those who hand in events, what they were informed of, and whether that is the journal.
 --     Seated                    a seat: its number, and its receipts
 --     receipts_in               how many receipts all seats have
---     is_taken, AreApart        a seat among these has the number;  the seats' numbers differ, also from those of the
---                               seats before
+--     is_number_taken, SeatsDiffer  a seat among these has the number;  the seats' numbers differ, also from those of
+--                               the seats before
 --     IsEntered J n low r       a seat's receipt: an entry of the journal, at an index that is not before `low`
 --     AreEntered                a seat's receipts, in order: entries at rising indexes
 --     IsReconciled J seats      the receipts are the journal: as many, of seats that differ, and each at its index
@@ -26,20 +26,20 @@ receipts_in (s ∷ ss) = length s.receipts + receipts_in ss
 
 -- numbers ------------------------------------------------------------------------
 
-abbrev pub is_taken : List Seated → ℕ → Bool
-is_taken seats number = list_any (λ s. s.number == number) seats
+abbrev pub is_number_taken : List Seated → ℕ → Bool
+is_number_taken seats number = list_any (λ s. s.number == number) seats
 
 -- each seat has a number that none before it has
-abbrev pub AreApart : (before : List Seated) → List Seated → Type 0
-AreApart before [] = ⊤
-AreApart before (s ∷ ss) = IsFalse (is_taken before s.number) × AreApart (before ++ s ∷ []) ss
+abbrev pub SeatsDiffer : (before : List Seated) → List Seated → Type 0
+SeatsDiffer before [] = ⊤
+SeatsDiffer before (s ∷ ss) = IsFalse (is_number_taken before s.number) × SeatsDiffer (before ++ s ∷ []) ss
 
 -- the first seat whose number one before it has
 abbrev pub IsFirstTwice : (before : List Seated) → List Seated → ℕ → Type 0
 IsFirstTwice before [] number = ⊥
 IsFirstTwice before (s ∷ ss) number =
-    (IsTrue (is_taken before s.number) × (number ≡ s.number))
-    ⊎ (IsFalse (is_taken before s.number) × IsFirstTwice (before ++ s ∷ []) ss number)
+    (IsTrue (is_number_taken before s.number) × (number ≡ s.number))
+    ⊎ (IsFalse (is_number_taken before s.number) × IsFirstTwice (before ++ s ∷ []) ss number)
 
 -- receipts -----------------------------------------------------------------------
 
@@ -73,11 +73,11 @@ IsFirstDiffering J (s ∷ ss) number place =
 
 pub record IsReconciled (J : List Entry) (seats : List Seated) : Type 0 where
   pub counted : length J ≡ receipts_in seats
-  pub apart : AreApart [] seats
+  pub apart : SeatsDiffer [] seats
   pub entered : AllEntered J seats
 
 abbrev pub IsFirstFault : List Entry → List Seated → Fault → Type 0
 IsFirstFault J seats CountDiffers = length J ≢ receipts_in seats
 IsFirstFault J seats (SeatTwice number) = (length J ≡ receipts_in seats) × IsFirstTwice [] seats number
-IsFirstFault J seats (ReceiptDiffers number place) = (length J ≡ receipts_in seats) × AreApart [] seats
+IsFirstFault J seats (ReceiptDiffers number place) = (length J ≡ receipts_in seats) × SeatsDiffer [] seats
     × IsFirstDiffering J seats number place

@@ -1,9 +1,8 @@
 -- What a worker does with what it is sent.
 --     event_in octets           the event of a PDU's octets: none, where they spell no PDU, or one that is no event
 --     is_passed_over            a PDU without an event
---     PassesOver message answer what is returned for one: that it is, or that there was no memory for its copy
 --     passed_over messages      how many of the messages are that
---     is_step, AreSteps         a Step;  Steps, and at most this many
+--     is_step_event, AreSteps   a Step;  Steps, and at most this many
 --     Brings message es         the events of a message
 --     BringAll messages es      those of all, in order
 --     BeginAll messages es      some first of these
@@ -11,16 +10,12 @@ use Rattle.std.specs.Prelude.{◌≡◌, ℕ, ◌+◌, ◌≤◌, Bool, true, fa
 use Rattle.std.specs.Option.{is_none, option_to_list}
 use Rattle.std.specs.List.{AllByRecursion}
 use Rattle.std.specs.Arc.{arc_value}
-use Rattle.cfdp_pdus.specs.First.{pdu_at}
-use Rattle.cfdp_pdus.specs.Receiving.{IsCopied}
 use Rattle.cfdp_pdus.specs.declared.fault.PduFault.{PduFault}
 use Rattle.cfdp_transactions.specs.declared.event.Event.{Event}
 use Rattle.cfdp_transactions.specs.declared.event.Event.TheVariants.{Step}
 use Rattle.cfdp_transactions.specs.Events.{event_at}
 pub use Rattle.cfdp_engine.specs.declared.message.Message.{Message}
 use Rattle.cfdp_engine.specs.declared.message.Message.TheVariants as messages
-use Rattle.cfdp_engine.specs.declared.stop.Stop.{Stop}
-use Rattle.cfdp_engine.specs.declared.stop.Stop.TheVariants as stops
 
 abbrev pub event_read : Result (Option Event) PduFault → Option Event
 event_read (Ok event) = event
@@ -33,21 +28,16 @@ abbrev pub is_passed_over : Message → Bool
 is_passed_over (messages.Pdu octets) = is_none (event_in octets.items)
 is_passed_over message = false
 
--- only a Metadata PDU and a File Data PDU are copied before they are judged
-abbrev pub PassesOver : Message → Result Bool Stop → Type 0
-PassesOver (messages.Pdu octets) (Err stops.Memory) = IsCopied (pdu_at octets.items)
-PassesOver message answer = answer ≡ Ok true
-
 abbrev pub passed_over : List Message → ℕ
 passed_over [] = 0
 passed_over (m ∷ ms) = (if is_passed_over m then 1 else 0) + passed_over ms
 
-abbrev pub is_step : Event → Bool
-is_step (Step id) = true
-is_step event = false
+abbrev pub is_step_event : Event → Bool
+is_step_event (Step id) = true
+is_step_event event = false
 
 pub record AreSteps (most : ℕ) (es : List Event) : Type 0 where
-  pub steps : AllByRecursion (λ e. IsTrue (is_step e)) es
+  pub steps : AllByRecursion (λ e. IsTrue (is_step_event e)) es
   pub few : length es ≤ most
 
 abbrev pub Brings : Message → List Event → Type 0
@@ -60,10 +50,6 @@ abbrev pub BringAll : List Message → List Event → Type 0
 BringAll [] es = es ≡ []
 BringAll (m ∷ ms) es = (first : List Event) × (others : List Event) × (es ≡ first ++ others) × Brings m first
     × BringAll ms others
-
-pub record BeginsOne (m : Message) (es : List Event) : Type 0 where
-  pub more : List Event
-  pub brings : Brings m (es ++ more)
 
 pub record BeginAll (ms : List Message) (es : List Event) : Type 0 where
   pub more : List Event

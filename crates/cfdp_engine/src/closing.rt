@@ -2,7 +2,7 @@
 
 ghost use Rattle.std.specs.Prelude.{◌≡◌, ◌↔◌, [], IsTrue, IsOk, IfOk, IfErr, IfSome, IfNone, length};
 ghost use Rattle.cfdp_engine.specs.Journal.{IsHistory};
-ghost use Rattle.cfdp_engine.specs.Seats.{AllEntered, AreApart, AreEntered, IsEntered, IsFirstDiffering, IsFirstFault, IsFirstTwice, IsFirstUnentered, IsReconciled, is_taken, receipts_in};
+ghost use Rattle.cfdp_engine.specs.Seats.{AllEntered, SeatsDiffer, AreEntered, IsEntered, IsFirstDiffering, IsFirstFault, IsFirstTwice, IsFirstUnentered, IsReconciled, is_number_taken, receipts_in};
 
 use crate::entry::Entry;
 use crate::fault::Fault;
@@ -51,14 +51,14 @@ fn are_counted(journal: &[Entry], seats: &[Seat]) -> bool
 
 /// Whether one of the seats has the number.
 fn has_number(seats: &[Seat], number: u8) -> bool
-    ensures { result ≡ is_taken seats.now number }
+    ensures { result ≡ is_number_taken seats.now number }
 {
     seats.iter().any(|seat| seat.number() == number)
 }
 
 /// The first number that a seat has though one before it has it.
 fn first_twice(seats: &[Seat]) -> Option<u8>
-    ensures apart { IfNone result (AreApart [] seats.now) }
+    ensures apart { IfNone result (SeatsDiffer [] seats.now) }
     ensures twice { IfSome result (λ number. IsFirstTwice [] seats.now number) }
 {
     for (place, seat) in seats.iter().enumerate() {

@@ -7,7 +7,7 @@ ghost use Rattle.cfdp_transactions.specs.Sound.{Sound};
 ghost use Rattle.cfdp_transactions.specs.Engine.{AsksForNone};
 ghost use Rattle.cfdp_transactions.specs.Needs.{Follows, may_want_memory};
 ghost use Rattle.cfdp_transactions.specs.Books.{IsAnswered};
-ghost use Rattle.cfdp_engine.specs.Journal.{IsHistory, entered, is_full};
+ghost use Rattle.cfdp_engine.specs.Journal.{IsHistory, entered, has_full_journal};
 
 use crate::entry::Entry;
 use crate::event::SharedEvent;
@@ -32,8 +32,9 @@ pub struct Journaled<S: Filestore> {
 impl<S: Filestore> Model for Journaled<S> {
     ghost use Rattle.std.specs.Coded.{codes};
     ghost use Rattle.std.specs.Vec.{vec_capacity};
-    ghost use Rattle.cfdp_transactions.specs.Engine.{nodes_code};
+    ghost use Rattle.cfdp_transactions.specs.code.Engine.{nodes_code};
     ghost use Rattle.cfdp_engine.specs.Journal as words;
+    ghost use Rattle.cfdp_engine.specs.code.Journal as words_in_code;
 
     ghost Value = { words.Recorded };
 
@@ -41,7 +42,7 @@ impl<S: Filestore> Model for Journaled<S> {
 
     ghost view = { λ j. record { core = j.core; journal = j.entries.items } };
 
-    ghost invariant = { λ j. words.IsWhole (vec_capacity j.entries)
+    ghost invariant = { λ j. words_in_code.IsWholeJournal (vec_capacity j.entries)
         (record { core = j.core; journal = j.entries.items }) };
 }
 
@@ -91,9 +92,9 @@ impl<S: Filestore> Journaled<S> {
     ///
     /// Memory is asked for by [`Core::apply_both`] alone. Cost: that of `apply_both`.
     pub fn accept(&mut self, seat: u8, event: Arc<Event, Global>) -> Reply
-        ensures full { (result ≡ Reply.JournalFull) ↔ IsTrue (is_full self.old) }
-        ensures unchanged { IsTrue (is_full self.old) → self.new ≡ self.old }
-        ensures follows { IsFalse (is_full self.old) → Follows self.old.core.world
+        ensures full { (result ≡ Reply.JournalFull) ↔ IsTrue (has_full_journal self.old) }
+        ensures unchanged { IsTrue (has_full_journal self.old) → self.new ≡ self.old }
+        ensures follows { IsFalse (has_full_journal self.old) → Follows self.old.core.world
             (arc_value event) result self.new.core.world }
         ensures journal { self.new.journal ≡ entered self.old.journal seat (arc_value event) result }
         ensures answered { IsFalse (may_want_memory self.old.core.takes_no_memory (arc_value event)) →
@@ -117,9 +118,9 @@ impl<S: Filestore> Journaled<S> {
     /// where it is journaled: how many entries there were before.
     pub(crate) fn accept_at(&mut self, seat: u8, event: Arc<Event, Global>) -> (u32, Reply)
         ensures place { result.0 ≡ length self.old.journal }
-        ensures full { (result.1 ≡ Reply.JournalFull) ↔ IsTrue (is_full self.old) }
-        ensures unchanged { IsTrue (is_full self.old) → self.new ≡ self.old }
-        ensures follows { IsFalse (is_full self.old) → Follows self.old.core.world
+        ensures full { (result.1 ≡ Reply.JournalFull) ↔ IsTrue (has_full_journal self.old) }
+        ensures unchanged { IsTrue (has_full_journal self.old) → self.new ≡ self.old }
+        ensures follows { IsFalse (has_full_journal self.old) → Follows self.old.core.world
             (arc_value event) result.1 self.new.core.world }
         ensures journal { self.new.journal ≡ entered self.old.journal seat (arc_value event) result.1 }
     {

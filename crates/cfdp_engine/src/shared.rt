@@ -4,7 +4,8 @@ ghost use Rattle.std.specs.Prelude.{◌≡◌, IfOk, OnErr};
 ghost use Rattle.std.specs.Arc.{arc_value};
 ghost use Rattle.cfdp_transactions.specs.Sound.{Sound};
 ghost use Rattle.cfdp_engine.specs.Journal.{IsHistory};
-ghost use Rattle.cfdp_engine.specs.Sharing.{IsReceived, receipt_of};
+ghost use Rattle.cfdp_engine.specs.Sharing.{IsReceived};
+ghost use Rattle.cfdp_engine.specs.code.Sharing.{receipt_of};
 
 use crate::event::SharedEvent;
 use crate::journaled::Journaled;

@@ -1,7 +1,7 @@
 //! Why a seat's event was not taken.
 
 ghost use Rattle.std.specs.Prelude.{◌≡◌, codes, Some};
-ghost use Rattle.cfdp_engine.specs.Sharing.{words_of};
+ghost use Rattle.cfdp_engine.specs.Sharing.{stop_text};
 
 use std::alloc::AllocError;
 use std::error::Error;
@@ -19,7 +19,7 @@ pub enum Stop {
 impl Stop {
     /// The cause in words.
     fn words(self) -> &'static str
-        ensures { result.now ≡ words_of self }
+        ensures { result.now ≡ stop_text self }
     {
         match self {
             Stop::Memory => "out of memory",
@@ -29,7 +29,7 @@ impl Stop {
 }
 
 impl fmt::Display for Stop {
-    ghost output = { λ stop. Some (words_of stop) };
+    ghost output = { λ stop. Some (stop_text stop) };
 
     fn fmt<W: fmt::Write>(&self, f: &mut fmt::Formatter<W>) -> fmt::Result {
         f.write_str(self.words())

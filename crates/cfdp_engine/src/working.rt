@@ -2,10 +2,11 @@
 
 ghost use Rattle.std.specs.Prelude.{◌≡◌, [], IfOk, IsTrue, OnErr, OnOk, min};
 ghost use Rattle.std.specs.Arc.{arc_value};
-ghost use Rattle.cfdp_engine.specs.Sharing.{Adds, IsReceived};
+ghost use Rattle.cfdp_engine.specs.Sharing.{AddsReceipts, IsReceived};
 ghost use Rattle.cfdp_pdus.specs.First.{pdu_at};
 ghost use Rattle.cfdp_pdus.specs.Receiving.{IsCopied};
-ghost use Rattle.cfdp_engine.specs.Working.{AreSteps, BeginAll, BeginsOne, BringAll, Brings, event_in, is_passed_over, PassesOver, passed_over};
+ghost use Rattle.cfdp_engine.specs.Working.{AreSteps, BeginAll, BringAll, Brings, event_in, is_passed_over, passed_over};
+ghost use Rattle.cfdp_engine.specs.code.Working.{BeginsOne, PassesOver};
 
 use crate::gate::Gate;
 use crate::message::Message;
@@ -81,7 +82,7 @@ fn run<S: Filestore, R: Wait>(
     shared: &Shared<S>,
     seat: &mut Seat,
 ) -> Result<(), Stop>
-    ensures { Adds (AreSteps MOST_STEPS) seat.old seat.new }
+    ensures { AddsReceipts (AreSteps MOST_STEPS) seat.old seat.new }
 {
     for _ in 0..MOST_STEPS {
         let Some(id) = shared.next_runnable(rt) else {
@@ -101,10 +102,10 @@ fn serve<S: Filestore, R: Wait>(
     seat: &mut Seat,
     message: &Message,
 ) -> Result<bool, Stop>
-    ensures brings { OnOk result (Adds (Brings message.now) seat.old seat.new) }
+    ensures brings { OnOk result (AddsReceipts (Brings message.now) seat.old seat.new) }
     ensures passed_over { IfOk result (λ dropped. dropped ≡ is_passed_over message.now) }
     ensures goes_on { IsTrue (is_passed_over message.now) → PassesOver message.now result }
-    ensures stopped { OnErr result (Adds (BeginsOne message.now) seat.old seat.new) }
+    ensures stopped { OnErr result (AddsReceipts (BeginsOne message.now) seat.old seat.new) }
 {
     match message {
         Message::Run => run(rt, alloc, shared, seat)?,
@@ -170,9 +171,9 @@ fn serve_all<S: Filestore, R: Wait, G: Gate>(
 ) -> Result<(), Stop>
     requires taken { worked.old.taken.items ≡ [] }
     requires dropped { worked.old.dropped ≡ 0 }
-    ensures finished { OnOk result (Adds (BringAll worked.new.taken.items) worked.old.seat worked.new.seat) }
+    ensures finished { OnOk result (AddsReceipts (BringAll worked.new.taken.items) worked.old.seat worked.new.seat) }
     ensures dropped { OnOk result (worked.new.dropped ≡ min (passed_over worked.new.taken.items) u64.MAX) }
-    ensures stopped { OnErr result (Adds (BeginAll worked.new.taken.items) worked.old.seat worked.new.seat) }
+    ensures stopped { OnErr result (AddsReceipts (BeginAll worked.new.taken.items) worked.old.seat worked.new.seat) }
     ensures running { worked.new.stopped ≡ worked.old.stopped }
 {
     let mut turn = 0u64;
@@ -213,9 +214,9 @@ pub fn work<S: Filestore, R: Wait, G: Gate>(
     inbox: Receiver<Message, Global>,
     gate: &G,
 ) -> Worked
-    ensures finished { result.stopped ≡ None → Adds (BringAll result.taken.items) seat result.seat }
+    ensures finished { result.stopped ≡ None → AddsReceipts (BringAll result.taken.items) seat result.seat }
     ensures dropped { result.stopped ≡ None → result.dropped ≡ min (passed_over result.taken.items) u64.MAX }
-    ensures stopped { Adds (BeginAll result.taken.items) seat result.seat }
+    ensures stopped { AddsReceipts (BeginAll result.taken.items) seat result.seat }
 {
     let mut worked = Worked {
         seat,

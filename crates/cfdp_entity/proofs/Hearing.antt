@@ -10,12 +10,12 @@ use Rattle.cfdp_pdus.specs.declared.fault.PduFault.{PduFault}
 use Rattle.cfdp_transactions.specs.Events.{event_from}
 use Rattle.cfdp_transactions.specs.declared.event.Event.{Event}
 use Rattle.cfdp_transactions.specs.declared.event.Event.TheVariants.{Data}
-use Rattle.cfdp_entity.specs.Hearing.{heard_in, heard}
+use Rattle.cfdp_entity.specs.Hearing.{heard_event_in, heard_event}
 
-toward_us : (b : Bool) (event : Event) → b ≡ false → heard_in (Ok (if b then None else Some event)) ≡ Ok event
+toward_us : (b : Bool) (event : Event) → b ≡ false → heard_event_in (Ok (if b then None else Some event)) ≡ Ok event
 toward_us b event same = rw same refl
 
 -- a File Data PDU toward the receiver is heard
-pub data_heard : (octets : List ℕ) (h : Header) (d : FileDataFields) → pdu_at octets ≡ Ok (pdus.FileData h d) → h.toward_sender ≡ false → heard octets
+pub data_heard : (octets : List ℕ) (h : Header) (d : FileDataFields) → pdu_at octets ≡ Ok (pdus.FileData h d) → h.toward_sender ≡ false → heard_event octets
     ≡ Ok (Data h d)
-data_heard octets h d found ours = ap (λ (read : Result Pdu PduFault). heard_in (event_from read)) found ∙ toward_us h.toward_sender (Data h d) ours
+data_heard octets h d found ours = ap (λ (read : Result Pdu PduFault). heard_event_in (event_from read)) found ∙ toward_us h.toward_sender (Data h d) ours

@@ -18,7 +18,7 @@ use Rattle.cfdp_transactions.specs.Fitting.{OnlyWritable}
 use Rattle.cfdp_transactions.specs.Issuing.{taken_by}
 use Rattle.cfdp_transactions.specs.declared.issuing.ShortBuffer.{ShortBuffer}
 use Rattle.cfdp_transactions.specs.declared.issuing.TakenFinished.{TakenFinished}
-use Rattle.cfdp_transactions.proofs.Fitting.{writable_next}
+use Rattle.cfdp_transactions.proofs.Promises.Fitting.{writable_next}
 use Rattle.cfdp_transactions.specs.Next.{next}
 use Rattle.cfdp_entity.specs.Sending.{sent}
 

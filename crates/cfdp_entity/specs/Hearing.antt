@@ -1,5 +1,5 @@
 -- What octets that came bring to a receiving entity (CCSDS 727.0-B-5 §5.1 to §5.3).
---   heard octets            the event of the PDU that they spell, or why there is none
+--   heard_event octets      the event of the PDU that they spell, or why there is none
 --   IsUnheard octets why    why there was no reply: that there is none, or out of memory
 --   MayWantMemory octets    they spell a Metadata PDU: only this is copied
 use Rattle.std.specs.Prelude.{◌≡◌, ◌⊎◌, ⊤, ℕ, List, Option, Some, None, Result, Ok, Err}
@@ -13,20 +13,20 @@ use Rattle.cfdp_transactions.specs.declared.event.Event.{Event}
 use Rattle.cfdp_entity.specs.declared.fault.NotHeard.{NotHeard}
 use Rattle.cfdp_entity.specs.declared.fault.NotHeard.TheVariants.{Fault, NotOurs}
 
-abbrev pub heard_in : Result (Option Event) PduFault → Result Event NotHeard
-heard_in (Ok None) = Err NotOurs
-heard_in (Ok (Some event)) = Ok event
-heard_in (Err fault) = Err (Fault fault)
+abbrev pub heard_event_in : Result (Option Event) PduFault → Result Event NotHeard
+heard_event_in (Ok None) = Err NotOurs
+heard_event_in (Ok (Some event)) = Ok event
+heard_event_in (Err fault) = Err (Fault fault)
 
-abbrev pub heard : List ℕ → Result Event NotHeard
-heard octets = heard_in (event_at octets)
+abbrev pub heard_event : List ℕ → Result Event NotHeard
+heard_event octets = heard_event_in (event_at octets)
 
-abbrev pub IsCopied : Result Pdu PduFault → Type 0
-IsCopied (Ok (pdus.Metadata header metadata)) = ⊤
-IsCopied read = ⊥
+abbrev pub IsReadMetadata : Result Pdu PduFault → Type 0
+IsReadMetadata (Ok (pdus.Metadata header metadata)) = ⊤
+IsReadMetadata read = ⊥
 
 abbrev pub MayWantMemory : List ℕ → Type 0
-MayWantMemory octets = IsCopied (pdu_at octets)
+MayWantMemory octets = IsReadMetadata (pdu_at octets)
 
 abbrev pub IsUnheard : List ℕ → NotHeard → Type 0
-IsUnheard octets why = (heard octets ≡ Err why) ⊎ ((why ≡ Fault Memory) × MayWantMemory octets)
+IsUnheard octets why = (heard_event octets ≡ Err why) ⊎ ((why ≡ Fault Memory) × MayWantMemory octets)

@@ -20,7 +20,7 @@ ghost use Rattle.cfdp_transactions.specs.Needs.{Follows, may_want_memory};
 ghost use Rattle.cfdp_transactions.specs.Sound.{Sound};
 ghost use Rattle.cfdp_transactions.specs.Writable.{FitsReply, IsReadable, IsWritable, longest_finished};
 ghost use Rattle.cfdp_transactions.specs.Books.{IsAnswered};
-ghost use Rattle.cfdp_entity.specs.Hearing.{IsUnheard, heard};
+ghost use Rattle.cfdp_entity.specs.Hearing.{IsUnheard, heard_event};
 ghost use Rattle.cfdp_entity.specs.Sending.{IsUntaken, sent};
 ghost use Rattle.cfdp_entity.specs.declared.fault.NotTaken.TheVariants.{Memory as NoMemory, TooShort};
 
@@ -54,7 +54,7 @@ pub struct Entity {
 
 impl Model for Entity {
     ghost use Rattle.cfdp_transactions.specs.World.{World};
-    ghost use Rattle.cfdp_transactions.specs.Engine.{nodes_code};
+    ghost use Rattle.cfdp_transactions.specs.code.Engine.{nodes_code};
     ghost use Rattle.std.specs.Coded.{codes};
 
     ghost Value = { World };
@@ -216,7 +216,8 @@ impl Entity {
     /// Takes a PDU that is no File Data PDU.
     fn hear(&mut self, alloc: Global, octets: &[u8]) -> Result<(TransactionId, Reply), NotHeard>
         requires { IsNoFileData (pdu_at octets.now) }
-        ensures ok { IfOk result (λ told. (event : EventOf) × (heard octets.now ≡ Ok event) × (told.0 ≡ about event)
+        ensures ok { IfOk result (λ told. (event : EventOf) × (heard_event octets.now ≡ Ok event) ×
+            (told.0 ≡ about event)
             × (next self.old event ≡ (self.new, told.1))) }
         ensures err { IfErr result (IsUnheard octets.now) }
         ensures unchanged { OnErr result (self.new ≡ self.old) }
@@ -247,7 +248,8 @@ impl Entity {
         alloc: Global,
         octets: &[u8],
     ) -> Result<(TransactionId, Reply), NotHeard>
-        ensures ok { IfOk result (λ told. (event : EventOf) × (heard octets.now ≡ Ok event) × (told.0 ≡ about event)
+        ensures ok { IfOk result (λ told. (event : EventOf) × (heard_event octets.now ≡ Ok event) ×
+            (told.0 ≡ about event)
             × (next self.old event ≡ (self.new, told.1))) }
         ensures err { IfErr result (IsUnheard octets.now) }
         ensures unchanged { OnErr result (self.new ≡ self.old) }

@@ -17,8 +17,8 @@ use Rattle.cfdp_paths.proofs.Below.{at_or_below-itself}
 use Rattle.cfdp_leases.specs.declared.lease.Lease.TheVariants.{Exclusive, Shared}
 use Rattle.cfdp_leases.specs.declared.leased_paths.Holder.{Holder}
 use Rattle.cfdp_leases.specs.Footprint.{Footprint, leased, is_conflict, reaches}
-use Rattle.cfdp_leases.specs.Leases.{Grants, is_same, holds, without, AreApart}
-use Rattle.cfdp_leases.specs.Holders.{when, holders_of, holders_at, others}
+use Rattle.cfdp_leases.specs.Leases.{Grants, is_same, holds, without_grant, AreApart}
+use Rattle.cfdp_leases.specs.code.Holders.{when, holders_of, holders_at, others}
 use Rattle.cfdp_leases.proofs.Sets.{path_cmp_total, or_left, or_right, union_cases}
 use Rattle.cfdp_leases.proofs.ChangeFrame.{all-append}
 use Rattle.cfdp_leases.proofs.Conflict.{reaches_at}
@@ -105,7 +105,7 @@ same_of id g (h ∷ hs) same all = (ap (λ a. is_same a id) all.0 ∙ same, same
 pub others-strangers : (gs : Grants) (id : TransactionId) (p : Path) → holds gs id ≡ false → others id (holders_at gs p) ≡ holders_at gs p
 others-strangers gs id p unheld = all_stay id (holders_at gs p) (strangers gs id p unheld)
 
-pub others-without : (gs : Grants) (id : TransactionId) (p : Path) → others id (holders_at gs p) ≡ holders_at (without gs id) p
+pub others-without : (gs : Grants) (id : TransactionId) (p : Path) → others id (holders_at gs p) ≡ holders_at (without_grant gs id) p
 others-without [] id p = refl
 others-without (g ∷ gs) id p =
     filter-append (λ h. not (is_same h.transaction id)) (holders_of g.0 g.1 p) (holders_at gs p)
@@ -113,11 +113,11 @@ others-without (g ∷ gs) id p =
       | inl same ↦
           ap (λ hs. hs ++ others id (holders_at gs p)) (all_go id (holders_of g.0 g.1 p) (same_of id g (holders_of g.0 g.1 p) same (all_of g.0 g.1 p)))
           ∙ others-without gs id p
-          ∙ sym (ap (λ b. holders_at (cond (not b) (g ∷ without gs id) (without gs id)) p) same)
+          ∙ sym (ap (λ b. holders_at (cond (not b) (g ∷ without_grant gs id) (without_grant gs id)) p) same)
       | inr other ↦
           ap (λ hs. hs ++ others id (holders_at gs p)) (all_stay id (holders_of g.0 g.1 p) (not_of id g (holders_of g.0 g.1 p) other (all_of g.0 g.1 p)))
           ∙ ap (λ hs. holders_of g.0 g.1 p ++ hs) (others-without gs id p)
-          ∙ sym (ap (λ b. holders_at (cond (not b) (g ∷ without gs id) (without gs id)) p) other)
+          ∙ sym (ap (λ b. holders_at (cond (not b) (g ∷ without_grant gs id) (without_grant gs id)) p) other)
     ]
 
 -- ---- the indexes of holders
@@ -291,7 +291,7 @@ absent (k ∷ gs) id g p apart found none =
     ]
 
 pub released : (gs : Grants) (id : TransactionId) (g : Grant) (p : Path) → AreApart gs → find (λ h. is_same h.0 id) gs ≡ Some g
-    → left id (set.contains (leased g.1) p) (holders_at gs p) ≡ holders_at (without gs id) p
+    → left id (set.contains (leased g.1) p) (holders_at gs p) ≡ holders_at (without_grant gs id) p
 released gs id g p apart found =
     elim (cases_Bool (leasing p g)) [
       | inl has ↦ ap (λ b. left id b (holders_at gs p)) has ∙ others-without gs id p

@@ -12,7 +12,7 @@ use Rattle.cfdp_paths.specs.Paths.{Path}
 use Rattle.cfdp_paths.proofs.Below.{at_or_below-itself}
 use Rattle.cfdp_leases.specs.Footprint.{Footprint, leased, is_conflict, reaches}
 use Rattle.cfdp_leases.specs.Leases.{Grants, is_same, AreApart, first_conflict}
-use Rattle.cfdp_leases.specs.Holders.{holders_of, holders_at, others}
+use Rattle.cfdp_leases.specs.code.Holders.{holders_of, holders_at, others}
 use Rattle.cfdp_leases.proofs.Conflict.{reaches_at}
 use Rattle.cfdp_leases.proofs.Apart.{or_both, none_first}
 use Rattle.cfdp_leases.proofs.Admitted.{some_is, nobody_of, all_go, same_of, all_of}

@@ -12,7 +12,7 @@ use Rattle.cfdp_paths.specs.Paths.{Path, same_path, is_at_or_below, rebased}
 use Rattle.cfdp_paths.proofs.Comparing.{same_path-Decides}
 use Rattle.cfdp_paths.proofs.Below.{at_or_below-append, prefixes_compare}
 use Rattle.cfdp_actions.specs.Filestore.{Node, Directory, File, Filestore, node_at, staged_in, Change, Becomes, Stages, changed, after, has_entries, parent_is_good, tree_at}
-use Rattle.cfdp_actions.specs.Actions.{Item, Install, Perform, Request, CreateFile, DeleteFile, RenameFile, AppendFile, ReplaceFile, CreateDirectory, RemoveDirectory, DenyFile, DenyDirectory, refused, succeeds, create, delete_file, rename, is_too_deep, vacated, settled, append, replace, remove_directory, deny_file, deny_directory, install, table, free_row, is_barred, denied, row}
+use Rattle.cfdp_actions.specs.Actions.{Item, Install, Perform, Request, CreateFile, DeleteFile, RenameFile, AppendFile, ReplaceFile, CreateDirectory, RemoveDirectory, DenyFile, DenyDirectory, refused, succeeds, create, delete_file, rename, is_tree_too_deep, vacating, settled, append, replace, remove_directory, deny_file, deny_directory, install, table, free_row, is_barred, denied, row}
 use Rattle.cfdp_status.specs.declared.action.Action.TheVariants as action
 use Rattle.cfdp_status.specs.declared.status.Status.TheVariants.{NotAllowed}
 use Rattle.cfdp_leases.specs.Footprint.{Footprint, is_exclusive, is_covered, reaches, is_conflict, IsWithin}
@@ -65,7 +65,7 @@ module _ (fp : Footprint) (slot : ℕ) where
   Own changes = AllByRecursion (IsOwn fp slot) changes
 
   own_vacated : (p : Path) (es : List (Path × Node)) → is_exclusive fp p ≡ true → AllByRecursion (λ (e : Path × Node). is_at_or_below e.0 p ≡ true) es →
-      Own (vacated es)
+      Own (vacating es)
   own_vacated p [] h below = tt
   own_vacated p (e ∷ es) h below = (exclusive_below fp p e.0 h below.0, own_vacated p es h below.1)
 
@@ -93,10 +93,10 @@ module _ (fp : Footprint) (slot : ℕ) where
   own_rename p q (Some x) None false below es h k t = tt
   own_rename p q (Some x) None true true es h k t = tt
   own_rename p q (Some x) None true false es h k t =
-      elim (is_too_deep p q es) as (λ b. Own (if b then refused (NotAllowed action.RenameFile)
-      else succeeds action.RenameFile (vacated es ++ settled p q es) 0 0 0).changes) [
+      elim (is_tree_too_deep p q es) as (λ b. Own (if b then refused (NotAllowed action.RenameFile)
+      else succeeds action.RenameFile (vacating es ++ settled p q es) 0 0 0).changes) [
         | true ↦ tt
-        | false ↦ all-append (IsOwn fp slot) (vacated es) (settled p q es) (own_vacated p es h t) (own_settled p q es k)
+        | false ↦ all-append (IsOwn fp slot) (vacating es) (settled p q es) (own_vacated p es h t) (own_settled p q es k)
       ]
 
   own_append : (p : Path) (x y : Option Node) → is_exclusive fp p ≡ true → Own (append p x y).changes

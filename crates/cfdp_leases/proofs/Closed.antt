@@ -18,7 +18,8 @@ use Rattle.cfdp_paths.specs.Paths.{Path, same_path, ancestors, parent}
 use Rattle.cfdp_paths.proofs.Comparing.{same_path-Decides}
 use Rattle.cfdp_paths.proofs.Below.{ancestors-take, parent-take}
 use Rattle.cfdp_actions.specs.Actions.{Item}
-use Rattle.cfdp_leases.specs.Footprint.{HaveAncestors, SameSet, shared_in}
+use Rattle.cfdp_leases.specs.Footprint.{shared_in}
+use Rattle.cfdp_leases.specs.code.Footprint.{HaveAncestors, SameSet}
 use Rattle.cfdp_leases.proofs.Sets.{stands, stands_from_Contains, stands-append_left, stands-append_right, stands-append_cases}
 use Rattle.cfdp_leases.proofs.Conflict.{higher, list_ancestors}
 use Rattle.cfdp_leases.proofs.Ordered.{same_set_from, same_members, same_set-append}

@@ -12,7 +12,8 @@ use Rattle.cfdp_paths.specs.Paths.{Path, same_path, is_at_or_below, ancestors}
 use Rattle.cfdp_paths.proofs.Comparing.{same_path-Decides}
 use Rattle.cfdp_paths.proofs.Below.{at_or_below-itself, at_or_below-trans, at_or_below-antisym, below_ancestor, ancestor_from_below}
 use Rattle.cfdp_actions.specs.Actions.{Item}
-use Rattle.cfdp_leases.specs.Footprint.{exclusive_in, read_in, shared_in, any_in, SameSet, Footprint, of_lists, AreNamed, HasAncestors, footprint_of, leased, is_exclusive, is_covered, reaches, is_conflict, IsWithin}
+use Rattle.cfdp_leases.specs.Footprint.{exclusive_in, read_in, shared_in, any_in, Footprint, footprint_of, leased, is_exclusive, is_covered, reaches, is_conflict, IsWithin}
+use Rattle.cfdp_leases.specs.code.Footprint.{SameSet, of_lists, NoneIsRoot, HasAncestors}
 use Rattle.cfdp_leases.specs.Laws.{HasNames, CommonPath, ConflictByPaths, OwnFootprint}
 use Rattle.cfdp_leases.proofs.Sets.{or_left, or_right, stands, stands-append_left, stands-append_right, stands-append_cases, all_at, all_from, stands-flat_map, stands_in-flat_map, stands_from_Contains, Contains_from_stands, contains_from_stands, stands_from_contains, any_in-at, any_in-from, union_left, union_right, union_cases}
 
@@ -137,7 +138,7 @@ has_ancestors items named = record {
 }
 
 -- what was gathered of a list, as lists of the same paths none of which is the root, has their ancestors too
-pub gathered : (items : List Item) (xs ys : List Path) → SameSet xs (flat_map exclusive_in items) → SameSet ys (flat_map shared_in items) → AreNamed xs →
+pub gathered : (items : List Item) (xs ys : List Path) → SameSet xs (flat_map exclusive_in items) → SameSet ys (flat_map shared_in items) → NoneIsRoot xs →
     HasAncestors (of_lists xs ys)
 gathered items xs ys exclusive shared named = record {
   above = subst (λ fp. (p q : Path) → set.contains (leased fp) p ≡ true → stands q (ancestors p) → set.contains fp.shared q ≡ true)

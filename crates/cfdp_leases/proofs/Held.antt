@@ -36,7 +36,7 @@ use Rattle.cfdp_leases.specs.declared.leased_paths.Row.{Row}
 use Rattle.cfdp_leases.specs.declared.leased_paths.LeasedPaths.{LeasedPaths}
 use Rattle.cfdp_leases.specs.Footprint.{PathSet, Footprint, leased}
 use Rattle.cfdp_paths.specs.Hashes.{hash_of}
-use Rattle.cfdp_leases.specs.Holders.{AreFree, HasHash, Holds, HoldsSome, IsOther, holders_in, others, own_row, row_of, under_hash, unless_none, when}
+use Rattle.cfdp_leases.specs.code.Holders.{AreFree, HasHash, Holds, HoldsSome, IsOtherPath, holders_in, others, own_row, holders_by_path, under_hash, unless_none, when}
 use Rattle.cfdp_leases.proofs.Apart.{or_both}
 use Rattle.cfdp_leases.proofs.Sets.{path_cmp_total, same_path-itself, Contains_from_stands, stands_from_Contains, stands}
 
@@ -112,10 +112,10 @@ holds_same paths holders now same held = record { rows = λ p. held.rows p ∙ a
 
 -- the row under the path's hash is another path's, or there is none
 module _ (paths : LeasedPaths) (k : Path) (h : ℕ) (hash : h ≡ hash_of k) where
-  pub other_apart : (row : Row) → get nat_cmp paths.rows h ≡ Some row → same_path row.path k ≡ false → IsOther paths k
+  pub other_apart : (row : Row) → get nat_cmp paths.rows h ≡ Some row → same_path row.path k ≡ false → IsOtherPath paths k
   other_apart row found apart = ap (λ r. own_row r k) (ap (get nat_cmp paths.rows) (sym hash) ∙ found) ∙ ap (λ b. cond b (Some row.holders) None) apart
 
-  pub other_absent : get nat_cmp paths.rows h ≡ None → IsOther paths k
+  pub other_absent : get nat_cmp paths.rows h ≡ None → IsOtherPath paths k
   other_absent none = ap (λ r. own_row r k) (ap (get nat_cmp paths.rows) (sym hash) ∙ none)
 
 module _ (paths : LeasedPaths) (k : Path) (holders : Path → List Holder) (held : Holds paths holders) where
@@ -133,7 +133,7 @@ module _ (paths : LeasedPaths) (k : Path) (holders : Path → List Holder) (held
     pub under_once : get path_cmp paths.others k ≡ None
     under_once = held.once k (ap is_some own_there)
 
-  module _ (other : IsOther paths k) where
+  module _ (other : IsOtherPath paths k) where
     of_others : option_map holders_in (get path_cmp paths.others k) ≡ unless_none (holders k)
     of_others = sym (ap (λ o. option_map holders_in (option_or o (get path_cmp paths.others k))) other) ∙ held.rows k
 
@@ -148,7 +148,8 @@ module _ (paths : LeasedPaths) (k : Path) (holders : Path → List Holder) (held
 
   -- a path that nobody holds has no row
   pub free_none : holders k ≡ [] → (under_hash paths k ≡ None) × (get path_cmp paths.others k ≡ None)
-  free_none free = neither (under_hash paths k) (get path_cmp paths.others k) (none_mapped holders_in (row_of paths k) (held.rows k ∙ ap unless_none free))
+  free_none free = neither (under_hash paths k) (get path_cmp paths.others k) (none_mapped holders_in (holders_by_path paths k)
+      (held.rows k ∙ ap unless_none free))
 
 -- what is written back is what was there
 pub unwritten : {X : Type 0} (f g : ℕ → Option X) (h : ℕ) (x : X) → ((q : ℕ) → g q ≡ cond (is_eq (nat_cmp h q)) (Some x) (f q)) → f h ≡ Some x → (q : ℕ) → g q
@@ -163,7 +164,7 @@ unwritten f g h x update found q =
 
 -- what `Holds` says at one path
 abbrev HoldsAt : LeasedPaths → (Path → List Holder) → Path → Type 0
-HoldsAt paths holders p = (option_map holders_in (row_of paths p) ≡ unless_none (holders p))
+HoldsAt paths holders p = (option_map holders_in (holders_by_path paths p) ≡ unless_none (holders p))
     × (IsSome (under_hash paths p) → get path_cmp paths.others p ≡ None)
 
 holds_each : (paths : LeasedPaths) (holders : Path → List Holder) → ((h : ℕ) → HasHash h (get nat_cmp paths.rows h)) → ((p : Path) → HoldsAt paths holders p) →
@@ -241,7 +242,7 @@ module _ (old new : LeasedPaths) (holders : Path → List Holder) (held : Holds 
 
     -- the path has another row among the others, or none there any more
     pub other_changed : (w : Option Holders) → ((h : ℕ) → get nat_cmp new.rows h ≡ get nat_cmp old.rows h)
-        → ((p : Path) → get path_cmp new.others p ≡ cond (is_eq (path_cmp k p)) w (get path_cmp old.others p)) → IsOther old k
+        → ((p : Path) → get path_cmp new.others p ≡ cond (is_eq (path_cmp k p)) w (get path_cmp old.others p)) → IsOtherPath old k
         → option_map holders_in w ≡ unless_none (now k) → Holds new now
     other_changed w rows others other row =
         holds_each new now (hashes_kept rows) (λ q. elim (cases_Bool (same_path k q)) [

@@ -20,10 +20,11 @@ use Rattle.cfdp_leases.specs.declared.leased_paths.LeasedPaths.{LeasedPaths}
 use Rattle.slab.specs.Slab.{Slab, get, Updates}
 use Rattle.cfdp_status.specs.declared.transaction.TransactionId.{TransactionId}
 use Rattle.cfdp_leases.specs.declared.leases.Live.{Live}
-use Rattle.cfdp_leases.specs.Footprint.{Footprint, HasAncestors, leased, of_lists}
-use Rattle.cfdp_leases.specs.Holders.{Holds, holders_at, holders_of}
-use Rattle.cfdp_leases.specs.Leases.{AreApart, first_conflict, holds, is_same, without}
-use Rattle.cfdp_leases.specs.Live.{AreKept, HasNoOthers, HaveFootprints, footprint_at, grants_of}
+use Rattle.cfdp_leases.specs.Footprint.{Footprint, leased}
+use Rattle.cfdp_leases.specs.code.Footprint.{HasAncestors, of_lists}
+use Rattle.cfdp_leases.specs.code.Holders.{Holds, holders_at, holders_of}
+use Rattle.cfdp_leases.specs.Leases.{AreApart, first_conflict, holds, is_same, without_grant}
+use Rattle.cfdp_leases.specs.code.Live.{AreKept, HasNoOthers, HaveFootprints, footprint_at, grants_of}
 use Rattle.cfdp_leases.proofs.Apart.{all_filter, apart_push, apart_filter, or_both}
 use Rattle.cfdp_leases.proofs.Held.{holds_same, left}
 use Rattle.cfdp_leases.proofs.Sets.{or_left, or_right}
@@ -282,7 +283,7 @@ kept_admitted s t live new fp before paths kept none update ancestors free unhel
 
 -- nobody is released
 pub nobody_there : (s : Slab Footprint) (live : List Live) (id : TransactionId) → None ≡ option_map (λ l. l.key) (find (λ l. is_same l.transaction id) live) →
-    grants_of s live ≡ without (grants_of s live) id
+    grants_of s live ≡ without_grant (grants_of s live) id
 nobody_there s [] id none = refl
 nobody_there s (l ∷ live) id none =
     elim (cases_Bool (is_same l.transaction id)) [
@@ -290,7 +291,7 @@ nobody_there s (l ∷ live) id none =
       | inr fails ↦
           let rest = nobody_there s live id (none ∙ ap (λ b. option_map (λ m. m.key) (cond b (Some l) (find (λ m. is_same m.transaction id) live))) fails) in
           ap (λ gs. grant_of s l ∷ gs) rest
-          ∙ sym (ap (λ b. cond (not b) (grant_of s l ∷ without (grants_of s live) id) (without (grants_of s live) id)) fails)
+          ∙ sym (ap (λ b. cond (not b) (grant_of s l ∷ without_grant (grants_of s live) id) (without_grant (grants_of s live) id)) fails)
     ]
 
 pub live_there : (live : List Live) (id : TransactionId) (key : ℕ) → Some key ≡ option_map (λ l. l.key) (find (λ l. is_same l.transaction id) live)
@@ -325,7 +326,7 @@ kept_released s t live id l fp before paths kept found has update rows =
       rooted = subst (AllByRecursion (λ g. HasAncestors g.1)) grants (all_filter (λ g. HasAncestors g.1) (λ g. not (is_same g.0 id)) gs kept.rooted);
       apart = subst AreApart grants (apart_filter (λ g. not (is_same g.0 id)) gs kept.apart);
       rows = subst (λ ks. Holds paths (holders_at ks)) grants
-          (holds_same paths (λ p. left id (set.contains (leased fp) p) (holders_at gs p)) (holders_at (without gs id))
+          (holds_same paths (λ p. left id (set.contains (leased fp) p) (holders_at gs p)) (holders_at (without_grant gs id))
           (λ p. released gs id (l.transaction, fp) p kept.apart there) rows);
     }
 

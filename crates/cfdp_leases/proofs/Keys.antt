@@ -15,7 +15,7 @@ use Rattle.cfdp_paths.specs.Paths.{Path, IsPath, same_path, is_at_or_below, reba
 use Rattle.cfdp_paths.proofs.Comparing.{same_path-Decides}
 use Rattle.cfdp_paths.proofs.Below.{length-rebased, length-at_or_below, IsPath-rebased}
 use Rattle.cfdp_actions.specs.Filestore.{Node, Directory, File, Filestore, node_at, staged_in, Change, Becomes, Stages, changed, after, has_entries, parent_is_good, tree_at}
-use Rattle.cfdp_actions.specs.Actions.{Item, Install, Perform, Request, CreateFile, DeleteFile, RenameFile, AppendFile, ReplaceFile, CreateDirectory, RemoveDirectory, DenyFile, DenyDirectory, refused, succeeds, create, delete_file, rename, is_too_deep, vacated, settled, append, replace, remove_directory, deny_file, deny_directory, install, table, free_row, is_barred, denied, row}
+use Rattle.cfdp_actions.specs.Actions.{Item, Install, Perform, Request, CreateFile, DeleteFile, RenameFile, AppendFile, ReplaceFile, CreateDirectory, RemoveDirectory, DenyFile, DenyDirectory, refused, succeeds, create, delete_file, rename, is_tree_too_deep, vacating, settled, append, replace, remove_directory, deny_file, deny_directory, install, table, free_row, is_barred, denied, row}
 use Rattle.cfdp_leases.specs.Laws.{KeysArePaths, NamesPaths, KeysStayPaths}
 use Rattle.cfdp_leases.proofs.ChangeFrame.{node_at-changed, all-append}
 use Rattle.cfdp_leases.proofs.Rooted.{Of, tree_at-of}
@@ -52,15 +52,16 @@ keys_after F (c ∷ cs) keyed keys = keys_after (changed F c) cs keyed.1 (keys_c
 
 -- ---- a tree that moves
 
-keyed_vacated : (es : List (Path × Node)) → AreKeyed (vacated es)
+keyed_vacated : (es : List (Path × Node)) → AreKeyed (vacating es)
 keyed_vacated [] = tt
 keyed_vacated (e ∷ es) = (tt, keyed_vacated es)
 
-keyed_settled : (F : Filestore) (p q : Path) (es : List (Path × Node)) → KeysArePaths F → IsPath q → AllByRecursion (Of F p) es → is_too_deep p q es ≡ false →
+keyed_settled : (F : Filestore) (p q : Path) (es : List (Path × Node)) → KeysArePaths F → IsPath q → AllByRecursion (Of F p) es → is_tree_too_deep p q es
+    ≡ false →
     AreKeyed (settled p q es)
 keyed_settled F p q [] keys to each deep = tt
 keyed_settled F p q (e ∷ es) keys to each deep =
-    let parts = or_parts (nat_lt 8 (length (rebased p q e.0))) (is_too_deep p q es) deep in
+    let parts = or_parts (nat_lt 8 (length (rebased p q e.0))) (is_tree_too_deep p q es) deep in
     let short : length (rebased p q e.0) ≤ 8 = ltb-false _ _ parts.0 in
     let above : length p ≤ length e.0 = length-at_or_below e.0 p each.0.0 in
     let room : length e.0 + length q ≤ 8 + length p = omega (arith, length-rebased p q e.0, short, above) in
@@ -89,10 +90,10 @@ keyed_rename F p q (Some x) (Some y) good below es keys to each = tt
 keyed_rename F p q (Some x) None false below es keys to each = tt
 keyed_rename F p q (Some x) None true true es keys to each = tt
 keyed_rename F p q (Some x) None true false es keys to each =
-    (elim (is_too_deep p q es) as (λ deep. is_too_deep p q es ≡ deep → AreKeyed (if deep then refused (NotAllowed action.RenameFile)
-    else succeeds action.RenameFile (vacated es ++ settled p q es) 0 0 0).changes) [
+    (elim (is_tree_too_deep p q es) as (λ deep. is_tree_too_deep p q es ≡ deep → AreKeyed (if deep then refused (NotAllowed action.RenameFile)
+    else succeeds action.RenameFile (vacating es ++ settled p q es) 0 0 0).changes) [
       | true ↦ λ is. tt
-      | false ↦ λ is. all-append IsKeyed (vacated es) (settled p q es) (keyed_vacated es) (keyed_settled F p q es keys to each is)
+      | false ↦ λ is. all-append IsKeyed (vacating es) (settled p q es) (keyed_vacated es) (keyed_settled F p q es keys to each is)
     ]) refl
 
 keyed_append : (p : Path) (x y : Option Node) → IsPath p → AreKeyed (append p x y).changes

@@ -24,7 +24,8 @@ use Rattle.cfdp_paths.specs.Paths.{ancestors}
 use Rattle.cfdp_actions.specs.Actions.{Item, Perform, Request, action_in, first_in, second_in}
 use Rattle.cfdp_actions.specs.Actions as actions
 use Rattle.cfdp_leases.specs.Items.{install_of, items_of}
-use Rattle.cfdp_leases.specs.Footprint.{SameSet, exclusive_in, read_in}
+use Rattle.cfdp_leases.specs.Footprint.{exclusive_in, read_in}
+use Rattle.cfdp_leases.specs.code.Footprint.{SameSet}
 use Rattle.cfdp_leases.proofs.Sets.{path_cmp_total, path_cmp-IsAntisymmetric, or_left, or_right}
 
 -- ---- lists of the same paths

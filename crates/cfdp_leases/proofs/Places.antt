@@ -12,7 +12,8 @@ use Rattle.std.proofs.lemmas.Bool.{or_cases}
 use Rattle.std.proofs.lemmas.List.{take_more}
 use Rattle.std.proofs.lemmas.List.Folds.{list_any-append}
 use Rattle.cfdp_paths.specs.Paths.{Path}
-use Rattle.cfdp_leases.specs.Footprint.{PathSet, Footprint, HasAncestors, leased, has_any, is_conflict}
+use Rattle.cfdp_leases.specs.Footprint.{PathSet, Footprint, leased, is_conflict}
+use Rattle.cfdp_leases.specs.code.Footprint.{HasAncestors, has_any}
 use Rattle.cfdp_leases.specs.Leases.{Grants, first_conflict}
 use Rattle.cfdp_leases.proofs.Sets.{or_left, or_right, by_truth, any_at, any_from, contains_from_stands, stands_from_contains, union_left, union_right, union_cases}
 use Rattle.cfdp_leases.proofs.Conflict.{conflict_by_paths}

@@ -10,7 +10,7 @@ use Rattle.std.specs.Cmp.{tied_itself}
 use Rattle.std.specs.declared.cmp.Ordering.{Ordering}
 use Rattle.cfdp_status.specs.declared.action.Action.TheVariants as action
 use Rattle.cfdp_status.specs.declared.status.Status.TheVariants.{NotAllowed}
-use Rattle.cfdp_actions.specs.Actions.{Item, Install, Perform, Request, CreateFile, DeleteFile, RenameFile, AppendFile, ReplaceFile, CreateDirectory, RemoveDirectory, DenyFile, DenyDirectory, refused, succeeds, create, delete_file, rename, is_too_deep, vacated, settled, append, replace, remove_directory, deny_file, deny_directory, install, table, free_row, is_barred, denied, row}
+use Rattle.cfdp_actions.specs.Actions.{Item, Install, Perform, Request, CreateFile, DeleteFile, RenameFile, AppendFile, ReplaceFile, CreateDirectory, RemoveDirectory, DenyFile, DenyDirectory, refused, succeeds, create, delete_file, rename, is_tree_too_deep, vacating, settled, append, replace, remove_directory, deny_file, deny_directory, install, table, free_row, is_barred, denied, row}
 use Rattle.cfdp_leases.specs.Laws.{StaysRooted}
 use Rattle.std.specs.Prelude.{Option, Some, None, is_some, if◌then◌else◌}
 use Rattle.std.specs.List.{list_any, AllByRecursion}
@@ -166,7 +166,7 @@ after-append : (F : Filestore) (cs ds : List Change) → after F (cs ++ ds) ≡ 
 after-append F [] ds = refl
 after-append F (c ∷ cs) ds = after-append (changed F c) cs ds
 
-vacated_at : (F : Filestore) (es : List Entry) (x : Path) → node_at (after F (vacated es)) x
+vacated_at : (F : Filestore) (es : List Entry) (x : Path) → node_at (after F (vacating es)) x
     ≡ cond (list_any (same_path x) (map (λ (e : Entry). e.0) es)) None (node_at F x)
 vacated_at F [] x = refl
 vacated_at F (e ∷ es) x =
@@ -261,7 +261,7 @@ pub record IsMove (F : Filestore) (p q : Path) : Type 0 where
   pub apart : is_at_or_below q p ≡ false
 
 abbrev pub moved : Filestore → Path → Path → Filestore
-moved F p q = after F (vacated (tree_at F p) ++ settled p q (tree_at F p))
+moved F p q = after F (vacating (tree_at F p) ++ settled p q (tree_at F p))
 
 module _ (F : Filestore) (p q : Path) (move : IsMove F p q) where
   named_p : p ≢ []
@@ -277,9 +277,9 @@ module _ (F : Filestore) (p q : Path) (move : IsMove F p q) where
       × AllByRecursion (λ (e : Entry). rebased p q e.0 ≢ x) (tree_at F p))
   moved_at x =
       let es = tree_at F p in
-      let split : node_at (moved F p q) x ≡ node_at (after (after F (vacated es)) (settled p q es)) x =
-      ap (λ G. node_at G x) (after-append F (vacated es) (settled p q es)) in
-      elim (settled_at (Of F p) (after F (vacated es)) p q es x (tree_at-of F p)) [
+      let split : node_at (moved F p q) x ≡ node_at (after (after F (vacating es)) (settled p q es)) x =
+      ap (λ G. node_at G x) (after-append F (vacating es) (settled p q es)) in
+      elim (settled_at (Of F p) (after F (vacating es)) p q es x (tree_at-of F p)) [
         | inl found ↦ inl (found.0, found.1, found.2, split ∙ found.3)
         | inr none ↦ inr (split ∙ none.0 ∙ vacated_at F es x, none.1)
       ]
@@ -432,8 +432,8 @@ module _ (F : Filestore) (rooted : IsRooted F) where
   rooted_rename p q (Some x) None true true a b c d = rooted
   rooted_rename p q (Some x) None true false a b c d =
       let es = tree_at F p in
-      elim (is_too_deep p q es) as (λ deep. IsRooted (after F (if deep then refused (NotAllowed action.RenameFile)
-      else succeeds action.RenameFile (vacated es ++ settled p q es) 0 0 0).changes)) [
+      elim (is_tree_too_deep p q es) as (λ deep. IsRooted (after F (if deep then refused (NotAllowed action.RenameFile)
+      else succeeds action.RenameFile (vacating es ++ settled p q es) 0 0 0).changes)) [
         | true ↦ rooted
         | false ↦ rooted_moved F p q (record { rooted = rooted; there = ap is_some a; absent = b; good = c; apart = d })
       ]

@@ -8,7 +8,8 @@ use Rattle.std.specs.List.{list_any}
 use Rattle.std.specs.FinSet as set
 use Rattle.std.specs.Cmp.{eq_by_cmp_equiv}
 use Rattle.cfdp_paths.specs.Paths.{Path, same_path, is_at_or_below}
-use Rattle.cfdp_leases.specs.Footprint.{Footprint, of_lists, is_exclusive, is_shared}
+use Rattle.cfdp_leases.specs.Footprint.{Footprint, is_exclusive, is_shared}
+use Rattle.cfdp_leases.specs.code.Footprint.{of_lists}
 use Rattle.cfdp_leases.proofs.Sets.{path_cmp_total, any_in-from_list}
 
 pub is_exclusive-view : (xs ys : List Path) (fp : Footprint) (p : Path) → of_lists xs ys ≡ fp → is_exclusive fp p ≡ list_any (λ held. is_at_or_below p held) xs

@@ -23,14 +23,15 @@ pub struct Footprint {
 impl Model for Footprint {
     ghost use Rattle.std.specs.FinSet as set;
     ghost use Rattle.cfdp_leases.specs.Footprint as words;
+    ghost use Rattle.cfdp_leases.specs.code.Footprint as words_in_code;
 
     ghost Value = { words.Footprint };
 
-    ghost coded = { words.footprint_code };
+    ghost coded = { words_in_code.footprint_code };
 
-    ghost view = { λ f. words.of_lists f.exclusive.items f.shared.items };
+    ghost view = { λ f. words_in_code.of_lists f.exclusive.items f.shared.items };
 
-    ghost invariant = { λ f. words.IsSound f.exclusive.items f.shared.items };
+    ghost invariant = { λ f. words_in_code.IsSoundFootprint f.exclusive.items f.shared.items };
 }
 
 impl Footprint {

@@ -8,7 +8,8 @@ ghost use Rattle.std.specs.List.Sorted.{IsStrictlySortedBy};
 ghost use Rattle.std.specs.Option.{option_copied};
 ghost use Rattle.cfdp_paths.specs.Paths.{ancestors, parent, path_cmp, same_path};
 ghost use Rattle.cfdp_actions.specs.Actions.{Perform};
-ghost use Rattle.cfdp_leases.specs.Footprint.{AreNamed, HaveAncestors, SameSet, exclusive_in, footprint_of, read_in, shared_in};
+ghost use Rattle.cfdp_leases.specs.Footprint.{exclusive_in, footprint_of, read_in, shared_in};
+ghost use Rattle.cfdp_leases.specs.code.Footprint.{NoneIsRoot, HaveAncestors, SameSet};
 ghost use Rattle.cfdp_leases.specs.Items.{install_of, items_of};
 
 use crate::footprints::Footprint;
@@ -57,7 +58,7 @@ fn add_install(
     requires above { HaveAncestors shared.old.items }
     ensures exclusive_ordered { OnOk result (IsStrictlySortedBy path_cmp exclusive.new.items) }
     ensures shared_ordered { OnOk result (IsStrictlySortedBy path_cmp shared.new.items) }
-    ensures named { AreNamed exclusive.old.items → OnOk result (AreNamed exclusive.new.items) }
+    ensures named { NoneIsRoot exclusive.old.items → OnOk result (NoneIsRoot exclusive.new.items) }
     ensures exclusive { OnOk result (SameSet exclusive.new.items (exclusive.old.items
         ++ flat_map exclusive_in (install_of (option_copied destination.entry)))) }
     ensures shared { OnOk result (SameSet shared.new.items (shared.old.items
@@ -78,7 +79,7 @@ fn add_changed(alloc: Global, paths: &mut Vec<Path>, request: &Request) -> Resul
     requires { IsStrictlySortedBy path_cmp paths.old.items }
     ensures ordered { OnOk result (IsStrictlySortedBy path_cmp paths.new.items) }
     ensures added { OnOk result (SameSet paths.new.items (paths.old.items ++ exclusive_in (Perform request.now))) }
-    ensures named { AreNamed paths.old.items → OnOk result (AreNamed paths.new.items) }
+    ensures named { NoneIsRoot paths.old.items → OnOk result (NoneIsRoot paths.new.items) }
 {
     add(alloc, paths, request.first())?;
     match request.second() {
@@ -198,7 +199,7 @@ fn add(alloc: Global, paths: &mut Vec<Path>, path: &Path) -> Result<(), Memory>
     requires { IsStrictlySortedBy path_cmp paths.old.items }
     ensures ordered { OnOk result (IsStrictlySortedBy path_cmp paths.new.items) }
     ensures added { OnOk result (SameSet paths.new.items (paths.old.items ++ path.now ∷ [])) }
-    ensures named { AreNamed paths.old.items → OnOk result (AreNamed paths.new.items) }
+    ensures named { NoneIsRoot paths.old.items → OnOk result (NoneIsRoot paths.new.items) }
 {
     match find_beginning(paths, path, path.depth()) {
         Ok(_) => Ok(()),
@@ -221,7 +222,7 @@ fn insert_beginning(
     requires gap { IsStrictlySortedBy path_cmp (insert paths.old.items place (take depth path.now)) }
     ensures ordered { OnOk result (IsStrictlySortedBy path_cmp paths.new.items) }
     ensures added { OnOk result (SameSet paths.new.items (paths.old.items ++ take depth path.now ∷ [])) }
-    ensures named { AreNamed paths.old.items → OnOk result (AreNamed paths.new.items) }
+    ensures named { NoneIsRoot paths.old.items → OnOk result (NoneIsRoot paths.new.items) }
     ensures one_more { OnOk result (length paths.new.items ≡ length paths.old.items + 1) }
 {
     let beginning = path.beginning(alloc, depth)?;

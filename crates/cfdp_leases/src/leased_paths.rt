@@ -7,7 +7,7 @@ ghost use Rattle.std.specs.BTreeMap.{get, IsUnchanged};
 ghost use Rattle.std.specs.FinSet as set;
 ghost use Rattle.cfdp_paths.specs.Paths.{Path as Names, path_cmp, same_path};
 ghost use Rattle.cfdp_leases.specs.Footprint.{leased};
-ghost use Rattle.cfdp_leases.specs.Holders.{AreFree, AreOwn, Holds, HoldsSome, IsOther, holders_in, holders_of, others, unless_none, when};
+ghost use Rattle.cfdp_leases.specs.code.Holders.{AreFree, AreOwn, Holds, HoldsSome, IsOtherPath, holders_in, holders_of, others, unless_none, when};
 
 use crate::footprints::Footprint;
 use crate::lease::Lease;
@@ -296,7 +296,7 @@ impl LeasedPaths {
 
     /// Adds a holder to a path that is not in `rows`, after those that it has.
     fn add_other(&mut self, alloc: Global, path: &Path, holder: Holder) -> Result<(), Memory>
-        requires { IsOther self.old path.now }
+        requires { IsOtherPath self.old path.now }
         ensures ok { (holders : Names → List Holder) → Holds self.old holders
             → OnOk result (Holds self.new (λ p. holders p ++ when (same_path p path.now) holder)) }
         ensures err { (holders : Names → List Holder) → Holds self.old holders → OnErr result (Holds self.new holders) }
@@ -363,7 +363,7 @@ impl LeasedPaths {
     /// Takes the leases of a transaction away from a path that is not in `rows`, and the path where nobody else holds
     /// it.
     fn remove_other(&mut self, path: &Path, transaction: TransactionId)
-        requires { IsOther self.old path.now }
+        requires { IsOtherPath self.old path.now }
         ensures { (holders : Names → List Holder) → Holds self.old holders
             → Holds self.new (λ p. if same_path p path.now then others transaction (holders p) else holders p) }
     {

@@ -4,8 +4,9 @@ ghost use Rattle.std.specs.Prelude.{◌≡◌, ◌++◌, ◌∷◌, [], IsFalse,
 ghost use Rattle.std.specs.FinSet as set;
 ghost use Rattle.std.specs.List.{list_any, prefix_len};
 ghost use Rattle.std.specs.Option.{option_map};
-ghost use Rattle.cfdp_leases.specs.Footprint.{has_any, leased};
-ghost use Rattle.cfdp_leases.specs.Leases.{AreApart, first_conflict, holds, is_same, without};
+ghost use Rattle.cfdp_leases.specs.Footprint.{leased};
+ghost use Rattle.cfdp_leases.specs.code.Footprint.{has_any};
+ghost use Rattle.cfdp_leases.specs.Leases.{AreApart, first_conflict, holds, is_same, without_grant};
 
 use crate::footprints::Footprint;
 use crate::lease::Lease;
@@ -37,11 +38,12 @@ pub struct Leases {
 
 impl Model for Leases {
     ghost use Rattle.cfdp_leases.specs.Leases as words;
-    ghost use Rattle.cfdp_leases.specs.Live as kept;
+    ghost use Rattle.cfdp_leases.specs.code.Leases as words_in_code;
+    ghost use Rattle.cfdp_leases.specs.code.Live as kept;
 
     ghost Value = { words.Grants };
 
-    ghost coded = { words.grants_code };
+    ghost coded = { words_in_code.grants_code };
 
     ghost view = { λ leases. kept.grants_of leases.footprints leases.live.items };
 
@@ -128,7 +130,7 @@ impl Leases {
     /// octets, for each exclusive one two searches among all leased paths, and for each shared one three at most and a
     /// pass over its holders. If none is live, each path is dropped without a search.
     pub fn release(&mut self, transaction: TransactionId)
-        ensures { self.new ≡ without self.old transaction }
+        ensures { self.new ≡ without_grant self.old transaction }
     {
         let Some(key) = key_of(&self.live, transaction) else {
             return;

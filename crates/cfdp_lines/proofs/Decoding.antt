@@ -9,7 +9,8 @@ use Rattle.std.proofs.lemmas.List.Splits.{slice_split_none}
 use Rattle.hex.specs.Hex.{decode_of, decode_pairs}
 use Rattle.hex.proofs.HexLemmas.{decode_of-ok}
 use Rattle.hex.specs.declared.error.FromHexError.{FromHexError}
-use Rattle.cfdp_lines.specs.Hexadecimal.{octets_before, octets_of_words, octets_in, hex_octets}
+use Rattle.cfdp_lines.specs.Hexadecimal.{octets_before, octets_of_words, hex_octets}
+use Rattle.cfdp_lines.specs.code.Hexadecimal.{octets_or_none}
 use Rattle.std.specs.List.{slice_split}
 use Rattle.cfdp_lines.specs.Hexadecimal.{is_space}
 use Rattle.cfdp_lines.proofs.Feeding.{not_true}
@@ -30,7 +31,7 @@ pub octets_before-nothing : (more : Option (List ℕ)) → octets_before (Ok [])
 octets_before-nothing None = refl
 octets_before-nothing (Some more) = refl
 
-pub ok_octets : (r : Result (List ℕ) FromHexError) → IsOk r → r ≡ Ok (octets_in r)
+pub ok_octets : (r : Result (List ℕ) FromHexError) → IsOk r → r ≡ Ok (octets_or_none r)
 ok_octets (Ok octets) e = refl
 ok_octets (Err fault) e = absurd (false≢true e)
 
@@ -143,13 +144,13 @@ module _ (line : List ℕ) (none : (k : ℕ) → 0 ≤ k → k < length line →
       ap octets_of_words (slice_split_none is_space line
       (All-from_get_or (λ (x : ℕ). is_space x ≡ false) line 0 (λ i lt. not_true (get_or line i 0 == 32) (none i (omega arith) lt))))
 
-  one_word-good : IsOk (decode_of line) → hex_octets line ≡ Some (octets_in (decode_of line))
+  one_word-good : IsOk (decode_of line) → hex_octets line ≡ Some (octets_or_none (decode_of line))
   one_word-good good =
       one_word
       ∙ ap (λ r. octets_before r (Some [])) (ok_octets (decode_of line) good)
-      ∙ ap Some (append-nil (octets_in (decode_of line)))
+      ∙ ap Some (append-nil (octets_or_none (decode_of line)))
 
-  pub one_word-decoded : {E : Type 0} (r : Result (Unit {0}) E) (octets : List ℕ) → OnOk r (octets ≡ octets_in (decode_of line))
+  pub one_word-decoded : {E : Type 0} (r : Result (Unit {0}) E) (octets : List ℕ) → OnOk r (octets ≡ octets_or_none (decode_of line))
       → OnOk r (IsOk (decode_of line)) → OnOk r (hex_octets line ≡ Some octets)
   one_word-decoded (Ok done) octets same good = one_word-good good ∙ ap Some (sym same)
   one_word-decoded (Err fault) octets same good = same

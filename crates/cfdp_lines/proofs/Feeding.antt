@@ -3,11 +3,13 @@ use Rattle.std.proofs.Common.{◌≡◌, ℕ, ◌+◌, ◌<◌, ◌≤◌, ◌==
 use Rattle.std.proofs.lemmas.List.{append-nil, drop_more, take_more, take-append-drop, get_or-take}
 use Rattle.std.proofs.lemmas.List.Elements.{All-from_get_or}
 use Rattle.std.specs.Io.KnownBytes.{Appends}
-use Rattle.cfdp_lines.specs.Answers.{Answers, Adds}
+use Rattle.cfdp_lines.specs.Answers.{AnswersLine, Adds}
 use Rattle.cfdp_lines.specs.Lines.{is_newline, line_limit, IsOneLine}
 use Rattle.cfdp_lines.specs.Report.{line_answer}
-use Rattle.cfdp_lines.specs.Session.{Place, place, Moves, StopsBad, Breaks, Runs, RunsBad, RunsPart, RunsLost}
-use Rattle.cfdp_streams.specs.Streams.{Spills, LostWithin}
+use Rattle.cfdp_lines.specs.Session.{Place, place, Moves, StopsBad}
+use Rattle.cfdp_lines.specs.code.Session.{Breaks, Runs, RunsBad, RunsPart, RunsLost}
+use Rattle.cfdp_streams.specs.Streams.{LostWithin}
+use Rattle.cfdp_streams.specs.code.Streams.{Spills}
 use Rattle.cfdp_streams.proofs.Streaming.{Appends-none, Appends-more, Appends-more_or_lost}
 use Rattle.cfdp_lines.proofs.Moving.{Moves-none, Moves-then, Moves-then_stops, Moves-then_breaks, StopsBad-before, StopsBad-good_line, Breaks-none, Breaks-shorter, Moves-gather, Moves-newline, StopsBad-newline, StopsBad-overlong}
 
@@ -43,7 +45,7 @@ module _ (State : Type 0) (answer : State → List ℕ → Option (State × List
   -- octets up to a newline, with it
   pub Adds-line : (n : ℕ) (state after : State) (line octets before text : List ℕ) (at : ℕ)
       → IsOneLine (line ++ take at octets) → at < length octets → is_newline (get_or octets at 0) ≡ true
-      → Answers (line_answer answer) state after (line ++ take at octets) before text
+      → AnswersLine (line_answer answer) state after (line ++ take at octets) before text
       → Adds answer (place n state line) (place (n + 1) after []) (take (at + 1) octets) before text
   Adds-line n state after line octets before text at h lt e a =
       rw (take_more octets at 0 lt) record {

@@ -3,8 +3,9 @@ use Rattle.std.proofs.Common.{◌≡◌, ℕ, ◌+◌, ◌<◌, ◌≤◌, Bool,
 use Rattle.std.proofs.lemmas.List.{append-nil}
 use Rattle.std.proofs.lemmas.List.Elements.{All-append}
 use Rattle.cfdp_lines.specs.Lines.{is_newline, is_overlong, line_limit, lines_of, settled_lines, IsOneLine}
-use Rattle.cfdp_lines.specs.Report.{Report, report, and_then, wrote, stopped_at, finished, line_answer}
-use Rattle.cfdp_lines.specs.Session.{Place, place, lines_by, report_at, Moves, StopsBad, Breaks, Runs, RunsBad, Finishes, FinishesBad, FinishesLost}
+use Rattle.cfdp_lines.specs.Report.{Report, report, and_then_report, wrote, stopped_at, empty_report, line_answer}
+use Rattle.cfdp_lines.specs.Session.{Place, place, lines_by, report_at, Moves, StopsBad}
+use Rattle.cfdp_lines.specs.code.Session.{Breaks, Runs, RunsBad, Finishes, FinishesBad, FinishesLost}
 use Rattle.std.specs.Io.KnownBytes.{Appends, Keeps}
 use Rattle.cfdp_streams.specs.Streams.{LostWithin}
 use Rattle.cfdp_streams.proofs.Streaming.{Appends-none, Appends-more}
@@ -22,7 +23,7 @@ report-overlong : {State : Type 0} (answer : State → List ℕ → Option (Stat
     (others lines : List (List ℕ)) → lines ≡ line ∷ others → line_limit < length line
     → report answer n state lines ≡ stopped_at n
 report-overlong answer n state line others lines are h =
-    rw are (ap (λ o. and_then n o (λ after. report answer (n + 1) after others)) (line_answer-overlong answer state line h))
+    rw are (ap (λ o. and_then_report n o (λ after. report answer (n + 1) after others)) (line_answer-overlong answer state line h))
 
 module _ (State : Type 0) (answer : State → List ℕ → Option (State × List ℕ)) where
   -- nothing moves nowhere
@@ -94,7 +95,7 @@ module _ (State : Type 0) (answer : State → List ℕ → Option (State × List
   -- the end of a line
   line_ended : (ends : Bool) (n : ℕ) (state : State) (line rest : List ℕ) (octet : ℕ) → IsOneLine line → is_newline octet ≡ true
       → report_at answer ends (place n state line) (octet ∷ rest)
-      ≡ and_then n (line_answer answer state line) (λ after. report answer (n + 1) after (lines_by ends rest))
+      ≡ and_then_report n (line_answer answer state line) (λ after. report answer (n + 1) after (lines_by ends rest))
   line_ended ends n state line rest octet h e = ap (report answer n state) (lines_by-newline ends line rest octet h e)
 
   pub Moves-newline : (n : ℕ) (state after : State) (line text : List ℕ) (octet : ℕ) → IsOneLine line → is_newline octet ≡ true
@@ -103,7 +104,7 @@ module _ (State : Type 0) (answer : State → List ℕ → Option (State × List
   Moves-newline n state after line text octet h e a = record {
     goes_on = λ ends rest.
         line_ended ends n state line rest octet h e
-        ∙ ap (λ (o : Option (State × List ℕ)). and_then n o (λ later. report answer (n + 1) later (lines_by ends rest))) a;
+        ∙ ap (λ (o : Option (State × List ℕ)). and_then_report n o (λ later. report answer (n + 1) later (lines_by ends rest))) a;
   }
 
   pub StopsBad-newline : (n : ℕ) (state : State) (line : List ℕ) (octet : ℕ) → IsOneLine line → is_newline octet ≡ true
@@ -111,7 +112,7 @@ module _ (State : Type 0) (answer : State → List ℕ → Option (State × List
   StopsBad-newline n state line octet h e a = record {
     stops = λ ends rest.
         line_ended ends n state line rest octet h e
-        ∙ ap (λ (o : Option (State × List ℕ)). and_then n o (λ later. report answer (n + 1) later (lines_by ends rest))) a;
+        ∙ ap (λ (o : Option (State × List ℕ)). and_then_report n o (λ later. report answer (n + 1) later (lines_by ends rest))) a;
   }
 
   -- too many octets
@@ -134,7 +135,7 @@ module _ (State : Type 0) (answer : State → List ℕ → Option (State × List
   bad_line-later n m state [] e = absurd cc
   bad_line-later n m state (line ∷ lines) e =
       let later : State → Report = λ after. report answer (n + 1) after lines in
-      elim (line_answer answer state line) as (λ o. (and_then n o later).bad_line ≡ Some m → n ≤ m) [
+      elim (line_answer answer state line) as (λ o. (and_then_report n o later).bad_line ≡ Some m → n ≤ m) [
         | None ↦ λ same. let is : n ≡ m = cc in omega (arith, is)
         | Some answered ↦ λ same. let more = bad_line-later (n + 1) m answered.0 lines same in omega (arith, more)
       ]
@@ -142,7 +143,7 @@ module _ (State : Type 0) (answer : State → List ℕ → Option (State × List
 
   -- octets that end a line which is not bad show no bad line of its number
   and_then-good : (n : ℕ) (o : Option (State × List ℕ)) (lines : List (List ℕ)) → (o ≡ None → ⊥)
-      → and_then n o (λ after. report answer (n + 1) after lines) ≡ wrote [] (stopped_at n) → ⊥
+      → and_then_report n o (λ after. report answer (n + 1) after lines) ≡ wrote [] (stopped_at n) → ⊥
   and_then-good n None lines good e = good refl
   and_then-good n (Some answered) lines good e =
       let more = bad_line-later (n + 1) n answered.0 lines (ap (λ (r : Report). r.bad_line) e) in absurd (omega (arith, more))
@@ -160,12 +161,12 @@ module _ (State : Type 0) (answer : State → List ℕ → Option (State × List
       → StopsBad answer (place n state []) octets [] n → ⊥
   StopsBad-open n state octets h short stops =
       let none : settled_lines (octets ++ []) ≡ [] = ap settled_lines (append-nil octets) ∙ settled_lines-none octets h short in
-      let same : finished ≡ wrote [] (stopped_at n) = sym (ap (report answer n state) none) ∙ stops.stops false [] in
+      let same : empty_report ≡ wrote [] (stopped_at n) = sym (ap (report answer n state) none) ∙ stops.stops false [] in
       let lines : None ≡ Some n = ap (λ (r : Report). r.bad_line) same in
       absurd cc
 
   pub report_at-last : (n : ℕ) (state : State) (line : List ℕ) → IsOneLine line → 0 < length line
-      → report_at answer true (place n state line) [] ≡ and_then n (line_answer answer state line) (λ after. finished)
+      → report_at answer true (place n state line) [] ≡ and_then_report n (line_answer answer state line) (λ after. empty_report)
   report_at-last n state line h few =
       ap (λ (octets : List ℕ). report answer n state (lines_of octets)) (append-nil line)
       ∙ ap (report answer n state) (lines_of-last line h few)
@@ -198,14 +199,14 @@ module _ (State : Type 0) (answer : State → List ℕ → Option (State × List
       → Finishes answer (place n state line) old new
   Finishes-last n state after line text old new h few a p = record {
     written = text;
-    is = report_at-last n state line h few ∙ ap (λ (o : Option (State × List ℕ)). and_then n o (λ later. finished)) a;
+    is = report_at-last n state line h few ∙ ap (λ (o : Option (State × List ℕ)). and_then_report n o (λ later. empty_report)) a;
     appended = p;
   }
 
   pub FinishesBad-last : (n : ℕ) (state : State) (line : List ℕ) (old new : Option (List ℕ)) → IsOneLine line
       → 0 < length line → line_answer answer state line ≡ None → Keeps old new → FinishesBad answer (place n state line) n old new
   FinishesBad-last n state line old new h few a k = record {
-    is = report_at-last n state line h few ∙ ap (λ (o : Option (State × List ℕ)). and_then n o (λ later. finished)) a;
+    is = report_at-last n state line h few ∙ ap (λ (o : Option (State × List ℕ)). and_then_report n o (λ later. empty_report)) a;
     kept = k;
   }
 
@@ -213,8 +214,8 @@ module _ (State : Type 0) (answer : State → List ℕ → Option (State × List
       → 0 < length line → line_answer answer state line ≡ Some (after, text) → LostWithin text old new
       → FinishesLost answer (place n state line) old new
   FinishesLost-last n state after line text old new h few a lost =
-      let whole : report_at answer true (place n state line) [] ≡ wrote text finished =
-      report_at-last n state line h few ∙ ap (λ (o : Option (State × List ℕ)). and_then n o (λ later. finished)) a in
+      let whole : report_at answer true (place n state line) [] ≡ wrote text empty_report =
+      report_at-last n state line h few ∙ ap (λ (o : Option (State × List ℕ)). and_then_report n o (λ later. empty_report)) a in
       record {
         written = lost.written;
         begins = (lost.begins.0, ap (λ (r : Report). r.text) whole ∙ append-nil text ∙ lost.begins.1);

@@ -8,8 +8,8 @@ use Rattle.std.proofs.lemmas.List.Elements.{All-get_or}
 use Rattle.hex.specs.Hex.{decode_of, decode_pairs, digit_or_error, hex_digit_value, is_hex_digit, pair_value}
 use Rattle.hex.proofs.HexLemmas.{decode_of-ok, decode_of-even}
 use Rattle.hex.proofs.Pairs.{decode_pairs-ok_pair, cons_byte}
-use Rattle.cfdp_lines.specs.Digits.{ArePairs, value_by, value_of}
-use Rattle.cfdp_lines.specs.Hexadecimal.{octets_in}
+use Rattle.cfdp_lines.specs.code.Digits.{ArePairs, value_by, value_of}
+use Rattle.cfdp_lines.specs.code.Hexadecimal.{octets_or_none}
 use Rattle.cfdp_lines.specs.declared.digits.TheConstants.{VALUES}
 use Rattle.cfdp_lines.proofs.Decoding.{ok_octets}
 
@@ -133,15 +133,15 @@ module _ (word out : List ℕ) (n : ℕ) (digits : Type 0) (even : length word %
       decode_of-even word even
       ∙ of_digits 0 word out (omega arith) (λ k h. pairs.spelled few k (omega arith)) (λ k h. pairs.tested few k (omega arith))
 
-  pub word_decoded : digits → out ≡ octets_in (decode_of word)
-  word_decoded few = sym (ap octets_in (word_of_digits few))
+  pub word_decoded : digits → out ≡ octets_or_none (decode_of word)
+  word_decoded few = sym (ap octets_or_none (word_of_digits few))
 
   pub word_good : digits → IsOk (decode_of word)
   word_good few = rw (word_of_digits few) refl
 
   pub word_is_digits : IsOk (decode_of word) → digits
   word_is_digits ok =
-      let all = (decode_of-ok word (octets_in (decode_of word)) (ok_octets (decode_of word) ok)).1 in
+      let all = (decode_of-ok word (octets_or_none (decode_of word)) (ok_octets (decode_of word) ok)).1 in
       pairs.good (λ k h.
       let c = get_or word k 0 in
       is_digit (hex_digit_value c) (All-get_or (λ (x : ℕ). is_hex_digit x ≡ true) word k 0 (omega arith) all) (digit_value-small c))

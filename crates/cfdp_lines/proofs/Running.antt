@@ -5,8 +5,9 @@ use Rattle.std.proofs.lemmas.List.{append-nil}
 use Rattle.std.proofs.Math.Seq.{take-append_seam, take-append-add}
 use Rattle.std.specs.Io.KnownBytes.{Keeps, Consumes, IsAtEnd}
 use Rattle.cfdp_lines.specs.Lines.{line_limit, input_limit, lines_of, settled_lines, IsOneLine}
-use Rattle.cfdp_lines.specs.Report.{Report, report, wrote, finished, stopped_at, script_report, limited_report}
-use Rattle.cfdp_lines.specs.Session.{Place, place, report_at, StopsBad, Runs, RunsBad, RunsPart, RunsLost, Finishes, FinishesBad, FinishesLost}
+use Rattle.cfdp_lines.specs.Report.{Report, report, wrote, empty_report, stopped_at, script_report, limited_report}
+use Rattle.cfdp_lines.specs.Session.{Place, place, report_at, StopsBad}
+use Rattle.cfdp_lines.specs.code.Session.{Runs, RunsBad, RunsPart, RunsLost, Finishes, FinishesBad, FinishesLost}
 use Rattle.cfdp_streams.specs.Streams.{KeptOrLost, Begins, ReadsOff, ReadsAtMost}
 use Rattle.cfdp_lines.specs.Outcome.{WholeRun, BadRun, LongRun, PartRun, LostRun}
 use Rattle.cfdp_lines.proofs.LineLemmas.{settled_lines-none}
@@ -202,8 +203,8 @@ module _ (State : Type 0) (answer : State → List ℕ → Option (State × List
   Running-whole start here left (Some input) unread rest old new newer r c e f =
       let all : input ≡ r.octets =
       Consumes-all input rest (r.octets ++ []) (Consumes-more (Some input) unread rest r.octets [] r.consumed c) e ∙ append-nil r.octets in
-      let whole : script_report answer start input ≡ wrote r.runs.written (wrote f.written finished) =
-      whole_report start here input r.octets r.runs.written (wrote f.written finished) all (r.runs.moves.goes_on true) f.is in
+      let whole : script_report answer start input ≡ wrote r.runs.written (wrote f.written empty_report) =
+      whole_report start here input r.octets r.runs.written (wrote f.written empty_report) all (r.runs.moves.goes_on true) f.is in
       rw whole (
         omega (arith, ap length all, r.within),
         refl,
@@ -262,7 +263,7 @@ module _ (State : Type 0) (answer : State → List ℕ → Option (State × List
   settled_report : (start : State) (here : Place State) (octets written : List ℕ)
       → report_at answer false (place 1 start []) (octets ++ []) ≡ wrote written (report_at answer false here [])
       → IsOneLine here.line → length here.line ≤ line_limit
-      → report answer 1 start (settled_lines octets) ≡ wrote written finished
+      → report answer 1 start (settled_lines octets) ≡ wrote written empty_report
   settled_report start here octets written e one_line fits =
       ap (λ (s : List ℕ). report answer 1 start (settled_lines s)) (sym (append-nil octets)) ∙ e
       ∙ ap (λ (s : List ℕ). wrote written (report answer here.number here.state (settled_lines s))) (append-nil here.line)
@@ -277,7 +278,7 @@ module _ (State : Type 0) (answer : State → List ℕ → Option (State × List
       let same : input ≡ r.octets ++ (piece ++ begun.0) = begun.1 ∙ append_assoc r.octets piece begun.0 in
       let full : length r.octets ≡ input_limit = omega (arith, r.within) in
       let more : 0 < length (piece ++ begun.0) = omega (arith, length-append piece begun.0) in
-      let limited : limited_report answer start input ≡ wrote r.runs.written finished =
+      let limited : limited_report answer start input ≡ wrote r.runs.written empty_report =
       ap (limited_report answer start) same
       ∙ limited_report-long start r.octets (piece ++ begun.0) full more
       ∙ settled_report start here r.octets r.runs.written (r.runs.moves.goes_on false []) one_line fits in (

@@ -9,7 +9,7 @@ use Rattle.std.proofs.lemmas.List.FromFn.{get_or-map-range_with_len}
 use Rattle.std.proofs.lemmas.Nat.{or_lt, le_or_l, le_or_r}
 use Rattle.std.proofs.lemmas.Simd.{length-chunk, get_or-chunk, get_or-put_chunk_at, Each1-get_or, Each1-from_get_or}
 use lib.Lanes.{chunk, zip2, sel_l, top, put_chunk}
-use Rattle.cfdp_lines.specs.Digits.{AreOctets, ArePairs, AreSmall, AreValues, IsValue, value_of}
+use Rattle.cfdp_lines.specs.code.Digits.{AreSixteenOctets, ArePairs, AreNibbles, AreValues, IsValue, value_of}
 use Rattle.cfdp_lines.proofs.Pairs.{octet_at, of_values}
 
 -- ---- lane by lane
@@ -54,7 +54,7 @@ itself [] = refl
 itself (x ∷ xs) = ap (λ r. x ∷ r) (itself xs)
 
 -- the octets of a load
-pub chunk_octets : (i : ℕ) (xs : List ℕ) → i + 16 ≤ length xs → ((k : ℕ) → Fits w8 (get_or xs k 0)) → AreOctets (chunk i 16 xs)
+pub chunk_octets : (i : ℕ) (xs : List ℕ) → i + 16 ≤ length xs → ((k : ℕ) → Fits w8 (get_or xs k 0)) → AreSixteenOctets (chunk i 16 xs)
 chunk_octets i xs room fits =
     let P : ℕ → Type 0 = λ n. n < 256 in
     let long = length-chunk i 16 xs room in
@@ -90,7 +90,7 @@ value_at f (suc n) k h lt =
           subst (λ (j : ℕ). IsValue (f j) (value_of j)) e (from_test (f n) (value_of n) parts.0)
     ]
 
-pub values_are : (v z : List ℕ) → AreOctets v → (f : ℕ → ℕ) → z ≡ map f v → are_values f 256 ≡ true → AreValues v z
+pub values_are : (v z : List ℕ) → AreSixteenOctets v → (f : ℕ → ℕ) → z ≡ map f v → are_values f 256 ≡ true → AreValues v z
 values_are v z octets f lanes all = record {
   long = ap length lanes ∙ length-map v f ∙ octets.long;
   are = λ k h.
@@ -140,12 +140,12 @@ both_small values j h =
     (omega (arith, l, h), omega (arith, r, h))
 
 module _ (values : List ℕ) where
-  lane_small : AreSmall (sixteen (both_at values)) → (j : ℕ) → j < 16 → both_at values j < 16
+  lane_small : AreNibbles (sixteen (both_at values)) → (j : ℕ) → j < 16 → both_at values j < 16
   lane_small few j h =
       let P : ℕ → Type 0 = λ n. n < 16 in
       subst P (sixteen_at (both_at values) j h) (Each1-get_or P (sixteen (both_at values)) j 0 h few)
 
-  value_small : AreSmall (sixteen (both_at values)) → (k : ℕ) → k < 32 → get_or values k 0 < 16
+  value_small : AreNibbles (sixteen (both_at values)) → (k : ℕ) → k < 32 → get_or values k 0 < 16
   value_small few k h =
       let j = k / 2 in
       let within : j < 16 = omega arith in
@@ -155,7 +155,7 @@ module _ (values : List ℕ) where
         | inr second ↦ let e : 2 * j + 1 ≡ k = omega arith in subst (λ (n : ℕ). get_or values n 0 < 16) e both.1
       ]
 
-  lanes_small : ((k : ℕ) → k < 32 → get_or values k 0 < 16) → AreSmall (sixteen (both_at values))
+  lanes_small : ((k : ℕ) → k < 32 → get_or values k 0 < 16) → AreNibbles (sixteen (both_at values))
   lanes_small small =
       let P : ℕ → Type 0 = λ n. n < 16 in
       Each1-from_get_or P (sixteen (both_at values)) 0 (λ j h.
@@ -163,7 +163,7 @@ module _ (values : List ℕ) where
       (or_lt 4 (get_or values (2 * j) 0) (get_or values (2 * j + 1) 0) (small (2 * j) (omega (arith, h))) (small (2 * j + 1) (omega (arith, h)))))
 
 pub block_pairs : (word values room : List ℕ) → ((k : ℕ) → k < 32 → IsValue (get_or values k 0) (value_of (get_or word k 0)))
-    → 16 ≤ length room → ArePairs word (put_chunk 0 room (sixteen (pair_at values))) 16 (AreSmall (sixteen (both_at values)))
+    → 16 ≤ length room → ArePairs word (put_chunk 0 room (sixteen (pair_at values))) 16 (AreNibbles (sixteen (both_at values)))
 block_pairs word values room are fits = record {
   spelled = λ few k h.
       let ys = sixteen (pair_at values) in
@@ -184,7 +184,7 @@ block_pairs word values room are fits = record {
 
 -- ---- lanes that are small
 
-small_or : (xs ys : List ℕ) → length xs ≡ length ys → AreSmall (zip2 bit_or xs ys) → AreSmall xs × AreSmall ys
+small_or : (xs ys : List ℕ) → length xs ≡ length ys → AreNibbles (zip2 bit_or xs ys) → AreNibbles xs × AreNibbles ys
 small_or [] [] e h = (tt, tt)
 small_or [] (y ∷ ys) e h = absurd (omega arith)
 small_or (x ∷ xs) [] e h = absurd (omega arith)
@@ -195,7 +195,7 @@ small_or (x ∷ xs) (y ∷ ys) e h =
     let both : bit_or x y < 16 = h.0 in
     ((omega (arith, l, both), rest.0), (omega (arith, r, both), rest.1))
 
-or_small : (xs ys : List ℕ) → AreSmall xs → AreSmall ys → AreSmall (zip2 bit_or xs ys)
+or_small : (xs ys : List ℕ) → AreNibbles xs → AreNibbles ys → AreNibbles (zip2 bit_or xs ys)
 or_small [] ys a b = tt
 or_small (x ∷ xs) [] a b = tt
 or_small (x ∷ xs) (y ∷ ys) a b = (or_lt 4 x y a.0 b.0, or_small xs ys a.1 b.1)
@@ -250,11 +250,11 @@ module _ (word sub : List ℕ) (i m : ℕ) (digits : Type 0) (next : ArePairs (d
   }
 
 -- sixteen pairs more
-pub block_more : (word sub : List ℕ) (i : ℕ) (more : List ℕ) → ArePairs (drop (2 * i) word) sub 16 (AreSmall more)
-    → (room post seen : List ℕ) (n : ℕ) → ArePairs word room n (AreSmall seen) → i ≤ n → n ≤ i + 16 → i ≤ length room
-    → 16 ≤ length sub → length seen ≡ length more → ArePairs word (take i room ++ (sub ++ post)) (i + 16) (AreSmall (zip2 bit_or seen more))
+pub block_more : (word sub : List ℕ) (i : ℕ) (more : List ℕ) → ArePairs (drop (2 * i) word) sub 16 (AreNibbles more)
+    → (room post seen : List ℕ) (n : ℕ) → ArePairs word room n (AreNibbles seen) → i ≤ n → n ≤ i + 16 → i ≤ length room
+    → 16 ≤ length sub → length seen ≡ length more → ArePairs word (take i room ++ (sub ++ post)) (i + 16) (AreNibbles (zip2 bit_or seen more))
 block_more word sub i more next room post seen n pairs from to within long lanes =
-    pairs_more word sub i 16 (AreSmall more) next room post n (AreSmall seen) (AreSmall (zip2 bit_or seen more)) pairs from to within long
+    pairs_more word sub i 16 (AreNibbles more) next room post n (AreNibbles seen) (AreNibbles (zip2 bit_or seen more)) pairs from to within long
     (small_or seen more lanes) (or_small seen more)
 
 -- a piece of the word, with all its pairs
@@ -282,7 +282,7 @@ from_there word sub i digits next =
 
 -- ---- all lanes or-ed together
 
-fold_small : (seen : ℕ) (lanes : List ℕ) → fold_l bit_or seen lanes < 16 → (seen < 16) × AreSmall lanes
+fold_small : (seen : ℕ) (lanes : List ℕ) → fold_l bit_or seen lanes < 16 → (seen < 16) × AreNibbles lanes
 fold_small seen [] h = (h, tt)
 fold_small seen (lane ∷ lanes) h =
     let rest = fold_small (bit_or seen lane) lanes h in
@@ -290,11 +290,11 @@ fold_small seen (lane ∷ lanes) h =
     let r = le_or_r seen lane in
     (omega (arith, l, rest.0), (omega (arith, r, rest.0), rest.1))
 
-small_fold : (seen : ℕ) (lanes : List ℕ) → seen < 16 → AreSmall lanes → fold_l bit_or seen lanes < 16
+small_fold : (seen : ℕ) (lanes : List ℕ) → seen < 16 → AreNibbles lanes → fold_l bit_or seen lanes < 16
 small_fold seen [] h few = h
 small_fold seen (lane ∷ lanes) h few = small_fold (bit_or seen lane) lanes (or_lt 4 seen lane h few.0) few.1
 
-pub by_fold : (word room lanes : List ℕ) (n : ℕ) → ArePairs word room n (AreSmall lanes) → ArePairs word room n (fold_l bit_or 0 lanes < 16)
+pub by_fold : (word room lanes : List ℕ) (n : ℕ) → ArePairs word room n (AreNibbles lanes) → ArePairs word room n (fold_l bit_or 0 lanes < 16)
 by_fold word room lanes n pairs = record {
   spelled = λ few. pairs.spelled (fold_small 0 lanes few).1;
   tested = λ few. pairs.tested (fold_small 0 lanes few).1;

@@ -1,11 +1,11 @@
 -- What a line appends to the text that is not written yet.
 --
---   Answers   a line moved the state on, and its text came after what was there
+--   AnswersLine  a line moved the state on, and its text came after what was there
 --   Adds      some octets moved a run on, and their text came after what was there
 use Rattle.std.specs.Prelude.{◌≡◌, ℕ, List, ◌++◌, Option, Some}
 use Rattle.cfdp_lines.specs.Session.{Place, Moves}
 
-pub record Answers {State : Type 0} (answer : State → List ℕ → Option (State × List ℕ)) (from to : State)
+pub record AnswersLine {State : Type 0} (answer : State → List ℕ → Option (State × List ℕ)) (from to : State)
     (line before after : List ℕ)
     : Type 0 where
   pub text : List ℕ

@@ -1,47 +1,23 @@
 -- How a run and the program end.
 --
---   status_of               the exit status of an end
---   run_line, link_line     the text of a fault of a run, and of a run of `links`
---   end_line                the line on standard error, without its newline; empty where there is none
-use Rattle.std.specs.Prelude.{ℕ, List, [], ◌++◌, codes, decimal}
-use Rattle.cfdp_lines.specs.declared.faults.RunFault.{RunFault}
+--   exit_status             the exit status of an end
+use Rattle.std.specs.Prelude.{ℕ}
 use Rattle.cfdp_lines.specs.declared.faults.RunFault.TheVariants.{Read, Write, Memory, BadLine}
-use Rattle.cfdp_lines.specs.declared.faults.LinkFault.{LinkFault}
 use Rattle.cfdp_lines.specs.declared.faults.ProgramEnd.{ProgramEnd}
 use Rattle.cfdp_lines.specs.declared.faults.ProgramEnd.TheVariants.{Fine, Usage, Run, Link}
 use Rattle.cfdp_lines.specs.declared.faults.LinkFault.TheVariants as link
 
 -- the exit status: 0 fine, 1 what reads, writes or remembers failed, or the journal is full or not what the seats were
 -- reported, 2 unknown words, 3 a bad line
-abbrev pub status_of : ProgramEnd → ℕ
-status_of Fine = 0
-status_of Usage = 2
-status_of (Run Read) = 1
-status_of (Run Write) = 1
-status_of (Run Memory) = 1
-status_of (Run (BadLine n)) = 3
-status_of (Link link.Write) = 1
-status_of (Link link.Memory) = 1
-status_of (Link (link.BadLine file line)) = 3
-status_of (Link link.JournalFull) = 1
-status_of (Link link.ReceiptsDiffer) = 1
-
--- lines count from 1
-abbrev pub run_line : RunFault → List ℕ
-run_line Read = codes "read failed"
-run_line Write = codes "write failed"
-run_line Memory = codes "out of memory"
-run_line (BadLine n) = codes "line " ++ decimal n
-
-abbrev pub link_line : LinkFault → List ℕ
-link_line link.Write = codes "write failed"
-link_line link.Memory = codes "out of memory"
-link_line (link.BadLine file line) = codes "line " ++ decimal line
-link_line link.JournalFull = codes "journal full"
-link_line link.ReceiptsDiffer = codes "receipts differ"
-
-abbrev pub end_line : ProgramEnd → List ℕ
-end_line Fine = []
-end_line Usage = codes "cfdpsim: usage"
-end_line (Run fault) = codes "cfdpsim: " ++ run_line fault
-end_line (Link fault) = codes "cfdpsim: " ++ link_line fault
+abbrev pub exit_status : ProgramEnd → ℕ
+exit_status Fine = 0
+exit_status Usage = 2
+exit_status (Run Read) = 1
+exit_status (Run Write) = 1
+exit_status (Run Memory) = 1
+exit_status (Run (BadLine n)) = 3
+exit_status (Link link.Write) = 1
+exit_status (Link link.Memory) = 1
+exit_status (Link (link.BadLine file line)) = 3
+exit_status (Link link.JournalFull) = 1
+exit_status (Link link.ReceiptsDiffer) = 1

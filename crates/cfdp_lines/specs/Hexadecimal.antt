@@ -4,7 +4,6 @@
 --   octets_before    what a word spells, and then what the others do
 --   octets_of_words  what words spell, if each does
 --   hex_octets       the octets that a line of hexadecimal spells, if it does
---   octets_in        the octets of a word, if it spells some
 --
 -- A line is words with spaces between them, before and after; each word is pairs of digits, in either case.
 use Rattle.std.specs.Prelude.{ℕ, ◌==◌, Bool, List, [], ◌∷◌, ◌++◌, Option, Some, None, Result, Ok, Err}
@@ -27,8 +26,3 @@ octets_of_words (word ∷ words) = octets_before (decode_of word) (octets_of_wor
 
 abbrev pub hex_octets : List ℕ → Option (List ℕ)
 hex_octets line = octets_of_words (slice_split is_space line)
-
--- the octets of a word, or none
-abbrev pub octets_in : Result (List ℕ) FromHexError → List ℕ
-octets_in (Ok octets) = octets
-octets_in (Err fault) = []

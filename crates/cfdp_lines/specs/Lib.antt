@@ -1,12 +1,11 @@
 pub mod Answers
-pub mod Digits
 pub mod Ends
 pub mod Hexadecimal
 pub mod Lines
 pub mod Outcome
-pub mod Places
 pub mod Report
 pub mod Session
 pub mod Words
+pub mod code
 pub use Rattle.cfdp_streams.specs.Adapters
 pub use Rattle.cfdp_streams.specs.Streams

@@ -1,11 +1,11 @@
 -- What a script writes, and how it ends.
 --
 --   Report           a text, and the number of the bad line that ended it, if one did
---   finished         the report of no lines
+--   empty_report     the report of no lines
 --   stopped_at       the report of a bad line
 --   wrote            a report with some text before it
 --   line_answer      what one line does: the state after it and its text, or nothing where it is bad
---   and_then         the report of a line and those after it
+--   and_then_report  the report of a line and those after it
 --   report           the report of a list of lines
 --   script_report    the report of a script's octets, from its first line on
 --   limited_report   the report of those of its lines that are run: all, unless it is longer than the input limit
@@ -19,8 +19,8 @@ pub record Report : Type 0 where
   pub bad_line : Option ℕ
 
 -- the whole script was run, and nothing more is written
-abbrev pub finished : Report
-finished = record { text = []; bad_line = None }
+abbrev pub empty_report : Report
+empty_report = record { text = []; bad_line = None }
 
 -- the line of this number is bad, and nothing more is written
 abbrev pub stopped_at : ℕ → Report
@@ -39,15 +39,15 @@ line_answer answer state line =
     else answer state line
 
 -- what the line of this number gives, and then what the later lines report
-abbrev pub and_then : {State : Type 0} → ℕ → Option (State × List ℕ) → (State → Report) → Report
-and_then number None later = stopped_at number
-and_then number (Some answered) later = wrote answered.1 (later answered.0)
+abbrev pub and_then_report : {State : Type 0} → ℕ → Option (State × List ℕ) → (State → Report) → Report
+and_then_report number None later = stopped_at number
+and_then_report number (Some answered) later = wrote answered.1 (later answered.0)
 
 -- the first of these lines has this number; the first bad line ends the report
 abbrev pub report : {State : Type 0} → (State → List ℕ → Option (State × List ℕ)) → ℕ → State → List (List ℕ) → Report
-report answer number state [] = finished
+report answer number state [] = empty_report
 report answer number state (line ∷ lines) =
-    and_then number (line_answer answer state line) (λ after. report answer (number + 1) after lines)
+    and_then_report number (line_answer answer state line) (λ after. report answer (number + 1) after lines)
 
 -- lines count from 1
 abbrev pub script_report : {State : Type 0} → (State → List ℕ → Option (State × List ℕ)) → State → List ℕ → Report

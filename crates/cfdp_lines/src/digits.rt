@@ -2,8 +2,8 @@
 ghost use Rattle.std.specs.Prelude.{◌≡◌, ◌*◌, ◌/◌, ◌<◌, ◌≤◌, ◌↔◌, true, length, Err, IsOk, IsTrue, OnErr, OnOk};
 ghost use Rattle.hex.specs.Hex.{decode_of, is_hex_digit};
 ghost use Rattle.std.specs.List.{list_all};
-ghost use Rattle.cfdp_lines.specs.Digits.{AreOctets, ArePairs, AreSmall, AreValues, value_of};
-ghost use Rattle.cfdp_lines.specs.Hexadecimal.{octets_in};
+ghost use Rattle.cfdp_lines.specs.code.Digits.{AreSixteenOctets, ArePairs, AreNibbles, AreValues, value_of};
+ghost use Rattle.cfdp_lines.specs.code.Hexadecimal.{octets_or_none};
 ghost use Rattle.cfdp_lines.specs.declared.script.LineFault.TheVariants.{Bad};
 
 use crate::script::LineFault;
@@ -49,7 +49,7 @@ const LANES: usize = 16;
 /// sum, takes to 16 to 255.
 #[inline(always)]
 fn values_in(octets: u8x16) -> u8x16
-    requires { AreOctets octets }
+    requires { AreSixteenOctets octets }
     ensures { AreValues octets result }
 {
     let moved = octets + u8x16::splat(198);
@@ -65,7 +65,7 @@ fn values_in(octets: u8x16) -> u8x16
 fn decode_block(word: &[u8], room: &mut [u8]) -> u8x16
     requires word { 2 * LANES ≤ length word.now }
     requires room { LANES ≤ length room.old }
-    ensures { ArePairs word.now room.new LANES (AreSmall result) }
+    ensures { ArePairs word.now room.new LANES (AreNibbles result) }
 {
     let front = values_in(u8x16::from_slice(word));
     let back = values_in(u8x16::from_slice(&word[LANES..]));
@@ -144,7 +144,7 @@ fn decode_pieces(word: &[u8], room: &mut [u8]) -> bool
 /// which has fewer than 2,048 pairs. Nothing is decoded after that piece.
 pub(crate) fn decode_into(word: &[u8], room: &mut [u8]) -> Result<(), LineFault>
     requires { length room.old ≡ length word.now / 2 }
-    ensures octets { OnOk result (room.new ≡ octets_in (decode_of word.now)) }
+    ensures octets { OnOk result (room.new ≡ octets_or_none (decode_of word.now)) }
     ensures good { IsOk result ↔ IsOk (decode_of word.now) }
     ensures only { OnErr result (result ≡ Err Bad) }
 {

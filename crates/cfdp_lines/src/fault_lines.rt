@@ -9,7 +9,7 @@ pub(crate) struct RunLine(pub(crate) RunFault);
 
 impl fmt::Display for RunLine {
     ghost use Rattle.std.specs.Prelude.{Some};
-    ghost use Rattle.cfdp_lines.specs.Ends.{run_line};
+    ghost use Rattle.cfdp_lines.specs.code.Ends.{run_line};
 
     ghost output = { λ line. Some (run_line line.0) };
 
@@ -29,7 +29,7 @@ pub(crate) struct LinkLine(pub(crate) LinkFault);
 
 impl fmt::Display for LinkLine {
     ghost use Rattle.std.specs.Prelude.{Some};
-    ghost use Rattle.cfdp_lines.specs.Ends.{link_line};
+    ghost use Rattle.cfdp_lines.specs.code.Ends.{link_line};
 
     ghost output = { λ line. Some (link_line line.0) };
 
@@ -50,7 +50,7 @@ pub(crate) struct EndLine(pub(crate) ProgramEnd);
 
 impl fmt::Display for EndLine {
     ghost use Rattle.std.specs.Prelude.{Some};
-    ghost use Rattle.cfdp_lines.specs.Ends.{end_line};
+    ghost use Rattle.cfdp_lines.specs.code.Ends.{end_line};
 
     ghost output = { λ line. Some (end_line line.0) };
 

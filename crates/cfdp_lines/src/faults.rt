@@ -1,6 +1,6 @@
 //! How a run of a script, and the program round it, can end.
 ghost use Rattle.std.specs.Prelude.{◌≡◌};
-ghost use Rattle.cfdp_lines.specs.Ends.{status_of};
+ghost use Rattle.cfdp_lines.specs.Ends.{exit_status};
 
 use crate::fault_lines::{EndLine, LinkLine, RunLine};
 use std::alloc::AllocError;
@@ -67,7 +67,7 @@ impl ProgramEnd {
     /// The exit status: 0 where the whole input was run, 1 for a read, a write or memory that failed, for a full
     /// journal and for receipts that differ, 2 for unknown words, 3 for a bad line. It takes no memory.
     pub fn status(&self) -> u8
-        ensures { result ≡ status_of self.now }
+        ensures { result ≡ exit_status self.now }
     {
         match self {
             ProgramEnd::Fine => 0,

@@ -1,7 +1,8 @@
 //! Hexadecimal in a line of a script.
 ghost use Rattle.std.specs.Prelude.{◌≡◌, ◌≢◌, ◌↔◌, ◌<◌, ◌≤◌, ◌++◌, ℕ, List, [], length, take, Some, None, Err, IsOk, IsErr, IsSome, IfSome, IsTrue, OnOk, OnErr};
 ghost use Rattle.hex.specs.Hex.{decode_of};
-ghost use Rattle.cfdp_lines.specs.Hexadecimal.{hex_octets, octets_in, octets_of_words};
+ghost use Rattle.cfdp_lines.specs.Hexadecimal.{hex_octets, octets_of_words};
+ghost use Rattle.cfdp_lines.specs.code.Hexadecimal.{octets_or_none};
 ghost use Rattle.cfdp_lines.specs.Words.{words_of};
 ghost use Rattle.cfdp_lines.specs.declared.script.LineFault.TheVariants.{Bad};
 
@@ -15,7 +16,7 @@ const SPACE: u8 = b' ';
 /// Appends the octets of a word: pairs of digits in either case. An empty word, as between two spaces, costs a test and
 /// takes no memory.
 fn decode_word(word: &[u8], octets: &mut Vec<u8>) -> Result<(), LineFault>
-    ensures octets { OnOk result (octets.new.items ≡ octets.old.items ++ octets_in (decode_of word.now)) }
+    ensures octets { OnOk result (octets.new.items ≡ octets.old.items ++ octets_or_none (decode_of word.now)) }
     ensures good { OnOk result (IsOk (decode_of word.now)) }
     ensures bad { result ≡ Err Bad → IsErr (decode_of word.now) }
     ensures some { result ≡ Err LineFault.Memory → 0 < length word.now }

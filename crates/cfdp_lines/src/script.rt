@@ -1,6 +1,6 @@
 //! What a kind of script is: how one line of it is answered.
 ghost use Rattle.std.specs.Prelude.{◌≡◌, ◌↔◌, ℕ, List, Option, None, OnOk, OnErr, Err};
-ghost use Rattle.cfdp_lines.specs.Answers.{Answers};
+ghost use Rattle.cfdp_lines.specs.Answers.{AnswersLine};
 ghost use Rattle.cfdp_lines.specs.declared.script.LineFault.TheVariants.{Bad};
 
 use std::alloc::{AllocError, Global};
@@ -39,7 +39,7 @@ pub trait Script {
     /// Answers a line, and appends its text to `out`: each line of it with a newline after it. A bad line is answered
     /// so even where memory is refused.
     fn line(&mut self, alloc: Global, line: &[u8], out: &mut Vec<u8>) -> Result<(), LineFault>
-        ensures ok { OnOk result (Answers answer (state self.old)
+        ensures ok { OnOk result (AnswersLine answer (state self.old)
             (state self.new) line.now out.old.items out.new.items) }
         ensures bad { (result ≡ Err Bad) ↔ (answer (state self.old) line.now ≡ None) }
         ensures kept { OnErr result (out.new.items ≡ out.old.items) };

@@ -1,11 +1,13 @@
 //! A run in the middle of its script.
 ghost use Rattle.std.specs.Prelude.{◌≡◌, ◌≢◌, ◌↔◌, ℕ, ◌+◌, ◌<◌, ◌≤◌, ◌^◌, true, List, [], ◌∷◌, ◌++◌, length, take, Option, Some, None, IfOk, OnOk, OnErr, Err};
 ghost use Rattle.std.specs.Io.KnownBytes.{Appends, Keeps};
-ghost use Rattle.cfdp_lines.specs.Answers.{Answers, Adds};
+ghost use Rattle.cfdp_lines.specs.Answers.{AnswersLine, Adds};
 ghost use Rattle.cfdp_lines.specs.Lines.{IsOneLine, line_limit};
-ghost use Rattle.cfdp_lines.specs.Report.{line_answer, wrote, finished, stopped_at};
-ghost use Rattle.cfdp_lines.specs.Session.{Refuses, Runs, RunsBad, RunsPart, RunsLost, StopsBad, Finishes, FinishesBad, FinishesLost};
-ghost use Rattle.cfdp_streams.specs.Streams.{LostWithin, Spills};
+ghost use Rattle.cfdp_lines.specs.Report.{line_answer, wrote, empty_report, stopped_at};
+ghost use Rattle.cfdp_lines.specs.Session.{StopsBad};
+ghost use Rattle.cfdp_lines.specs.code.Session.{RefusesMemory, Runs, RunsBad, RunsPart, RunsLost, Finishes, FinishesBad, FinishesLost};
+ghost use Rattle.cfdp_streams.specs.Streams.{LostWithin};
+ghost use Rattle.cfdp_streams.specs.code.Streams.{Spills};
 ghost use Rattle.cfdp_lines.specs.declared.faults.RunFault.TheVariants.{Read, Write, Memory, BadLine};
 ghost use Rattle.cfdp_lines.specs.declared.script.LineFault.TheVariants.{Bad};
 
@@ -47,7 +49,7 @@ fn answer_line<S: Script>(
     line: &[u8],
     text: &mut Vec<u8>,
 ) -> Result<(), LineFault>
-    ensures ok { OnOk result (Answers (line_answer S.answer) (S.state script.old) (S.state script.new)
+    ensures ok { OnOk result (AnswersLine (line_answer S.answer) (S.state script.old) (S.state script.new)
         line.now text.old.items text.new.items) }
     ensures bad { (result ≡ Err Bad) ↔ (line_answer S.answer (S.state script.old) line.now ≡ None) }
     ensures kept { OnErr result (text.new.items ≡ text.old.items) }
@@ -62,7 +64,7 @@ fn answer_line<S: Script>(
 }
 
 impl<S: Script> Session<S> {
-    ghost use Rattle.cfdp_lines.specs.Places.{place_of};
+    ghost use Rattle.cfdp_lines.specs.code.Places.{session_place};
 
     /// Before the first octet.
     pub(crate) fn new(alloc: Global, script: S) -> Self
@@ -96,7 +98,7 @@ impl<S: Script> Session<S> {
     fn run_line(&mut self, alloc: Global) -> Result<(), LineFault>
         ensures line { self.new.line ≡ self.old.line }
         ensures number { self.new.number ≡ self.old.number }
-        ensures ok { OnOk result (Answers (line_answer S.answer) (S.state self.old.script) (S.state self.new.script)
+        ensures ok { OnOk result (AnswersLine (line_answer S.answer) (S.state self.old.script) (S.state self.new.script)
             self.old.line.items self.old.text.items self.new.text.items) }
         ensures bad { (result ≡ Err Bad) ↔ (line_answer S.answer (S.state self.old.script) self.old.line.items ≡ None) }
         ensures kept { OnErr result (self.new.text.items ≡ self.old.text.items) }
@@ -107,7 +109,7 @@ impl<S: Script> Session<S> {
     /// Runs a whole line where it lies among the octets that came, where none of it came before. It is not copied.
     fn run_whole(&mut self, alloc: Global, line: &[u8]) -> Result<(), LineFault>
         requires { self.old.number + 1 < 2 ^ 64 }
-        ensures ok { OnOk result (Answers (line_answer S.answer) (S.state self.old.script) (S.state self.new.script)
+        ensures ok { OnOk result (AnswersLine (line_answer S.answer) (S.state self.old.script) (S.state self.new.script)
             line.now self.old.text.items self.new.text.items) }
         ensures line { self.new.line ≡ self.old.line }
         ensures number { OnOk result (self.new.number ≡ self.old.number + 1) }
@@ -138,7 +140,7 @@ impl<S: Script> Session<S> {
     /// The line that was read ends here, and is run.
     fn end_line(&mut self, alloc: Global) -> Result<(), LineFault>
         requires { self.old.number + 1 < 2 ^ 64 }
-        ensures ok { OnOk result (Answers (line_answer S.answer) (S.state self.old.script) (S.state self.new.script)
+        ensures ok { OnOk result (AnswersLine (line_answer S.answer) (S.state self.old.script) (S.state self.new.script)
             self.old.line.items self.old.text.items self.new.text.items) }
         ensures line { OnOk result (self.new.line.items ≡ []) }
         ensures number { OnOk result (self.new.number ≡ self.old.number + 1) }
@@ -160,12 +162,13 @@ impl<S: Script> Session<S> {
         ensures some { IfOk result (λ n. 0 < n) }
         ensures count { IfOk result (λ n. n ≤ length octets.now) }
         ensures number { OnOk result (self.new.number ≤ self.old.number + 1) }
-        ensures ok { IfOk result (λ n. Adds S.answer (place_of S.state self.old) (place_of S.state self.new)
+        ensures ok { IfOk result (λ n. Adds S.answer (session_place S.state self.old) (session_place S.state self.new)
             (take n octets.now) self.old.text.items self.new.text.items) }
-        ensures bad { result ≡ Err Bad → StopsBad S.answer (place_of S.state self.old) octets.now [] self.old.number }
+        ensures bad { result ≡ Err Bad → StopsBad S.answer (session_place S.state self.old) octets.now []
+            self.old.number }
         // Of a line that came whole, or is too long already, a bad one is reported even where memory is refused.
         ensures refused { result ≡ Err LineFault.Memory → self.old.line.items ≡ []
-            → StopsBad S.answer (place_of S.state self.old) octets.now [] self.old.number → ⊥ }
+            → StopsBad S.answer (session_place S.state self.old) octets.now [] self.old.number → ⊥ }
         ensures kept { OnErr result (self.new.text.items ≡ self.old.text.items) }
         ensures same { OnErr result (self.new.number ≡ self.old.number) }
     {
@@ -229,15 +232,15 @@ impl<S: Script> Session<S> {
         requires empty { self.old.text.items ≡ [] }
         ensures empty { OnOk result (self.new.text.items ≡ []) }
         ensures number { OnOk result (self.new.number ≤ self.old.number + length octets.now) }
-        ensures ok { OnOk result (Runs S.answer (place_of S.state self.old) (place_of S.state self.new)
+        ensures ok { OnOk result (Runs S.answer (session_place S.state self.old) (session_place S.state self.new)
             octets.now (W.contents writer.old) (W.contents writer.new)) }
-        ensures bad { (n : ℕ) → result ≡ Err (BadLine n) → RunsBad S.answer (place_of S.state self.old)
+        ensures bad { (n : ℕ) → result ≡ Err (BadLine n) → RunsBad S.answer (session_place S.state self.old)
             octets.now n (W.contents writer.old) (W.contents writer.new) }
-        ensures memory { result ≡ Err Memory → RunsPart S.answer (place_of S.state self.old)
+        ensures memory { result ≡ Err Memory → RunsPart S.answer (session_place S.state self.old)
             octets.now (W.contents writer.old) (W.contents writer.new) }
         // Memory was refused to a line that is not bad, as far as it came whole.
-        ensures refused { result ≡ Err Memory → Refuses S.answer (place_of S.state self.old) octets.now }
-        ensures write { result ≡ Err Write → RunsLost S.answer (place_of S.state self.old)
+        ensures refused { result ≡ Err Memory → RefusesMemory S.answer (session_place S.state self.old) octets.now }
+        ensures write { result ≡ Err Write → RunsLost S.answer (session_place S.state self.old)
             octets.now (W.contents writer.old) (W.contents writer.new) }
         ensures well { result ≢ Err Write → W.failed writer.new ≡ W.failed writer.old }
         ensures fails { result ≡ Err Write → W.failed writer.new ≡ true }
@@ -265,14 +268,14 @@ impl<S: Script> Session<S> {
         writer: &mut W,
     ) -> Result<(), RunFault>
         requires { self.old.text.items ≡ [] }
-        ensures ok { OnOk result (Finishes S.answer (place_of S.state self.old)
+        ensures ok { OnOk result (Finishes S.answer (session_place S.state self.old)
             (W.contents writer.old) (W.contents writer.new)) }
-        ensures bad { (n : ℕ) → result ≡ Err (BadLine n) → FinishesBad S.answer (place_of S.state self.old)
+        ensures bad { (n : ℕ) → result ≡ Err (BadLine n) → FinishesBad S.answer (session_place S.state self.old)
             n (W.contents writer.old) (W.contents writer.new) }
         ensures memory { result ≡ Err Memory → Keeps (W.contents writer.old) (W.contents writer.new) }
         ensures refused { result ≡ Err Memory
             → line_answer S.answer (S.state self.old.script) self.old.line.items ≡ None → ⊥ }
-        ensures write { result ≡ Err Write → FinishesLost S.answer (place_of S.state self.old)
+        ensures write { result ≡ Err Write → FinishesLost S.answer (session_place S.state self.old)
             (W.contents writer.old) (W.contents writer.new) }
         ensures well { result ≢ Err Write → W.failed writer.new ≡ W.failed writer.old }
         ensures fails { result ≡ Err Write → W.failed writer.new ≡ true }

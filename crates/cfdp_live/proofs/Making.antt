@@ -11,11 +11,12 @@ use Rattle.cfdp_receiver.specs.declared.mib.Mib.{Mib}
 use Rattle.cfdp_receiver.specs.State.{State, AnswerFields, Input, Expire}
 use Rattle.cfdp_receiver.specs.Machine.{MachineFields, AnswerParts, answer_in}
 use Rattle.cfdp_receiver.specs.Sent.{as_sent}
-use Rattle.cfdp_receiver.specs.Turning.{turn, after, after_all, parts}
+use Rattle.cfdp_receiver.specs.Turning.{turn, after_input, after_all, parts}
 use Rattle.cfdp_run.specs.Playing.{is_nothing, next_settled, passing, settled_after, settling}
 use Rattle.cfdp_run.proofs.Follows.{ends_both, turned_to}
 use Rattle.cfdp_run.proofs.Loops.{passing_last, passing_next, passing_none, settling_next, settling_none}
-use Rattle.cfdp_live.specs.Living.{Out, nothing, with_more, with_sent, answered, made_of, made, Makes}
+use Rattle.cfdp_live.specs.Living.{Out, nothing, with_more, made_of_answer, made_of, made, MakesOut}
+use Rattle.cfdp_live.specs.code.Living.{with_sent}
 
 abbrev out : List (List ℕ) → List ℕ → Bool → Out
 out sent told ended = record { sent = sent; told = told; ended = ended }
@@ -41,8 +42,8 @@ more-assoc a b c =
 made_both : (R : State) (is js : List Input) → made R (is ++ js) ≡ with_more (made R is) (made (after_all R is) js)
 made_both R [] js = refl
 made_both R (i ∷ is) js =
-    ap (λ (o : Out). with_more (made_of R i) o) (made_both (after R i) is js)
-    ∙ sym (more-assoc (made_of R i) (made (after R i) is) (made (after_all (after R i) is) js))
+    ap (λ (o : Out). with_more (made_of R i) o) (made_both (after_input R i) is js)
+    ∙ sym (more-assoc (made_of R i) (made (after_input R i) is) (made (after_all (after_input R i) is) js))
 
 -- ---- some inputs are left
 
@@ -52,7 +53,7 @@ pub record LeftToMake (R : State) (inputs : List Input) (start : State) (all : L
 
 -- some of them come
 left_next : (R : State) (some more : List Input) (start : State) (all : List Input) (before now : Out) (N : State) (later : Out) →
-    LeftToMake R (some ++ more) start all before now → Makes R some N now later → LeftToMake N more start all before later
+    LeftToMake R (some ++ more) start all before now → MakesOut R some N now later → LeftToMake N more start all before later
 left_next R some more start all before now N later h p = record {
   ends = ap (λ (Q : State). after_all Q more) p.ends ∙ sym (ends_both R some more) ∙ h.ends;
   makes =
@@ -63,29 +64,30 @@ left_next R some more start all before now N later h p = record {
 }
 
 -- none is left
-left_none : (R start : State) (all : List Input) (before now : Out) → LeftToMake R [] start all before now → Makes start all R before now
+left_none : (R start : State) (all : List Input) (before now : Out) → LeftToMake R [] start all before now → MakesOut start all R before now
 left_none R start all before now h = record { ends = h.ends; makes = sym (more-nothing now) ∙ h.makes }
 
 -- ---- the loops
 
 pub settles_next : (left more now : ℕ) (R : State) (i : Input) (start : State) (all : List Input) (before made_so : Out) (N : State) (later : Out) →
-    left ≡ suc more → next_settled now R ≡ Some i → LeftToMake R (settling left now R) start all before made_so → Makes R (i ∷ []) N made_so later →
+    left ≡ suc more → next_settled now R ≡ Some i → LeftToMake R (settling left now R) start all before made_so → MakesOut R (i ∷ []) N made_so later →
     LeftToMake N (settling more now N) start all before later
 settles_next left more now R i start all before made_so N later one some h p =
-    let first : settling left now R ≡ (i ∷ []) ++ settling more now (after R i) = ap (λ (k : ℕ). settling k now R) one ∙ settling_next more now R i some in
+    let first : settling left now R ≡ (i ∷ []) ++ settling more now (after_input R i) = ap (λ (k : ℕ). settling k now R) one
+    ∙ settling_next more now R i some in
     let next =
-    left_next R (i ∷ []) (settling more now (after R i)) start all before made_so N later
+    left_next R (i ∷ []) (settling more now (after_input R i)) start all before made_so N later
     (subst (λ (is : List Input). LeftToMake R is start all before made_so) first h) p in
     subst (λ (Q : State). LeftToMake N (settling more now Q) start all before later) (sym p.ends) next
 
 pub settles_end : (left now : ℕ) (R start : State) (all : List Input) (before made_so : Out) → (left ≡ 0) ⊎ (next_settled now R ≡ None) →
-    LeftToMake R (settling left now R) start all before made_so → Makes start all R before made_so
+    LeftToMake R (settling left now R) start all before made_so → MakesOut start all R before made_so
 settles_end left now R start all before made_so none h =
     left_none R start all before made_so (subst (λ (is : List Input). LeftToMake R is start all before made_so) (settling_none left now R none) h)
 
 pub passes_next : (left more now : ℕ) (R start : State) (all : List Input) (before made_so : Out) (N : State) (later : Out) →
     left ≡ suc more → is_nothing (parts R (Expire now)).answer.became ≡ false → LeftToMake R (passing left now R) start all before made_so →
-    Makes R (settled_after now R (Expire now)) N made_so later → LeftToMake N (passing more now N) start all before later
+    MakesOut R (settled_after now R (Expire now)) N made_so later → LeftToMake N (passing more now N) start all before later
 passes_next left more now R start all before made_so N later one some h p =
     let inputs = settled_after now R (Expire now) in
     let first : passing left now R ≡ inputs ++ passing more now (after_all R inputs) = ap (λ (k : ℕ). passing k now R) one ∙ passing_next more now R some in
@@ -96,14 +98,14 @@ passes_next left more now R start all before made_so N later one some h p =
 
 pub passes_last : (left more now : ℕ) (R start : State) (all : List Input) (before made_so : Out) (N : State) (later : Out) →
     left ≡ suc more → is_nothing (parts R (Expire now)).answer.became ≡ true → LeftToMake R (passing left now R) start all before made_so →
-    Makes R (Expire now ∷ []) N made_so later → Makes start all N before later
+    MakesOut R (Expire now ∷ []) N made_so later → MakesOut start all N before later
 passes_last left more now R start all before made_so N later one none h p =
     let first : passing left now R ≡ (Expire now ∷ []) ++ [] = ap (λ (k : ℕ). passing k now R) one ∙ passing_last more now R none in
     left_none N start all before later
     (left_next R (Expire now ∷ []) [] start all before made_so N later (subst (λ (is : List Input). LeftToMake R is start all before made_so) first h) p)
 
 pub passes_end : (left now : ℕ) (R start : State) (all : List Input) (before made_so : Out) → left ≡ 0 →
-    LeftToMake R (passing left now R) start all before made_so → Makes start all R before made_so
+    LeftToMake R (passing left now R) start all before made_so → MakesOut start all R before made_so
 passes_end left now R start all before made_so none h =
     left_none R start all before made_so
     (subst (λ (is : List Input). LeftToMake R is start all before made_so) (ap (λ (k : ℕ). passing k now R) none ∙ passing_none now R) h)

@@ -3,12 +3,11 @@
 --     Out                       the PDUs that are sent, in order; the lines of indications and refusals, one after the
 --                               other; whether a transaction ended, so that the filestore may have changed
 --     nothing, with_more        neither PDU nor line;  two of them, one after the other
---     with_sent                 more PDUs after those that there are
 --     is_end indication         a transaction finished or was abandoned
 --     refusal_line became       the line of a refusal of a transaction, and nothing if there was none
---     answered mib a            what an answer makes: its PDUs have a CRC where `mib` says so
+--     made_of_answer mib a      what an answer makes: its PDUs have a CRC where `mib` says so
 --     made R inputs             what inputs make, one after the other
---     Makes R inputs N before after     the inputs lead from R to N, and what they make comes after what there was
+--     MakesOut R inputs N before after  the inputs lead from R to N, and what they make comes after what there was
 use Rattle.std.specs.Prelude.{◌≡◌, ℕ, Bool, true, false, ◌||◌, List, [], ◌∷◌, ◌++◌, map}
 use Rattle.std.specs.List.{list_any}
 use Rattle.cfdp_receiver.specs.declared.answer.Became.{Became}
@@ -18,8 +17,8 @@ use Rattle.cfdp_receiver.specs.declared.answer.Indication.TheVariants.{Transacti
 use Rattle.cfdp_receiver.specs.declared.mib.Mib.{Mib}
 use Rattle.cfdp_receiver.specs.State.{AnswerFields, Input, State}
 use Rattle.cfdp_receiver.specs.Sent.{as_sent}
-use Rattle.cfdp_receiver.specs.Turning.{after, after_all, parts}
-use Rattle.cfdp_reports.specs.Reports.{pdus_in, told_lines}
+use Rattle.cfdp_receiver.specs.Turning.{after_input, after_all, parts}
+use Rattle.cfdp_reports.specs.Reports.{answer_pdus, indication_lines}
 use Rattle.cfdp_texts.specs.Replies.{reply_line}
 use Rattle.cfdp_transactions.specs.declared.reply.Reply.TheVariants.{Refused}
 
@@ -34,9 +33,6 @@ nothing = record { sent = []; told = []; ended = false }
 abbrev pub with_more : Out → Out → Out
 with_more a b = record { sent = a.sent ++ b.sent; told = a.told ++ b.told; ended = a.ended || b.ended }
 
-abbrev pub with_sent : Out → List (List ℕ) → Out
-with_sent o pdus = record { sent = o.sent ++ pdus; told = o.told; ended = o.ended }
-
 abbrev pub is_end : Indication → Bool
 is_end (TransactionFinished id end) = true
 is_end (Abandoned id condition) = true
@@ -46,20 +42,20 @@ abbrev pub refusal_line : Became → List ℕ
 refusal_line (Replied id (Refused refusal)) = reply_line id (Refused refusal)
 refusal_line became = []
 
-abbrev pub answered : Mib → AnswerFields → Out
-answered mib a = record {
-  sent = map (as_sent mib) (pdus_in a);
-  told = told_lines a.indications ++ refusal_line a.became;
+abbrev pub made_of_answer : Mib → AnswerFields → Out
+made_of_answer mib a = record {
+  sent = map (as_sent mib) (answer_pdus a);
+  told = indication_lines a.indications ++ refusal_line a.became;
   ended = list_any is_end a.indications;
 }
 
 abbrev pub made_of : State → Input → Out
-made_of R i = answered R.mib (parts R i).answer
+made_of R i = made_of_answer R.mib (parts R i).answer
 
 abbrev pub made : State → List Input → Out
 made R [] = nothing
-made R (i ∷ is) = with_more (made_of R i) (made (after R i) is)
+made R (i ∷ is) = with_more (made_of R i) (made (after_input R i) is)
 
-pub record Makes (R : State) (inputs : List Input) (N : State) (before after : Out) : Type 0 where
+pub record MakesOut (R : State) (inputs : List Input) (N : State) (before after : Out) : Type 0 where
   pub ends : N ≡ after_all R inputs
   pub makes : after ≡ with_more before (made R inputs)

@@ -7,7 +7,7 @@ ghost use Rattle.cfdp_receiver.specs.Sent.{longest_sealed};
 ghost use Rattle.cfdp_receiver.specs.State.{Expire, Finish, Work};
 ghost use Rattle.cfdp_receiver.specs.Turning.{parts};
 ghost use Rattle.cfdp_run.specs.Playing.{heard_inputs, is_nothing, most_settled, most_timers, passing, settled_after, settling};
-ghost use Rattle.cfdp_live.specs.Living.{Makes, answered, with_more};
+ghost use Rattle.cfdp_live.specs.Living.{MakesOut, made_of_answer, with_more};
 
 use crate::output::Output;
 use cfdp_pdus::PduFault;
@@ -60,14 +60,14 @@ impl Live {
     ) -> Result<(), AllocError>
         ensures same { self.new.receiver ≡ self.old.receiver }
         ensures ok { OnOk result (output.new ≡ with_more output.old
-            (answered self.old.receiver.state.mib (answer_in self.old.receiver answer.now))) }
+            (made_of_answer self.old.receiver.state.mib (answer_in self.old.receiver answer.now))) }
     {
         output.push(alloc, &self.receiver, answer, &mut self.room)
     }
 
     /// The next item is performed.
     fn work(&mut self, alloc: Global, now: u64, output: &mut Output) -> Result<(), AllocError>
-        ensures { OnOk result (Makes self.old.receiver.state
+        ensures { OnOk result (MakesOut self.old.receiver.state
             (Work now ∷ []) self.new.receiver.state output.old output.new) }
     {
         let answer = self.receiver.work(now);
@@ -76,7 +76,7 @@ impl Live {
 
     /// The next outcome is taken.
     fn finish(&mut self, alloc: Global, now: u64, output: &mut Output) -> Result<(), AllocError>
-        ensures { OnOk result (Makes self.old.receiver.state
+        ensures { OnOk result (MakesOut self.old.receiver.state
             (Finish now ∷ []) self.new.receiver.state output.old output.new) }
     {
         let answer = self.receiver.finish(alloc, now)?;
@@ -85,7 +85,7 @@ impl Live {
 
     /// All items are performed and all outcomes taken.
     fn settle(&mut self, alloc: Global, now: u64, output: &mut Output) -> Result<(), AllocError>
-        ensures { OnOk result (Makes self.old.receiver.state
+        ensures { OnOk result (MakesOut self.old.receiver.state
             (settling most_settled now self.old.receiver.state) self.new.receiver.state output.old output.new) }
     {
         'inputs: for _ in 0..MOST_SETTLED {
@@ -108,9 +108,9 @@ impl Live {
         answer: &Answer,
         output: &mut Output,
     ) -> Result<(), AllocError>
-        ensures { OnOk result (Makes self.old.receiver.state
+        ensures { OnOk result (MakesOut self.old.receiver.state
             (settling most_settled now self.old.receiver.state) self.new.receiver.state
-            (with_more output.old (answered self.old.receiver.state.mib (answer_in self.old.receiver answer.now)))
+            (with_more output.old (made_of_answer self.old.receiver.state.mib (answer_in self.old.receiver answer.now)))
             output.new) }
     {
         self.push(alloc, answer, output)?;
@@ -121,9 +121,9 @@ impl Live {
     fn expire(&mut self, alloc: Global, now: u64, output: &mut Output) -> Result<bool, AllocError>
         ensures idle { IfOk result (λ idle. idle ≡ is_nothing
             (parts self.old.receiver.state (Expire now)).answer.became) }
-        ensures none { result ≡ Ok true → Makes self.old.receiver.state
+        ensures none { result ≡ Ok true → MakesOut self.old.receiver.state
             (Expire now ∷ []) self.new.receiver.state output.old output.new }
-        ensures some { result ≡ Ok false → Makes self.old.receiver.state
+        ensures some { result ≡ Ok false → MakesOut self.old.receiver.state
             (settled_after now self.old.receiver.state (Expire now)) self.new.receiver.state output.old output.new }
     {
         let answer = self.receiver.expire(now);
@@ -142,7 +142,7 @@ impl Live {
     ///
     /// [`AllocError`] when out of memory: a part of what was to be done is done.
     pub fn pass(&mut self, alloc: Global, now: u64, output: &mut Output) -> Result<(), AllocError>
-        ensures { OnOk result (Makes self.old.receiver.state
+        ensures { OnOk result (MakesOut self.old.receiver.state
             (passing most_timers now self.old.receiver.state) self.new.receiver.state output.old output.new) }
     {
         'timers: for _ in 0..MOST_TIMERS {
@@ -166,7 +166,7 @@ impl Live {
         octets: &mut [u8],
         output: &mut Output,
     ) -> Result<(), AllocError>
-        ensures { OnOk result (Makes self.old.receiver.state
+        ensures { OnOk result (MakesOut self.old.receiver.state
             (heard_inputs now self.old.receiver.state (heard now octets.old)) self.new.receiver.state output.old
             output.new) }
     {

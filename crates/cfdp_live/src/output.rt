@@ -2,12 +2,13 @@
 
 ghost use Rattle.std.specs.Prelude.{◌≡◌, ◌++◌, ◌∷◌, ◌||◌, ◌≤◌, [], false, length, map, max, OnOk};
 ghost use Rattle.std.specs.List.{list_any};
-ghost use Rattle.cfdp_actions.specs.Listed.{octets_of};
+ghost use Rattle.cfdp_actions.specs.Listed.{vector_octets};
 ghost use Rattle.cfdp_receiver.specs.declared.answer.Became.TheVariants.{Replied};
 ghost use Rattle.cfdp_receiver.specs.Machine.{answer_in};
 ghost use Rattle.cfdp_receiver.specs.Sent.{as_sent, longest_sealed, pdus_of};
-ghost use Rattle.cfdp_reports.specs.Reports.{told_lines};
-ghost use Rattle.cfdp_live.specs.Living.{Out, answered, is_end, nothing, refusal_line, with_more, with_sent};
+ghost use Rattle.cfdp_reports.specs.Reports.{indication_lines};
+ghost use Rattle.cfdp_live.specs.Living.{Out, made_of_answer, is_end, nothing, refusal_line, with_more};
+ghost use Rattle.cfdp_live.specs.code.Living.{with_sent};
 
 use cfdp_receiver::{Answer, Became, Indication, Receiver};
 use cfdp_reports::push_told;
@@ -75,12 +76,12 @@ pub struct Output {
 }
 
 impl Model for Output {
-    ghost use Rattle.cfdp_actions.specs.Listed.{octets_of};
+    ghost use Rattle.cfdp_actions.specs.Listed.{vector_octets};
     ghost use Rattle.cfdp_live.specs.Living.{Out};
 
     ghost Value = { Out };
 
-    ghost view = { λ o. record { sent = octets_of o.pdus.items; told = o.lines.items; ended = o.has_ended } };
+    ghost view = { λ o. record { sent = vector_octets o.pdus.items; told = o.lines.items; ended = o.has_ended } };
 }
 
 impl Output {
@@ -97,7 +98,7 @@ impl Output {
 
     /// The octets of the PDUs that are to be sent, in order, each with its CRC if it has one.
     pub fn pdus(&self) -> &[Vec<u8>]
-        ensures { octets_of result.now ≡ self.now.sent }
+        ensures { vector_octets result.now ≡ self.now.sent }
     {
         &self.pdus
     }
@@ -164,7 +165,7 @@ impl Output {
     ) -> Result<(), AllocError>
         requires { max longest_sealed receiver.now.state.mib.longest_nak ≤ length room.old }
         ensures { OnOk result (self.new ≡ with_more self.old
-            (answered receiver.now.state.mib (answer_in receiver.now answer.now))) }
+            (made_of_answer receiver.now.state.mib (answer_in receiver.now answer.now))) }
     {
         self.push_pdus(alloc, receiver, answer, room)?;
         push_told(answer, &mut self.lines)?;

@@ -4,7 +4,7 @@
 --     times_middle               in two lists with a node between them
 use Rattle.std.proofs.Common.{◌≡◌, ◌≢◌, ℕ, ◌+◌, ◌≤◌, ◌==◌, cond, Bool, true, false, List, [], ◌∷◌, ◌++◌, refl, ap, arith}
 use Rattle.std.proofs.lemmas.Bool.{eq-eqb, eqb-true}
-use Rattle.cfdp_order.specs.Orders.{times}
+use Rattle.cfdp_order.specs.Orders.{times_in}
 
 abbrev pub one : ℕ → ℕ → ℕ
 one node other = cond (node == other) 1 0
@@ -19,11 +19,11 @@ one_other node other apart = go (node == other) refl
     go true e = absurd (apart (eqb-true node other e))
     go false e = refl
 
-pub times-append : (node : ℕ) (a b : List ℕ) → times node (a ++ b) ≡ times node a + times node b
+pub times-append : (node : ℕ) (a b : List ℕ) → times_in node (a ++ b) ≡ times_in node a + times_in node b
 times-append node [] b = omega arith
 times-append node (other ∷ a) b = omega (arith, times-append node a b)
 
-pub times_middle : (node : ℕ) (a : List ℕ) (other : ℕ) (b : List ℕ) → times node (a ++ other ∷ b) ≡ times node a + (one other node + times node b)
+pub times_middle : (node : ℕ) (a : List ℕ) (other : ℕ) (b : List ℕ) → times_in node (a ++ other ∷ b) ≡ times_in node a + (one other node + times_in node b)
 times_middle node a other b = times-append node a (other ∷ b)
 
 pub one_most : (node other : ℕ) → one node other ≤ 1

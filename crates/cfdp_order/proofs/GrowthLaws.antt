@@ -10,7 +10,8 @@ use Rattle.std.proofs.lemmas.Bool.{cases_eq, cases_lt}
 use Rattle.std.specs.Prelude.{All}
 use Rattle.cfdp_order.specs.declared.links.Links.{Links}
 use Rattle.cfdp_order.specs.declared.links.Order.{Order}
-use Rattle.cfdp_order.specs.Orders.{nodes, times, AreNear, IsOrder, CanJoin, OthersStay}
+use Rattle.cfdp_order.specs.Orders.{nodes, times_in, AreNear, IsOrder, OtherLinksStay}
+use Rattle.cfdp_order.specs.code.Orders.{CanJoin}
 use Rattle.cfdp_order.proofs.Counts.{one, one_self, one_other, one_most, times_middle}
 use Rattle.cfdp_order.proofs.TreeLaws.{Stays, stays_apart, Opened, no_nodes, none_is}
 use Rattle.cfdp_order.proofs.TurnLaws.{others_then}
@@ -22,19 +23,19 @@ pub record Balanced (old new : List Links) (left : Order) (node : ℕ) (right re
   pub near : AreNear left.height right.height → result.height ≡ max left.height right.height + 1
   pub least : max left.height right.height ≤ result.height
   pub most : result.height ≤ max left.height right.height + 1
-  pub others : OthersStay old new (nodes old left ++ node ∷ nodes old right)
+  pub others : OtherLinksStay old new (nodes old left ++ node ∷ nodes old right)
 
 pub record Grown (old new : List Links) (node : ℕ) (order result : Order) : Type 0 where
   pub is : IsOrder new result
-  pub one_more : (n : ℕ) → times n (nodes new result) ≡ one node n + times n (nodes old order)
+  pub one_more : (n : ℕ) → times_in n (nodes new result) ≡ one node n + times_in n (nodes old order)
   pub least : order.height ≤ result.height
   pub most : result.height ≤ order.height + 1
-  pub others : OthersStay old new (node ∷ nodes old order)
+  pub others : OtherLinksStay old new (node ∷ nodes old order)
 
 -- a node that is not there, with those that are
-with_fresh : (node : ℕ) (list : List ℕ) → times node list ≡ 0 → ((n : ℕ) → times n list ≤ 1) → (n : ℕ) → one node n + times n list ≤ 1
+with_fresh : (node : ℕ) (list : List ℕ) → times_in node list ≡ 0 → ((n : ℕ) → times_in n list ≤ 1) → (n : ℕ) → one node n + times_in n list ≤ 1
 with_fresh node list fresh once n = elim (cases_eq node n) [
-  | inl e ↦ subst (λ k. one node k + times k list ≤ 1) e (omega (arith, fresh, one_self node))
+  | inl e ↦ subst (λ k. one node k + times_in k list ≤ 1) e (omega (arith, fresh, one_self node))
   | inr other ↦ omega (arith, once n, one_other node n other)
 ]
 
@@ -47,30 +48,31 @@ higher order a b more result high near least most same low top = elim (cases_lt 
   | inr close ↦ (let is = same (omega (arith, near), close) in (omega (arith, is, close), omega (arith, is, close)))
 ]
 
-module _ (old : List Links) (node : ℕ) (order a b : Order) (is : IsOrder old order) (o : Opened old order a b) (fresh : times node (nodes old order) ≡ 0) where
-  counted : (n : ℕ) → times n (nodes old order) ≡ times n (nodes old a) + (one order.root n + times n (nodes old b))
-  counted n = ap (times n) o.listed ∙ times_middle n (nodes old a) order.root (nodes old b)
+module _ (old : List Links) (node : ℕ) (order a b : Order) (is : IsOrder old order) (o : Opened old order a b)
+    (fresh : times_in node (nodes old order) ≡ 0) where
+  counted : (n : ℕ) → times_in n (nodes old order) ≡ times_in n (nodes old a) + (one order.root n + times_in n (nodes old b))
+  counted n = ap (times_in n) o.listed ∙ times_middle n (nodes old a) order.root (nodes old b)
 
-  all_once : (n : ℕ) → one node n + (times n (nodes old a) + (one order.root n + times n (nodes old b))) ≤ 1
+  all_once : (n : ℕ) → one node n + (times_in n (nodes old a) + (one order.root n + times_in n (nodes old b))) ≤ 1
   all_once n = omega (arith, with_fresh node (nodes old order) fresh is.once n, counted n)
 
-  pub fresh_left : times node (nodes old a) ≡ 0
+  pub fresh_left : times_in node (nodes old a) ≡ 0
   fresh_left = omega (arith, counted node, fresh)
 
-  pub fresh_right : times node (nodes old b) ≡ 0
+  pub fresh_right : times_in node (nodes old b) ≡ 0
   fresh_right = omega (arith, counted node, fresh)
 
 -- to the right
-module _ {old new : List Links} {node : ℕ} {order a b more : Order} (is : IsOrder old order) (o : Opened old order a b) (fresh : times node (nodes old order)
+module _ {old new : List Links} {node : ℕ} {order a b more : Order} (is : IsOrder old order) (o : Opened old order a b) (fresh : times_in node (nodes old order)
     ≡ 0) (grown : Grown old new node b more) where
   pub a_stays : Stays old new a
   a_stays = stays_apart old new a (node ∷ nodes old b) o.is_a grown.others (λ n. omega (arith, all_once old node order a b is o fresh n))
 
-  pub right_counted : (n : ℕ) → times n (nodes new a ++ order.root ∷ nodes new more) ≡ one node n + times n (nodes old order)
+  pub right_counted : (n : ℕ) → times_in n (nodes new a ++ order.root ∷ nodes new more) ≡ one node n + times_in n (nodes old order)
   right_counted n = omega (
     arith,
     times_middle n (nodes new a) order.root (nodes new more),
-    ap (times n) a_stays.listed,
+    ap (times_in n) a_stays.listed,
     grown.one_more n,
     counted old node order a b is o fresh n,
   )
@@ -89,7 +91,7 @@ module _ {old new : List Links} {node : ℕ} {order a b more : Order} (is : IsOr
       balanced.most in
       record {
         is = balanced.is;
-        one_more = (λ n. ap (times n) balanced.listed ∙ right_counted n);
+        one_more = (λ n. ap (times_in n) balanced.listed ∙ right_counted n);
         least = heights.0;
         most = heights.1;
         others = others_then grown.others balanced.others (λ n none. (
@@ -109,16 +111,16 @@ module _ {old new : List Links} {node : ℕ} {order a b more : Order} (is : IsOr
       ∙ sym (append_assoc (nodes old a) (order.root ∷ s.rest) (node ∷ after)) ∙ (λ i. sym s.before_is i ++ node ∷ after)
 
 -- to the left
-module _ {old new : List Links} {node : ℕ} {order a b more : Order} (is : IsOrder old order) (o : Opened old order a b) (fresh : times node (nodes old order)
+module _ {old new : List Links} {node : ℕ} {order a b more : Order} (is : IsOrder old order) (o : Opened old order a b) (fresh : times_in node (nodes old order)
     ≡ 0) (grown : Grown old new node a more) where
   pub b_stays : Stays old new b
   b_stays = stays_apart old new b (node ∷ nodes old a) o.is_b grown.others (λ n. omega (arith, all_once old node order a b is o fresh n))
 
-  pub left_counted : (n : ℕ) → times n (nodes new more ++ order.root ∷ nodes new b) ≡ one node n + times n (nodes old order)
+  pub left_counted : (n : ℕ) → times_in n (nodes new more ++ order.root ∷ nodes new b) ≡ one node n + times_in n (nodes old order)
   left_counted n = omega (
     arith,
     times_middle n (nodes new more) order.root (nodes new b),
-    ap (times n) b_stays.listed,
+    ap (times_in n) b_stays.listed,
     grown.one_more n,
     counted old node order a b is o fresh n,
   )
@@ -141,7 +143,7 @@ module _ {old new : List Links} {node : ℕ} {order a b more : Order} (is : IsOr
       (λ near. balanced.near (near.1, near.0) ∙ ap (λ k. k + 1) turned) (omega (arith, balanced.least, turned)) (omega (arith, balanced.most, turned)) in
       record {
         is = balanced.is;
-        one_more = (λ n. ap (times n) balanced.listed ∙ left_counted n);
+        one_more = (λ n. ap (times_in n) balanced.listed ∙ left_counted n);
         least = heights.0;
         most = heights.1;
         others = others_then grown.others balanced.others (λ n none. (
@@ -168,7 +170,7 @@ none_can links a b node none no_more within =
       before = none_is links a none;
       after = none_is links b no_more;
       within = within;
-      once = (λ n. omega (arith, times_middle n (nodes links a) node (nodes links b), ap (times n) left, ap (times n) right, one_most node n));
+      once = (λ n. omega (arith, times_middle n (nodes links a) node (nodes links b), ap (times_in n) left, ap (times_in n) right, one_most node n));
     }
 
 pub none_split : {before after list : List ℕ} → list ≡ [] → list ≡ before ++ after → (before ≡ []) × (after ≡ [])

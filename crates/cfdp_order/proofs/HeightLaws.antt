@@ -13,7 +13,7 @@ use Rattle.std.specs.List.{IsDistinct, list_any, AllByRecursion}
 use Rattle.std.proofs.lemmas.Map.Steps.{length-le_from_distinct_below}
 use Rattle.cfdp_order.specs.declared.links.Links.{Links}
 use Rattle.cfdp_order.specs.declared.links.Order.{Order}
-use Rattle.cfdp_order.specs.Orders.{links_at, AreNear, IsTree, leaf, fork, nodes, times, IsOrder, least_nodes}
+use Rattle.cfdp_order.specs.Orders.{links_at, AreNear, IsOrderTree, leaf, fork, nodes, times_in, IsOrder, least_nodes}
 use Rattle.cfdp_order.proofs.Counts.{one, one_self, one_other, times_middle}
 
 zero_least : least_nodes 0 ≡ 0
@@ -61,30 +61,30 @@ joined_least n m near h high = elim (cases_lt n m) [
       subst (λ k. least_nodes k ≤ least_nodes n + least_nodes m + 1) (sym e) (omega (arith, higher m n more near.0)))
 ]
 
-pub least_in : {links : List Links} {order : Order} {list : List ℕ} → IsTree links order list → least_nodes order.height ≤ length list
+pub least_in : {links : List Links} {order : Order} {list : List ℕ} → IsOrderTree links order list → least_nodes order.height ≤ length list
 least_in (leaf none) = subst (λ h. least_nodes h ≤ 0) (sym none) (omega (arith, zero_least))
 least_in {links} {order} (fork {before = before} {after = after} within left right near high) =
     let w = links_at links order.root in
     omega (arith, joined_least w.left_height w.right_height near order.height high, least_in left, least_in right, length-append before (order.root ∷ after))
 
 -- a node of a tree is at its top, to the left or to the right
-somewhere : (n root : ℕ) (before after : List ℕ) (P : ℕ → Type 0) → P root → (1 ≤ times n before → P n) → (1 ≤ times n after → P n) →
-    1 ≤ times n (before ++ root ∷ after) → P n
+somewhere : (n root : ℕ) (before after : List ℕ) (P : ℕ → Type 0) → P root → (1 ≤ times_in n before → P n) → (1 ≤ times_in n after → P n) →
+    1 ≤ times_in n (before ++ root ∷ after) → P n
 somewhere n root before after P top left right some = elim (cases_eq root n) [
   | inl e ↦ subst P e top
-  | inr other ↦ elim (cases_eq (times n before) 0) [
+  | inr other ↦ elim (cases_eq (times_in n before) 0) [
     | inl none ↦ right (omega (arith, some, none, times_middle n before root after, one_other root n other))
     | inr more ↦ left (omega (arith, more))
   ]
 ]
 
 -- each node is within the array
-pub within_links : {links : List Links} {order : Order} {list : List ℕ} → IsTree links order list → (n : ℕ) → 1 ≤ times n list → n < length links
+pub within_links : {links : List Links} {order : Order} {list : List ℕ} → IsOrderTree links order list → (n : ℕ) → 1 ≤ times_in n list → n < length links
 within_links (leaf none) n some = absurd (omega arith)
 within_links {links} {order} (fork {before = before} {after = after} within left right near high) n some =
     somewhere n order.root before after (λ k. k < length links) within (λ h. within_links left n h) (λ h. within_links right n h) some
 
-pub all_within : {links : List Links} {order : Order} {list : List ℕ} → IsTree links order list → All (λ n. n < length links) list
+pub all_within : {links : List Links} {order : Order} {list : List ℕ} → IsOrderTree links order list → All (λ n. n < length links) list
 all_within {links} (leaf none) = All-nil (λ n. n < length links)
 all_within {links} {order} (fork {before = before} {after = after} within left right near high) =
     let P : ℕ → Type 0 = λ n. n < length links in
@@ -95,7 +95,7 @@ pub known_of : (links : List Links) (order : Order) → IsOrder links order → 
 known_of links order is keys long = subst (λ m. All (λ n. n < m) (nodes links order)) long (all_within is.tree)
 
 -- each node once, as std says it
-none_equal : (n : ℕ) (list : List ℕ) → times n list ≡ 0 → AllByRecursion (λ m. eqb n m ≡ false) list
+none_equal : (n : ℕ) (list : List ℕ) → times_in n list ≡ 0 → AllByRecursion (λ m. eqb n m ≡ false) list
 none_equal n [] none = tt
 none_equal n (m ∷ list) none = (go (eqb n m) refl, none_equal n list (omega arith))
   where
@@ -103,17 +103,17 @@ none_equal n (m ∷ list) none = (go (eqb n m) refl, none_equal n list (omega ar
     go false e = e
     go true e = absurd (let same = eqb-true n m e in let here = subst (λ k. one k n ≡ 1) same (one_self n) in omega arith)
 
-distinct : (list : List ℕ) → ((n : ℕ) → times n list ≤ 1) → IsDistinct eqb list
+distinct : (list : List ℕ) → ((n : ℕ) → times_in n list ≤ 1) → IsDistinct eqb list
 unfolding IsDistinct
 distinct [] once = tt
 distinct (m ∷ list) once = (none_equal m list (omega (arith, once m, one_self m)), distinct list (λ n. omega (arith, once n)))
 
-at_head : (n m : ℕ) (list : List ℕ) (b : Bool) → eqb n m ≡ b → (list_any (eqb n) list ≡ true → 1 ≤ times n list) → (b || list_any (eqb n) list) ≡ true →
-    1 ≤ times n (m ∷ list)
+at_head : (n m : ℕ) (list : List ℕ) (b : Bool) → eqb n m ≡ b → (list_any (eqb n) list ≡ true → 1 ≤ times_in n list) → (b || list_any (eqb n) list) ≡ true →
+    1 ≤ times_in n (m ∷ list)
 at_head n m list true e rest any = let same = eqb-true n m e in let here = subst (λ k. one k n ≡ 1) same (one_self n) in omega arith
 at_head n m list false e rest any = omega (arith, rest any)
 
-is_there : (n : ℕ) (list : List ℕ) → list_any (eqb n) list ≡ true → 1 ≤ times n list
+is_there : (n : ℕ) (list : List ℕ) → list_any (eqb n) list ≡ true → 1 ≤ times_in n list
 is_there n [] any = absurd (cc)
 is_there n (m ∷ list) any = at_head n m list (eqb n m) refl (λ h. is_there n list h) any
 

@@ -14,7 +14,8 @@ use Rattle.std.proofs.lemmas.List.Elements.{All-cons, All-weaker}
 use Rattle.std.specs.Prelude.{All}
 use Rattle.cfdp_order.specs.declared.links.Links.{Links}
 use Rattle.cfdp_order.specs.declared.links.Order.{Order}
-use Rattle.cfdp_order.specs.Orders.{nodes, times, AreNear, IsOrder, CanJoin, OthersStay}
+use Rattle.cfdp_order.specs.Orders.{nodes, times_in, AreNear, IsOrder, OtherLinksStay}
+use Rattle.cfdp_order.specs.code.Orders.{CanJoin}
 use Rattle.cfdp_order.proofs.Counts.{one, one_self, times-append, times_middle}
 use Rattle.cfdp_order.proofs.TreeLaws.{Stays, stays_apart, Opened}
 use Rattle.cfdp_order.proofs.HeightLaws.{within_links}
@@ -24,10 +25,10 @@ use Rattle.cfdp_order.proofs.GrowthLaws.{Balanced}
 
 pub record Shrunk (old new : List Links) (order result : Order) : Type 0 where
   pub is : IsOrder new result
-  pub fewer : (n : ℕ) → times n (nodes new result) ≤ times n (nodes old order)
+  pub fewer : (n : ℕ) → times_in n (nodes new result) ≤ times_in n (nodes old order)
   pub least : order.height ≤ result.height + 1
   pub most : result.height ≤ order.height
-  pub others : OthersStay old new (nodes old order)
+  pub others : OtherLinksStay old new (nodes old order)
 
 -- the height of an order, one of whose parts may be lower now
 lower : (order a b less result : ℕ) → order ≡ max a b + 1 → AreNear a b → b ≤ less + 1 → less ≤ b → (AreNear a less → result ≡ max a less + 1) →
@@ -57,10 +58,10 @@ behind Q node root (x ∷ rest) l before after r other e left_is more =
     record { back = rest; after_is = tail; left_is = left_is ∙ (λ i. before ++ head i ∷ rest); all = All_left Q rest root r (subst (All Q) tail more) }
 
 module _ (old : List Links) (order a b : Order) (is : IsOrder old order) (o : Opened old order a b) where
-  counted : (n : ℕ) → times n (nodes old order) ≡ times n (nodes old a) + (one order.root n + times n (nodes old b))
-  counted n = ap (times n) o.listed ∙ times_middle n (nodes old a) order.root (nodes old b)
+  counted : (n : ℕ) → times_in n (nodes old order) ≡ times_in n (nodes old a) + (one order.root n + times_in n (nodes old b))
+  counted n = ap (times_in n) o.listed ∙ times_middle n (nodes old a) order.root (nodes old b)
 
-  all_once : (n : ℕ) → times n (nodes old a) + (one order.root n + times n (nodes old b)) ≤ 1
+  all_once : (n : ℕ) → times_in n (nodes old a) + (one order.root n + times_in n (nodes old b)) ≤ 1
   all_once n = omega (arith, is.once n, counted n)
 
 -- to the right
@@ -68,11 +69,11 @@ module _ {old new : List Links} {order a b less : Order} (is : IsOrder old order
   pub a_stays : Stays old new a
   a_stays = stays_apart old new a (nodes old b) o.is_a shrunk.others (λ n. omega (arith, all_once old order a b is o n))
 
-  pub right_counted : (n : ℕ) → times n (nodes new a ++ order.root ∷ nodes new less) ≤ times n (nodes old order)
+  pub right_counted : (n : ℕ) → times_in n (nodes new a ++ order.root ∷ nodes new less) ≤ times_in n (nodes old order)
   right_counted n = omega (
     arith,
     times_middle n (nodes new a) order.root (nodes new less),
-    ap (times n) a_stays.listed,
+    ap (times_in n) a_stays.listed,
     shrunk.fewer n,
     counted old order a b is o n,
   )
@@ -91,7 +92,7 @@ module _ {old new : List Links} {order a b less : Order} (is : IsOrder old order
       balanced.most in
       record {
         is = balanced.is;
-        fewer = (λ n. subst (λ l. times n l ≤ times n (nodes old order)) (sym balanced.listed) (right_counted n));
+        fewer = (λ n. subst (λ l. times_in n l ≤ times_in n (nodes old order)) (sym balanced.listed) (right_counted n));
         least = heights.0;
         most = heights.1;
         others = others_then shrunk.others balanced.others (λ n none. (
@@ -122,11 +123,11 @@ module _ {old new : List Links} {order a b less : Order} (is : IsOrder old order
   pub b_stays : Stays old new b
   b_stays = stays_apart old new b (nodes old a) o.is_b shrunk.others (λ n. omega (arith, all_once old order a b is o n))
 
-  pub left_counted : (n : ℕ) → times n (nodes new less ++ order.root ∷ nodes new b) ≤ times n (nodes old order)
+  pub left_counted : (n : ℕ) → times_in n (nodes new less ++ order.root ∷ nodes new b) ≤ times_in n (nodes old order)
   left_counted n = omega (
     arith,
     times_middle n (nodes new less) order.root (nodes new b),
-    ap (times n) b_stays.listed,
+    ap (times_in n) b_stays.listed,
     shrunk.fewer n,
     counted old order a b is o n,
   )
@@ -149,7 +150,7 @@ module _ {old new : List Links} {order a b less : Order} (is : IsOrder old order
       (λ near. balanced.near (near.1, near.0) ∙ ap (λ k. k + 1) turned) (omega (arith, balanced.least, turned)) (omega (arith, balanced.most, turned)) in
       record {
         is = balanced.is;
-        fewer = (λ n. subst (λ l. times n l ≤ times n (nodes old order)) (sym balanced.listed) (left_counted n));
+        fewer = (λ n. subst (λ l. times_in n l ≤ times_in n (nodes old order)) (sym balanced.listed) (left_counted n));
         least = heights.0;
         most = heights.1;
         others = others_then shrunk.others balanced.others (λ n none. (omega (arith, none, counted old order a b is o n), omega (arith, none, left_counted n)));
@@ -176,11 +177,11 @@ module _ {old new : List Links} {order a b less : Order} (is : IsOrder old order
       left_listed balanced ∙ (λ i. removed t.back t.left_is t.all i ++ order.root ∷ nodes old b)
       ∙ append_assoc before t.back (order.root ∷ nodes old b) ∙ (λ i. before ++ sym t.after_is i)
 
-pub unique_split : (l : List ℕ) (x : ℕ) (r before after : List ℕ) → l ++ x ∷ r ≡ before ++ x ∷ after → times x (l ++ x ∷ r) ≤ 1 → (l ≡ before) × (r ≡ after)
+pub unique_split : (l : List ℕ) (x : ℕ) (r before after : List ℕ) → l ++ x ∷ r ≡ before ++ x ∷ after → times_in x (l ++ x ∷ r) ≤ 1 → (l ≡ before) × (r ≡ after)
 unique_split [] x r [] after e once = (refl, cc)
 unique_split [] x r (y ∷ before) after e once =
     let tail : r ≡ before ++ x ∷ after = cc in
-    absurd (omega (arith, once, one_self x, ap (times x) tail, times_middle x before x after))
+    absurd (omega (arith, once, one_self x, ap (times_in x) tail, times_middle x before x after))
 unique_split (z ∷ l) x r [] after e once =
     let head : z ≡ x = cc in
     absurd (let here = subst (λ k. one k x ≡ 1) (sym head) (one_self x) in omega (arith, once, here, one_self x, times_middle x l x r))
@@ -192,17 +193,17 @@ unique_split (z ∷ l) x r (y ∷ before) after e once =
 -- an order that loses its first node
 pub taken : {old new : List Links} {order rest : Order} (node : ℕ) → nodes old order ≡ node ∷ nodes new rest → IsOrder new rest → order.height ≤ rest.height
     + 1 → rest.height ≤ order.height
-    → OthersStay old new (nodes old order) → Shrunk old new order rest
-taken node is rest least most others = record { is = rest; fewer = (λ n. omega (arith, ap (times n) is)); least = least; most = most; others = others }
+    → OtherLinksStay old new (nodes old order) → Shrunk old new order rest
+taken node is rest least most others = record { is = rest; fewer = (λ n. omega (arith, ap (times_in n) is)); least = least; most = most; others = others }
 
 -- two orders, the second of which loses its first node
 pub record Front (old new : List Links) (left right : Order) (node : ℕ) (rest : Order) : Type 0 where
   pub is_left : IsOrder old left
   pub is_right : IsOrder old right
-  pub once : (n : ℕ) → times n (nodes old left ++ nodes old right) ≤ 1
+  pub once : (n : ℕ) → times_in n (nodes old left ++ nodes old right) ≤ 1
   pub is_rest : IsOrder new rest
   pub first : nodes old right ≡ node ∷ nodes new rest
-  pub others : OthersStay old new (nodes old right)
+  pub others : OtherLinksStay old new (nodes old right)
 
 module _ {old new : List Links} {left right : Order} {node : ℕ} {rest : Order} (f : Front old new left right node rest) where
   pub left_stays : Stays old new left
@@ -215,14 +216,14 @@ module _ {old new : List Links} {left right : Order} {node : ℕ} {rest : Order}
   merged_can = record {
     before = left_stays.is;
     after = f.is_rest;
-    within = (let here : 1 ≤ times node (nodes old right) = omega (arith, ap (times node) f.first, one_self node) in
+    within = (let here : 1 ≤ times_in node (nodes old right) = omega (arith, ap (times_in node) f.first, one_self node) in
         omega (arith, f.others.long, within_links f.is_right.tree node here));
-    once = (λ n. subst (λ l. times n l ≤ 1) (sym merged_listed) (f.once n));
+    once = (λ n. subst (λ l. times_in n l ≤ 1) (sym merged_listed) (f.once n));
   }
 
-  pub merged_others : {last : List Links} → OthersStay new last (nodes new left ++ node ∷ nodes new rest) →
-      OthersStay old last (nodes old left ++ nodes old right)
+  pub merged_others : {last : List Links} → OtherLinksStay new last (nodes new left ++ node ∷ nodes new rest) →
+      OtherLinksStay old last (nodes old left ++ nodes old right)
   merged_others next = others_then f.others next (λ n none. (
     omega (arith, none, times-append n (nodes old left) (nodes old right)),
-    omega (arith, none, ap (times n) merged_listed),
+    omega (arith, none, ap (times_in n) merged_listed),
   ))

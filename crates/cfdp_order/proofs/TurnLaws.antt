@@ -12,21 +12,22 @@
 use Rattle.std.proofs.Common.{◌≡◌, ℕ, ◌+◌, ◌<◌, ◌≤◌, List, [], ◌∷◌, ◌++◌, length, sym, ap, ◌∙◌, subst, arith, append_assoc}
 use Rattle.cfdp_order.specs.declared.links.Links.{Links}
 use Rattle.cfdp_order.specs.declared.links.Order.{Order}
-use Rattle.cfdp_order.specs.Orders.{links_at, left_of, right_of, nodes, times, IsOrder, CanJoin, OthersStay}
+use Rattle.cfdp_order.specs.Orders.{links_at, left_of, right_of, nodes, times_in, IsOrder, OtherLinksStay}
+use Rattle.cfdp_order.specs.code.Orders.{CanJoin}
 use Rattle.cfdp_order.proofs.Counts.{one, times_middle}
 use Rattle.cfdp_order.proofs.TreeLaws.{Stays, stays_apart, Opened}
 
 pub record Joined (old new : List Links) (left : Order) (node : ℕ) (right result : Order) : Type 0 where
   pub is : IsOrder new result
   pub listed : nodes new result ≡ nodes old left ++ node ∷ nodes old right
-  pub others : OthersStay old new (node ∷ [])
+  pub others : OtherLinksStay old new (node ∷ [])
 
 pub joined_by : {old new : List Links} (left : Order) {node : ℕ} (right : Order) {result : Order} → IsOrder new result
-    → nodes new result ≡ nodes old left ++ node ∷ nodes old right → OthersStay old new (node ∷ []) → Joined old new left node right result
+    → nodes new result ≡ nodes old left ++ node ∷ nodes old right → OtherLinksStay old new (node ∷ []) → Joined old new left node right result
 joined_by left right is listed others = record { is = is; listed = listed; others = others }
 
-pub others_then : {a b c : List Links} {r s t : List ℕ} → OthersStay a b r → OthersStay b c s
-    → ((n : ℕ) → times n t ≡ 0 → (times n r ≡ 0) × (times n s ≡ 0)) → OthersStay a c t
+pub others_then : {a b c : List Links} {r s t : List ℕ} → OtherLinksStay a b r → OtherLinksStay b c s
+    → ((n : ℕ) → times_in n t ≡ 0 → (times_in n r ≡ 0) × (times_in n s ≡ 0)) → OtherLinksStay a c t
 others_then first second both = record { long = second.long ∙ first.long; same = (λ n none. second.same n (both n none).1 ∙ first.same n (both n none).0) }
 
 pub record Three (links : List Links) (a : Order) (p : ℕ) (b : Order) (q : ℕ) (d : Order) (whole : List ℕ) : Type 0 where
@@ -36,17 +37,17 @@ pub record Three (links : List Links) (a : Order) (p : ℕ) (b : Order) (q : ℕ
   pub p_in : p < length links
   pub q_in : q < length links
   pub is_whole : whole ≡ nodes links a ++ p ∷ (nodes links b ++ q ∷ nodes links d)
-  pub once : (n : ℕ) → times n whole ≤ 1
+  pub once : (n : ℕ) → times_in n whole ≤ 1
 
 module _ (links : List Links) (a : Order) (p : ℕ) (b : Order) (q : ℕ) (d : Order) (whole : List ℕ) (t : Three links a p b q d whole) where
-  counted : (n : ℕ) → times n whole ≡ times n (nodes links a) + (one p n + (times n (nodes links b) + (one q n + times n (nodes links d))))
-  counted n = ap (times n) t.is_whole ∙ omega (
+  counted : (n : ℕ) → times_in n whole ≡ times_in n (nodes links a) + (one p n + (times_in n (nodes links b) + (one q n + times_in n (nodes links d))))
+  counted n = ap (times_in n) t.is_whole ∙ omega (
     arith,
     times_middle n (nodes links a) p (nodes links b ++ q ∷ nodes links d),
     times_middle n (nodes links b) q (nodes links d),
   )
 
-  each_once : (n : ℕ) → times n (nodes links a) + (one p n + (times n (nodes links b) + (one q n + times n (nodes links d)))) ≤ 1
+  each_once : (n : ℕ) → times_in n (nodes links a) + (one p n + (times_in n (nodes links b) + (one q n + times_in n (nodes links d)))) ≤ 1
   each_once n = omega (arith, counted n, t.once n)
 
 module _ {links : List Links} {a : Order} {p : ℕ} {b : Order} {q : ℕ} {d : Order} {whole : List ℕ} (t : Three links a p b q d whole) where
@@ -80,10 +81,10 @@ module _ {links then : List Links} {a : Order} {p : ℕ} {b : Order} {q : ℕ} {
     before = then_stays.is;
     after = joined.is;
     within = omega (arith, t.p_in, joined.others.long);
-    once = (λ n. subst (λ l. times n l ≤ 1) (sym then_listed) (t.once n));
+    once = (λ n. subst (λ l. times_in n l ≤ 1) (sym then_listed) (t.once n));
   }
 
-  pub then_others : {last : List Links} → OthersStay then last (p ∷ []) → OthersStay links last whole
+  pub then_others : {last : List Links} → OtherLinksStay then last (p ∷ []) → OtherLinksStay links last whole
   then_others others = let each = counted links a p b q d whole t in others_then joined.others others
       (λ n none. (omega (arith, each n, none), omega (arith, each n, none)))
 
@@ -100,10 +101,10 @@ module _ {links then : List Links} {a : Order} {p : ℕ} {b : Order} {q : ℕ} {
     before = joined.is;
     after = next_stays.is;
     within = omega (arith, t.q_in, joined.others.long);
-    once = (λ n. subst (λ l. times n l ≤ 1) (sym next_listed) (t.once n));
+    once = (λ n. subst (λ l. times_in n l ≤ 1) (sym next_listed) (t.once n));
   }
 
-  pub next_others : {last : List Links} → OthersStay then last (q ∷ []) → OthersStay links last whole
+  pub next_others : {last : List Links} → OtherLinksStay then last (q ∷ []) → OtherLinksStay links last whole
   next_others others = let each = counted links a p b q d whole t in others_then joined.others others
       (λ n none. (omega (arith, each n, none), omega (arith, each n, none)))
 
@@ -116,23 +117,23 @@ pub record Four (links : List Links) (a : Order) (p : ℕ) (b : Order) (q : ℕ)
   pub q_in : q < length links
   pub r_in : r < length links
   pub is_whole : whole ≡ nodes links a ++ p ∷ (nodes links b ++ q ∷ (nodes links d ++ r ∷ nodes links e))
-  pub once : (n : ℕ) → times n whole ≤ 1
+  pub once : (n : ℕ) → times_in n whole ≤ 1
 
 module _ (links : List Links) (a : Order) (p : ℕ) (b : Order) (q : ℕ) (d : Order) (r : ℕ) (e : Order) (whole : List ℕ)
     (f : Four links a p b q d r e whole) where
-  counted4 : (n : ℕ) → times n whole ≡ times n (nodes links a) + (one p n
-      + (times n (nodes links b) + (one q n + (times n (nodes links d) + (one r n + times n (nodes links e))))))
+  counted4 : (n : ℕ) → times_in n whole ≡ times_in n (nodes links a) + (one p n
+      + (times_in n (nodes links b) + (one q n + (times_in n (nodes links d) + (one r n + times_in n (nodes links e))))))
   counted4 n =
       let back = nodes links d ++ r ∷ nodes links e in
-      ap (times n) f.is_whole ∙ omega (
+      ap (times_in n) f.is_whole ∙ omega (
         arith,
         times_middle n (nodes links a) p (nodes links b ++ q ∷ back),
         times_middle n (nodes links b) q back,
         times_middle n (nodes links d) r (nodes links e),
       )
 
-  each_once4 : (n : ℕ) → times n (nodes links a) + (one p n + (times n (nodes links b)
-      + (one q n + (times n (nodes links d) + (one r n + times n (nodes links e)))))) ≤ 1
+  each_once4 : (n : ℕ) → times_in n (nodes links a) + (one p n + (times_in n (nodes links b)
+      + (one q n + (times_in n (nodes links d) + (one r n + times_in n (nodes links e)))))) ≤ 1
   each_once4 n = omega (arith, counted4 n, f.once n)
 
 module _ {links : List Links} {a : Order} {p : ℕ} {b : Order} {q : ℕ} {d : Order} {r : ℕ} {e : Order} {whole : List ℕ}
@@ -161,7 +162,7 @@ module _ {links then : List Links} {a : Order} {p : ℕ} {b : Order} {q : ℕ} {
     before = d_stays.is;
     after = e_stays.is;
     within = omega (arith, f.r_in, first.others.long);
-    once = (λ n. subst (λ l. times n l ≤ 1) (sym right_listed) (omega (
+    once = (λ n. subst (λ l. times_in n l ≤ 1) (sym right_listed) (omega (
       arith,
       each_once4 links a p b q d r e whole f n,
       times_middle n (nodes links d) r (nodes links e),
@@ -173,7 +174,7 @@ module _ {links then next : List Links} {a : Order} {p : ℕ} {b : Order} {q : �
     (first : Joined links then a p b left) (second : Joined then next d r e right) where
   pub left_stays : Stays then next left
   left_stays = stays_apart then next left (r ∷ []) first.is second.others
-      (λ n. subst (λ l. times n l + times n (r ∷ []) ≤ 1) (sym first.listed)
+      (λ n. subst (λ l. times_in n l + times_in n (r ∷ []) ≤ 1) (sym first.listed)
       (omega (arith, each_once4 links a p b q d r e whole f n, times_middle n (nodes links a) p (nodes links b))))
 
   pub four_listed : nodes next left ++ q ∷ nodes next right ≡ whole
@@ -185,13 +186,13 @@ module _ {links then next : List Links} {a : Order} {p : ℕ} {b : Order} {q : �
     before = left_stays.is;
     after = second.is;
     within = omega (arith, f.q_in, first.others.long, second.others.long);
-    once = (λ n. subst (λ l. times n l ≤ 1) (sym four_listed) (f.once n));
+    once = (λ n. subst (λ l. times_in n l ≤ 1) (sym four_listed) (f.once n));
   }
 
-  pub four_others : {last : List Links} → OthersStay next last (q ∷ []) → OthersStay links last whole
+  pub four_others : {last : List Links} → OtherLinksStay next last (q ∷ []) → OtherLinksStay links last whole
   four_others others =
       let each = counted4 links a p b q d r e whole f in
-      let two : OthersStay links next (p ∷ r ∷ []) = others_then first.others second.others (λ n none. (omega (arith, none), omega (arith, none))) in
+      let two : OtherLinksStay links next (p ∷ r ∷ []) = others_then first.others second.others (λ n none. (omega (arith, none), omega (arith, none))) in
       others_then two others (λ n none. (omega (arith, each n, none), omega (arith, each n, none)))
 
 -- the parts of an order in front of a node

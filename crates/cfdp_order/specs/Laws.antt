@@ -12,7 +12,7 @@ use Rattle.std.specs.declared.cmp.Ordering.{Ordering}
 use Rattle.std.specs.declared.cmp.Ordering.TheVariants.{Less, Greater}
 use Rattle.cfdp_order.specs.declared.links.Links.{Links}
 use Rattle.cfdp_order.specs.declared.links.Order.{Order}
-use Rattle.cfdp_order.specs.Orders.{nodes, times, IsOrder, OthersStay, SplitsFrom, SplitsAfter, least_nodes}
+use Rattle.cfdp_order.specs.Orders.{nodes, times_in, IsOrder, OtherLinksStay, SplitsFrom, SplitsAfter, least_nodes}
 
 abbrev pub NoLevels : Type 0
 NoLevels = (links : List Links) (order : Order) → order.height ≡ 0 → IsOrder links order × (nodes links order ≡ [])
@@ -23,17 +23,18 @@ FewLevels = (links : List Links) (order : Order) → IsOrder links order →
 
 abbrev pub NodesWithin : Type 0
 NodesWithin = (links : List Links) (order : Order) → IsOrder links order →
-    ((node : ℕ) → 1 ≤ times node (nodes links order) → node < length links)
+    ((node : ℕ) → 1 ≤ times_in node (nodes links order) → node < length links)
     × (length (nodes links order) ≤ length links)
 
 abbrev pub NodesOnce : Type 0
 NodesOnce = (links : List Links) (order : Order) → IsOrder links order →
     AllPairs (λ m n. m ≢ n) (nodes links order) × ((node : ℕ) → Contains (nodes links order) node
-    ↔ (times node (nodes links order) ≡ 1))
+    ↔ (times_in node (nodes links order) ≡ 1))
 
 abbrev pub OtherOrdersStay : Type 0
-OtherOrdersStay = (old new : List Links) (order : Order) (list : List ℕ) → IsOrder old order → OthersStay old new list
-    → ((node : ℕ) → 1 ≤ times node (nodes old order) → times node list ≡ 0) → IsOrder new order
+OtherOrdersStay = (old new : List Links) (order : Order) (list : List ℕ) → IsOrder old order →
+    OtherLinksStay old new list
+    → ((node : ℕ) → 1 ≤ times_in node (nodes old order) → times_in node list ≡ 0) → IsOrder new order
     × (nodes new order ≡ nodes old order)
 
 abbrev pub SplitsOfSorted : Type 0

@@ -3,12 +3,11 @@
 --     links_at links node            the links of a node
 --     left_of, right_of              the orders to the left and to the right of a node, by its links
 --     AreNear n m                    two heights differ by at most one
---     IsTree links order list        the order is a balanced tree, and these are its nodes from left to right
+--     IsOrderTree links order list   the order is a balanced tree, and these are its nodes from left to right
 --     nodes links order              the nodes of an order, from left to right
---     times node list                how many times a node is in a list
+--     times_in node list             how many times a node is in a list
 --     IsOrder links order            a balanced tree, in which each node is once
---     CanJoin links left node right  two orders, and a node that comes between them
---     OthersStay old new list        the links of nodes that are not in the list stay
+--     OtherLinksStay old new list    the links of nodes that are not in the list stay
 --     SplitsFrom side before after   the nodes that come before the sought one, and the rest
 --     SplitsAfter side before after  the nodes that do not come after the sought one, and the rest
 --     least_nodes height             how many nodes a tree of this height has at least
@@ -33,15 +32,15 @@ right_of around = record { root = around.right; height = around.right_height }
 abbrev pub AreNear : ℕ → ℕ → Type 0
 AreNear n m = (n ≤ m + 1) × (m ≤ n + 1)
 
-pub data IsTree (links : List Links) : Order → List ℕ → Type 0 where
-  leaf : {order : Order} → order.height ≡ 0 → IsTree links order []
+pub data IsOrderTree (links : List Links) : Order → List ℕ → Type 0 where
+  leaf : {order : Order} → order.height ≡ 0 → IsOrderTree links order []
   fork : {order : Order} {before after : List ℕ}
       → order.root < length links
-      → IsTree links (left_of (links_at links order.root)) before
-      → IsTree links (right_of (links_at links order.root)) after
+      → IsOrderTree links (left_of (links_at links order.root)) before
+      → IsOrderTree links (right_of (links_at links order.root)) after
       → AreNear (links_at links order.root).left_height (links_at links order.root).right_height
       → order.height ≡ max (links_at links order.root).left_height (links_at links order.root).right_height + 1
-      → IsTree links order (before ++ order.root ∷ after)
+      → IsOrderTree links order (before ++ order.root ∷ after)
 
 -- as far down as n levels
 abbrev pub nodes_within : List Links → ℕ → Order → List ℕ
@@ -53,23 +52,17 @@ nodes_within links (suc n) order = cond (order.height == 0) [] (
 unfoldable pub nodes : List Links → Order → List ℕ
 nodes links order = nodes_within links order.height order
 
-abbrev pub times : ℕ → List ℕ → ℕ
-times node [] = 0
-times node (other ∷ rest) = cond (other == node) 1 0 + times node rest
+abbrev pub times_in : ℕ → List ℕ → ℕ
+times_in node [] = 0
+times_in node (other ∷ rest) = cond (other == node) 1 0 + times_in node rest
 
 pub record IsOrder (links : List Links) (order : Order) : Type 0 where
-  pub tree : IsTree links order (nodes links order)
-  pub once : (node : ℕ) → times node (nodes links order) ≤ 1
+  pub tree : IsOrderTree links order (nodes links order)
+  pub once : (node : ℕ) → times_in node (nodes links order) ≤ 1
 
-pub record CanJoin (links : List Links) (left : Order) (node : ℕ) (right : Order) : Type 0 where
-  pub before : IsOrder links left
-  pub after : IsOrder links right
-  pub within : node < length links
-  pub once : (other : ℕ) → times other (nodes links left ++ node ∷ nodes links right) ≤ 1
-
-pub record OthersStay (old new : List Links) (list : List ℕ) : Type 0 where
+pub record OtherLinksStay (old new : List Links) (list : List ℕ) : Type 0 where
   pub long : length new ≡ length old
-  pub same : (other : ℕ) → times other list ≡ 0 → links_at new other ≡ links_at old other
+  pub same : (other : ℕ) → times_in other list ≡ 0 → links_at new other ≡ links_at old other
 
 pub record SplitsFrom (side : ℕ → Ordering) (before after : List ℕ) : Type 0 where
   pub less : All (λ node. side node ≡ Less) before

@@ -1,6 +1,7 @@
 //! Joins two orders and a node between them, and balances the tree.
 ghost use Rattle.std.specs.Prelude.{◌≡◌, ◌+◌, ◌<◌, ◌≤◌, max, [], ◌∷◌, ◌++◌, length};
-ghost use Rattle.cfdp_order.specs.Orders.{links_at, nodes, AreNear, IsOrder, CanJoin, OthersStay};
+ghost use Rattle.cfdp_order.specs.Orders.{links_at, nodes, AreNear, IsOrder, OtherLinksStay};
+ghost use Rattle.cfdp_order.specs.code.Orders.{CanJoin};
 
 use crate::links::{Links, Order};
 
@@ -12,7 +13,7 @@ pub(crate) fn join(links: &mut [Links], left: Order, node: u16, right: Order) ->
     ensures order { IsOrder links.new result }
     ensures nodes { nodes links.new result ≡ nodes links.old left ++ node ∷ nodes links.old right }
     ensures height { result.height ≡ max left.height right.height + 1 }
-    ensures others { OthersStay links.old links.new (node ∷ []) }
+    ensures others { OtherLinksStay links.old links.new (node ∷ []) }
 {
     links[usize::from(node)] = Links::to(left, right);
     Order {
@@ -32,7 +33,7 @@ pub(crate) fn balance(links: &mut [Links], left: Order, node: u16, right: Order)
     ensures near { AreNear left.height right.height → result.height ≡ max left.height right.height + 1 }
     ensures least { max left.height right.height ≤ result.height }
     ensures most { result.height ≤ max left.height right.height + 1 }
-    ensures others { OthersStay links.old links.new (nodes links.old left ++ node ∷ nodes links.old right) }
+    ensures others { OtherLinksStay links.old links.new (nodes links.old left ++ node ∷ nodes links.old right) }
 {
     if right.height + 1 < left.height {
         turn_right(links, left, node, right)
@@ -53,7 +54,7 @@ fn turn_right(links: &mut [Links], left: Order, node: u16, right: Order) -> Orde
     ensures nodes { nodes links.new result ≡ nodes links.old left ++ node ∷ nodes links.old right }
     ensures least { left.height ≤ result.height }
     ensures most { result.height ≤ left.height + 1 }
-    ensures others { OthersStay links.old links.new (nodes links.old left ++ node ∷ nodes links.old right) }
+    ensures others { OtherLinksStay links.old links.new (nodes links.old left ++ node ∷ nodes links.old right) }
 {
     let top = links[usize::from(left.root)];
     if top.left_height < top.right_height {
@@ -72,7 +73,7 @@ fn turn_right_twice(links: &mut [Links], left: Order, node: u16, right: Order) -
     ensures order { IsOrder links.new result }
     ensures nodes { nodes links.new result ≡ nodes links.old left ++ node ∷ nodes links.old right }
     ensures height { result.height ≡ left.height }
-    ensures others { OthersStay links.old links.new (nodes links.old left ++ node ∷ nodes links.old right) }
+    ensures others { OtherLinksStay links.old links.new (nodes links.old left ++ node ∷ nodes links.old right) }
 {
     let top = links[usize::from(left.root)];
     let middle = links[usize::from(top.right)];
@@ -91,7 +92,7 @@ fn turn_left(links: &mut [Links], left: Order, node: u16, right: Order) -> Order
     ensures nodes { nodes links.new result ≡ nodes links.old left ++ node ∷ nodes links.old right }
     ensures least { right.height ≤ result.height }
     ensures most { result.height ≤ right.height + 1 }
-    ensures others { OthersStay links.old links.new (nodes links.old left ++ node ∷ nodes links.old right) }
+    ensures others { OtherLinksStay links.old links.new (nodes links.old left ++ node ∷ nodes links.old right) }
 {
     let top = links[usize::from(right.root)];
     if top.right_height < top.left_height {
@@ -110,7 +111,7 @@ fn turn_left_twice(links: &mut [Links], left: Order, node: u16, right: Order) ->
     ensures order { IsOrder links.new result }
     ensures nodes { nodes links.new result ≡ nodes links.old left ++ node ∷ nodes links.old right }
     ensures height { result.height ≡ right.height }
-    ensures others { OthersStay links.old links.new (nodes links.old left ++ node ∷ nodes links.old right) }
+    ensures others { OtherLinksStay links.old links.new (nodes links.old left ++ node ∷ nodes links.old right) }
 {
     let top = links[usize::from(right.root)];
     let middle = links[usize::from(top.left)];

@@ -1,6 +1,6 @@
 //! Inserts a node.
 ghost use Rattle.std.specs.Prelude.{◌≡◌, ℕ, ◌+◌, ◌<◌, ◌≤◌, List, ◌∷◌, ◌++◌, length, All};
-ghost use Rattle.cfdp_order.specs.Orders.{nodes, times, IsOrder, OthersStay, SplitsFrom};
+ghost use Rattle.cfdp_order.specs.Orders.{nodes, times_in, IsOrder, OtherLinksStay, SplitsFrom};
 
 use crate::balancing::{balance, join};
 use crate::links::{Links, Order};
@@ -15,16 +15,17 @@ use std::cmp::Ordering;
 pub fn insert<S: Sought>(links: &mut [Links], order: Order, node: u16, sought: &S) -> Order
     requires order { IsOrder links.old order }
     requires within { node < length links.old }
-    requires fresh { times node (nodes links.old order) ≡ 0 }
+    requires fresh { times_in node (nodes links.old order) ≡ 0 }
     requires small { length links.old ≤ 65536 }
     requires known { All (S.can_compare sought.now) (nodes links.old order) }
     ensures order { IsOrder links.new result }
     ensures inserted { (before after : List ℕ) → nodes links.old order ≡ before ++ after
         → SplitsFrom (S.side sought.now) before after → nodes links.new result ≡ before ++ node ∷ after }
-    ensures one_more { (other : ℕ) → times other (nodes links.new result) ≡ times other (node ∷ nodes links.old order) }
+    ensures one_more { (other : ℕ) → times_in other (nodes links.new result) ≡ times_in other
+        (node ∷ nodes links.old order) }
     ensures least { order.height ≤ result.height }
     ensures most { result.height ≤ order.height + 1 }
-    ensures others { OthersStay links.old links.new (node ∷ nodes links.old order) }
+    ensures others { OtherLinksStay links.old links.new (node ∷ nodes links.old order) }
 {
     if order.is_empty() {
         return join(links, Order::empty(), node, Order::empty());

@@ -1,6 +1,6 @@
 //! Removes a node.
 ghost use Rattle.std.specs.Prelude.{◌≡◌, ℕ, ◌+◌, ◌<◌, ◌≤◌, max, List, ◌∷◌, ◌++◌, length, All};
-ghost use Rattle.cfdp_order.specs.Orders.{nodes, times, AreNear, IsOrder, OthersStay, SplitsFrom};
+ghost use Rattle.cfdp_order.specs.Orders.{nodes, times_in, AreNear, IsOrder, OtherLinksStay, SplitsFrom};
 
 use crate::balancing::balance;
 use crate::links::{Links, Order};
@@ -26,11 +26,11 @@ pub fn remove<S: Sought>(links: &mut [Links], order: Order, node: u16, sought: &
     ensures order { IsOrder links.new result }
     ensures removed { (before after : List ℕ) → nodes links.old order ≡ before ++ node ∷ after
         → SplitsFrom (S.side sought.now) before after → nodes links.new result ≡ before ++ after }
-    ensures absent { times node (nodes links.old order) ≡ 0 → nodes links.new result ≡ nodes links.old order }
-    ensures fewer { (other : ℕ) → times other (nodes links.new result) ≤ times other (nodes links.old order) }
+    ensures absent { times_in node (nodes links.old order) ≡ 0 → nodes links.new result ≡ nodes links.old order }
+    ensures fewer { (other : ℕ) → times_in other (nodes links.new result) ≤ times_in other (nodes links.old order) }
     ensures least { order.height ≤ result.height + 1 }
     ensures most { result.height ≤ order.height }
-    ensures others { OthersStay links.old links.new (nodes links.old order) }
+    ensures others { OtherLinksStay links.old links.new (nodes links.old order) }
 {
     if order.is_empty() {
         return order;
@@ -55,14 +55,14 @@ pub fn remove<S: Sought>(links: &mut [Links], order: Order, node: u16, sought: &
 fn merge(links: &mut [Links], left: Order, right: Order) -> Order
     requires left { IsOrder links.old left }
     requires right { IsOrder links.old right }
-    requires once { (other : ℕ) → times other (nodes links.old left ++ nodes links.old right) ≤ 1 }
+    requires once { (other : ℕ) → times_in other (nodes links.old left ++ nodes links.old right) ≤ 1 }
     requires near { AreNear left.height right.height }
     requires small { length links.old ≤ 65536 }
     ensures order { IsOrder links.new result }
     ensures nodes { nodes links.new result ≡ nodes links.old left ++ nodes links.old right }
     ensures least { max left.height right.height ≤ result.height }
     ensures most { result.height ≤ max left.height right.height + 1 }
-    ensures others { OthersStay links.old links.new (nodes links.old left ++ nodes links.old right) }
+    ensures others { OtherLinksStay links.old links.new (nodes links.old left ++ nodes links.old right) }
 {
     if right.is_empty() {
         return left;
@@ -81,7 +81,7 @@ fn take_first(links: &mut [Links], order: Order) -> Front
     ensures nodes { nodes links.old order ≡ result.node ∷ nodes links.new result.rest }
     ensures least { order.height ≤ result.rest.height + 1 }
     ensures most { result.rest.height ≤ order.height }
-    ensures others { OthersStay links.old links.new (nodes links.old order) }
+    ensures others { OtherLinksStay links.old links.new (nodes links.old order) }
 {
     let around = links[usize::from(order.root)];
     if around.left().is_empty() {

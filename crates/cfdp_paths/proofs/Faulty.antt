@@ -11,7 +11,7 @@ use Rattle.std.proofs.lemmas.List.Splits.{length-slice_split}
 use Rattle.cfdp_paths.specs.declared.fault.PathFault.{PathFault}
 use Rattle.cfdp_paths.specs.declared.fault.PathFault.TheVariants.{Empty, EmptyName, BadName, NameTooLong, TooDeep}
 use Rattle.cfdp_paths.specs.Paths.{Name, Path, IsName, IsPath, same_name, slash, dot, Spells, is_slash, without_slash, names_in, is_path, path_of}
-use Rattle.cfdp_paths.specs.Faults.{fault_of_name, or_else, first_fault, fault_of}
+use Rattle.cfdp_paths.specs.Faults.{fault_of_name, or_fault, first_fault, fault_of}
 use Rattle.cfdp_paths.proofs.Comparing.{same_name-Decides}
 use Rattle.cfdp_paths.proofs.Spelling.{LacksSlash, names_in-spelled, spells_names_in, is_path-Decides, path_of_spelled}
 
@@ -85,7 +85,7 @@ no_fault_of_name n w =
 
 -- ---- lists of names
 
-or_else_none : (first later : Option PathFault) → or_else first later ≡ None → (first ≡ None) × (later ≡ None)
+or_else_none : (first later : Option PathFault) → or_fault first later ≡ None → (first ≡ None) × (later ≡ None)
 or_else_none None later e = (refl, e)
 or_else_none (Some fault) later e = absurd (none-some fault (sym e))
 

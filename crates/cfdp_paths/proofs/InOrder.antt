@@ -22,7 +22,8 @@ use Rattle.std.proofs.lemmas.List.{get_or_default}
 use Rattle.std.proofs.Math.Dec.{T}
 use Rattle.std.specs.List.{insert, remove}
 use Rattle.cfdp_paths.specs.Paths.{Path, path_cmp}
-use Rattle.cfdp_paths.specs.PathMaps.{rank, without, IsPlaceOf}
+use Rattle.cfdp_paths.specs.PathMaps.{without}
+use Rattle.cfdp_paths.specs.code.PathMaps.{rank, IsPlaceOf}
 use Rattle.cfdp_paths.proofs.Comparing.{path_cmp-total}
 
 pub path_antisym : IsAntisymmetric path_cmp

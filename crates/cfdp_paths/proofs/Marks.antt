@@ -15,7 +15,7 @@ use Rattle.std.proofs.lemmas.List.Sums.{count_by_more_yes, sum_by-take-drop}
 use Rattle.std.proofs.lemmas.Nat.{pow_pos}
 use Rattle.std.proofs.lemmas.Simd.{length-chunk, get_or-chunk, bitmask_splat, trailing_mask_l, none_from_empty_mask, run_in_chunk_fails, run_in_chunk_stops}
 use Rattle.memchr.specs.Find.{Nowhere, NoneBefore, NoneAfter, IsLastByte, Passes}
-use Rattle.cfdp_paths.specs.Marks.{marks_of}
+use Rattle.cfdp_paths.specs.code.Marks.{marks_of}
 use Rattle.cfdp_paths.specs.Paths.{is_separator}
 
 pub marks_are : (octets : List ℕ) (i n : ℕ) → i + n ≤ length octets → n ≤ 64

@@ -21,7 +21,8 @@ use Rattle.std.proofs.Math.ListN.{drop_of_length-le}
 use Rattle.std.proofs.lemmas.Bool.{and_parts, or_parts, ltb-false, true≢false}
 use Rattle.std.proofs.lemmas.List.{append-nil, get_or_default, take-append-drop, take_all, take_at, drop_at, drop-take, take-take, drop-drop}
 use Rattle.cfdp_paths.specs.Paths.{Path, path_cmp, is_at_or_below, rebased}
-use Rattle.cfdp_paths.specs.PathMaps.{IsPieceOf, rank, spread, tree_in, rest_in, puts, moved_to, with_paths, is_too_deep}
+use Rattle.cfdp_paths.specs.PathMaps.{tree_in, rest_in, puts, moved_to, is_too_deep}
+use Rattle.cfdp_paths.specs.code.PathMaps.{IsPieceOf, rank, spread, with_paths}
 use Rattle.cfdp_paths.proofs.Comparing.{path_cmp-total}
 use Rattle.cfdp_paths.proofs.Below.{append_from_at_or_below, at_or_below-append}
 use Rattle.cfdp_paths.proofs.InOrder.{path_antisym, less_by, less_back, greater_back, put-less, put-greater, below_before, ordered-put, ordered-where}

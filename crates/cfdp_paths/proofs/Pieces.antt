@@ -17,7 +17,8 @@ use Rattle.std.specs.declared.cmp.Ordering.TheVariants.{Less, Equal, Greater}
 use Rattle.std.proofs.lemmas.Bool.{and_parts, true≢false}
 use Rattle.std.proofs.lemmas.Slice.{between_to_end}
 use Rattle.cfdp_paths.specs.Paths.{Name, Path, path_cmp, same_name, same_path, is_at_or_below}
-use Rattle.cfdp_paths.specs.PathMaps.{IsPieceOf, rank, spread, tree_in, rest_in, any_below}
+use Rattle.cfdp_paths.specs.PathMaps.{tree_in, rest_in, any_below}
+use Rattle.cfdp_paths.specs.code.PathMaps.{IsPieceOf, rank, spread}
 use Rattle.cfdp_paths.proofs.Comparing.{path_cmp-total, same_name-Decides}
 use Rattle.cfdp_paths.proofs.InOrder.{less_by, less_back, below_at, prefix_len_of_point}
 

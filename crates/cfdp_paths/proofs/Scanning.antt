@@ -11,7 +11,7 @@ use Rattle.std.proofs.lemmas.List.Folds.{list_any-append}
 use Rattle.std.proofs.lemmas.List.Splits.{length-slice_split, slice_split-cons_yes, slice_split-cons_no}
 use Rattle.cfdp_paths.specs.declared.fault.PathFault.{PathFault}
 use Rattle.cfdp_paths.specs.declared.fault.PathFault.TheVariants.{Empty, TooDeep}
-use Rattle.cfdp_paths.specs.Faults.{fault_of_name, or_else, first_fault, fault_of}
+use Rattle.cfdp_paths.specs.Faults.{fault_of_name, or_fault, first_fault, fault_of}
 use Rattle.cfdp_paths.specs.Paths.{Name, is_slash, without_slash, names_in}
 
 pub or_true : (a : Bool) → (a || true) ≡ true
@@ -70,7 +70,7 @@ ends_faulty zero count cur rest fault all is few same e =
     sym same ∙ sym (e ∙ ap (λ b. cond b (Some TooDeep) (fault_of_name cur)) (eq-eqb count 8 (omega (arith, is, few))))
 ends_faulty (suc room) count cur rest fault all is few same e =
     let this = e ∙ ap (λ b. cond b (Some TooDeep) (fault_of_name cur)) (ne_eqb count 8 (λ at. omega (arith, is, at))) in
-    sym same ∙ ap (λ o. or_else o (first_fault room rest)) (sym this)
+    sym same ∙ ap (λ o. or_fault o (first_fault room rest)) (sym this)
 
 ends_well : (room count : ℕ) (cur : List ℕ) (rest : List Name) (all : Option PathFault) → room ≡ 8 - count → count ≤ 8 → first_fault room (cur ∷ rest) ≡ all
     → None ≡ cond (count == 8) (Some TooDeep) (fault_of_name cur) → (count < 8) × (first_fault (8 - (count + 1)) rest ≡ all)
@@ -79,7 +79,7 @@ ends_well zero count cur rest all is few same e =
 ends_well (suc room) count cur rest all is few same e =
     let this = e ∙ ap (λ b. cond b (Some TooDeep) (fault_of_name cur)) (ne_eqb count 8 (λ at. omega (arith, is, at))) in
     let left : 8 - (count + 1) ≡ room = omega (arith, is) in
-    (omega (arith, is), ap (λ r. first_fault r rest) left ∙ ap (λ o. or_else o (first_fault room rest)) this ∙ same)
+    (omega (arith, is), ap (λ r. first_fault r rest) left ∙ ap (λ o. or_fault o (first_fault room rest)) this ∙ same)
 
 module _ (octets names : List ℕ) (count start index : ℕ) (holds_zero : Bool) (h : Scan octets names count start index holds_zero) where
   -- an octet of the name more

@@ -18,15 +18,15 @@ fault_of_name name =
     else None
 
 -- `a` where there is one, and `b` otherwise
-abbrev pub or_else : Option PathFault → Option PathFault → Option PathFault
-or_else None later = later
-or_else (Some fault) later = Some fault
+abbrev pub or_fault : Option PathFault → Option PathFault → Option PathFault
+or_fault None later = later
+or_fault (Some fault) later = Some fault
 
 -- the leftmost fault, where at most `room` names may come: one more is not looked at
 abbrev pub first_fault : ℕ → List Name → Option PathFault
 first_fault room [] = None
 first_fault zero (name ∷ names) = Some TooDeep
-first_fault (suc room) (name ∷ names) = or_else (fault_of_name name) (first_fault room names)
+first_fault (suc room) (name ∷ names) = or_fault (fault_of_name name) (first_fault room names)
 
 -- the fault of the octets, if they have one
 abbrev pub fault_of : List ℕ → Option PathFault

@@ -4,4 +4,4 @@ pub mod Hashes
 pub mod Laws
 pub mod Words
 pub mod PathMaps
-pub mod Marks
+pub mod code

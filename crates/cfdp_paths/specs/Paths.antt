@@ -2,7 +2,6 @@
 -- (CCSDS 727.0-B-5 §5.4, filestore procedures) and leaves their form to the filestore: this is the form here.
 --     Name, Path                          a list of octets, a list of names
 --     names_of octets                     the names that a buffer holds, with the octet 0 between them
---     path_in buffer                      the path that a buffer holds, and the root for no buffer
 --     IsName, IsPath, is_name, is_path    within the limits, as a fact and as a test
 --     path_cmp, same_name, same_path      the order by names, names by octets;
 --                                         whether two names, or two paths, are one
@@ -32,11 +31,6 @@ is_separator octet = octet == 0
 -- the names that a buffer holds
 abbrev pub names_of : List ℕ → Path
 names_of octets = slice_split is_separator octets
-
--- a path that is looked up: no buffer means the root
-abbrev pub path_in : Option (List ℕ) → Path
-path_in None = []
-path_in (Some octets) = names_of octets
 
 -- the octets `/` and `.`
 abbrev pub slash : ℕ

@@ -1,7 +1,7 @@
 //! Why octets spell no path.
 
 ghost use Rattle.std.specs.Prelude.{◌≡◌, Some};
-ghost use Rattle.cfdp_paths.specs.Words.{words_of};
+ghost use Rattle.cfdp_paths.specs.Words.{path_fault_text};
 ghost use Rattle.cfdp_paths.specs.declared.fault.PathFault.TheVariants.{Memory};
 
 use std::alloc::AllocError;
@@ -28,7 +28,7 @@ pub enum PathFault {
 impl PathFault {
     /// The fault in words.
     fn words(self) -> &'static str
-        ensures { result.now ≡ words_of self }
+        ensures { result.now ≡ path_fault_text self }
     {
         match self {
             PathFault::Empty => "the path has no name",
@@ -42,7 +42,7 @@ impl PathFault {
 }
 
 impl fmt::Display for PathFault {
-    ghost output = { λ fault. Some (words_of fault) };
+    ghost output = { λ fault. Some (path_fault_text fault) };
 
     fn fmt<W: fmt::Write>(&self, f: &mut fmt::Formatter<W>) -> fmt::Result {
         f.write_str(self.words())

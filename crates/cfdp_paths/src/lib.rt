@@ -20,13 +20,7 @@ mod tests;
 pub use fault::PathFault;
 pub use names::Names;
 pub use path_map::PathMap;
-pub use paths::Path;
+pub use paths::{LONGEST_NAME, MOST_NAMES, Path};
 
 /// Out of memory: the one refusal of a call that only allocates.
 pub type Memory = std::alloc::AllocError;
-
-/// The greatest number of names of a path.
-pub const MOST_NAMES: usize = 8;
-
-/// The greatest number of octets of a name.
-pub const LONGEST_NAME: usize = 96;

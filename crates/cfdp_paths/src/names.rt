@@ -25,7 +25,8 @@ pub struct Names<'a> {
 
 impl<'a> Model for Names<'a> {
     ghost use Rattle.std.specs.Option.{option_copied};
-    ghost use Rattle.cfdp_paths.specs.Paths.{Path, path_in};
+    ghost use Rattle.cfdp_paths.specs.Paths.{Path};
+    ghost use Rattle.cfdp_paths.specs.code.Paths.{path_in};
 
     ghost Value = { Path };
 

@@ -53,7 +53,7 @@ pub(crate) fn count_names(octets: &[u8]) -> Result<usize, PathFault>
 /// What is wrong with the name that comes after `count` others, if anything.
 fn fault_at(count: usize, name: &[u8], holds_zero: bool) -> Option<PathFault>
     requires { holds_zero ≡ list_any (λ octet. octet == 0) name.now }
-    ensures { result ≡ if count == 8 then Some PathFault.TooDeep else fault_of_name name.now }
+    ensures { result ≡ if count == MOST_NAMES then Some PathFault.TooDeep else fault_of_name name.now }
 {
     if count == MOST_NAMES {
         Some(PathFault::TooDeep)

@@ -4,8 +4,10 @@ ghost use Rattle.std.specs.Prelude.{◌≡◌, ◌+◌, ◌<◌, ◌≤◌, vec_
 ghost use Rattle.std.specs.Option.{option_copied};
 ghost use Rattle.std.specs.FinMap.{find, put};
 ghost use Rattle.std.specs.List.{list_any};
-ghost use Rattle.cfdp_paths.specs.Paths.{path_cmp, path_in, same_path, is_at_or_below};
-ghost use Rattle.cfdp_paths.specs.PathMaps.{IsOrdered, IsPlaceOf, IsPieceOf, rank, without, tree_in, rest_in, any_below, puts, moved_to, is_too_deep};
+ghost use Rattle.cfdp_paths.specs.Paths.{path_cmp, same_path, is_at_or_below};
+ghost use Rattle.cfdp_paths.specs.code.Paths.{path_in};
+ghost use Rattle.cfdp_paths.specs.PathMaps.{IsOrdered, without, tree_in, rest_in, any_below, puts, moved_to, is_too_deep};
+ghost use Rattle.cfdp_paths.specs.code.PathMaps.{IsPlaceOf, IsPieceOf, rank};
 
 use crate::relocating::relocate;
 use crate::{Memory, Path};

@@ -8,7 +8,8 @@ ghost use Rattle.std.specs.Ordering.{as_partial_cmp};
 ghost use Rattle.std.specs.Prelude.{◌≡◌, ◌≢◌, ◌+◌, ◌≤◌, ◌↔◌, ◌⊎◌, List, [], length, nat_le, slice_index_or, take, IsTrue, IsOk, IfOk, IfErr, MatchResult};
 ghost use Rattle.cfdp_paths.specs.Faults.{fault_of};
 ghost use Rattle.cfdp_paths.specs.Hashes.{hash_of};
-ghost use Rattle.cfdp_paths.specs.Paths.{Name, IsPath, Spells, ancestors, is_at_or_below, is_below, joined, names_of, parent, path_cmp, path_in, path_of, rebased, same_path, unless_root};
+ghost use Rattle.cfdp_paths.specs.Paths.{Name, IsPath, Spells, ancestors, is_at_or_below, is_below, joined, names_of, parent, path_cmp, path_of, rebased, same_path, unless_root};
+ghost use Rattle.cfdp_paths.specs.code.Paths.{path_in};
 
 use crate::Memory;
 use crate::buffers::{
@@ -23,6 +24,12 @@ use std::cmp::Ordering;
 use std::fmt;
 use std::hash::{FoldHasher, Hasher};
 use std::marker::Model;
+
+/// The greatest number of names of a path.
+pub const MOST_NAMES: usize = 8;
+
+/// The greatest number of octets of a name.
+pub const LONGEST_NAME: usize = 96;
 
 /// A path of the filestore: 1 to 8 names of 1 to 96 octets, none of which holds `/` or the octet 0, or is `.` or `..`.
 ///
@@ -302,7 +309,7 @@ impl Path {
     /// [`Memory`] where there was none for the path: one allocation of its length. Cost: one copy of its octets.
     pub fn rebased(&self, alloc: Global, from: &Path, to: &Path) -> Result<Path, Memory>
         requires below { IsTrue (is_at_or_below self.now from.now) }
-        requires room { length self.now + length to.now ≤ 8 + length from.now }
+        requires room { length self.now + length to.now ≤ MOST_NAMES + length from.now }
         ensures { IfOk result (λ path. path ≡ rebased from.now to.now self.now) }
     {
         let (_, rest) = self.octets.split_at(from.octets.len());
@@ -340,7 +347,7 @@ impl Path {
     /// of its octets at most.
     pub(crate) fn rebase(&mut self, from: &Path, to: &Path)
         requires below { IsTrue (is_at_or_below self.old from.now) }
-        requires room { length self.old + length to.now ≤ 8 + length from.now }
+        requires room { length self.old + length to.now ≤ MOST_NAMES + length from.now }
         requires short { length (joined to.now) ≤ length (joined from.now) }
         ensures { self.new ≡ rebased from.now to.now self.old }
     {

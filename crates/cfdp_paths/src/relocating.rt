@@ -3,7 +3,8 @@
 ghost use Rattle.std.specs.Prelude.{◌≡◌, ◌+◌, ◌≤◌, false, IsTrue, IfOk, OnOk, OnErr, [], ◌++◌, length, take, drop, map, vec_len, vec_capacity};
 ghost use Rattle.std.specs.List.{list_all, between};
 ghost use Rattle.cfdp_paths.specs.Paths.{is_at_or_below, joined, rebased};
-ghost use Rattle.cfdp_paths.specs.PathMaps.{IsOrdered, IsPieceOf, tree_in, rest_in, puts, moved_to, with_paths, is_too_deep};
+ghost use Rattle.cfdp_paths.specs.PathMaps.{IsOrdered, tree_in, rest_in, puts, moved_to, is_too_deep};
+ghost use Rattle.cfdp_paths.specs.code.PathMaps.{IsPieceOf, with_paths};
 
 use crate::path_map::{piece, put_reserved};
 use crate::{Memory, Path};
@@ -33,7 +34,7 @@ pub(crate) fn relocate<T: Drop>(
     let paths = new_paths(alloc, &entries[start..end], from, to)?;
     let moved = Vec::with_capacity(alloc, paths.len())?;
     let taken = detach(entries, start, end)?;
-    settle(entries, to, renamed(taken, paths, moved));
+    place_moved(entries, to, renamed(taken, paths, moved));
     Ok(())
 }
 
@@ -117,7 +118,7 @@ fn relocate_in_memory<T: Drop>(
 {
     let mut moved = detach(entries, start, end)?;
     rebase_all(&mut moved, from, to);
-    settle(entries, to, moved);
+    place_moved(entries, to, moved);
     Ok(())
 }
 
@@ -197,7 +198,7 @@ fn renamed<T: Drop>(
 }
 
 /// Puts entries at and below a path, which are in path order, each at its index. There is room for them.
-fn settle<T: Drop>(entries: &mut Vec<(Path, T)>, to: &Path, mut moved: Vec<(Path, T)>)
+fn place_moved<T: Drop>(entries: &mut Vec<(Path, T)>, to: &Path, mut moved: Vec<(Path, T)>)
     requires ordered { IsOrdered entries.old.items }
     requires in_order { IsOrdered moved.items }
     requires below { IsTrue (list_all (λ e. is_at_or_below e.0 to.now) moved.items) }

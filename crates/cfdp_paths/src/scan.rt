@@ -2,7 +2,7 @@
 
 ghost use Rattle.std.specs.Prelude.{◌≡◌, ◌+◌, ◌≤◌, ◌<◌, length};
 ghost use Rattle.memchr.specs.Find.{IsFirst, IsFirstByte, IsLast, IsLastByte, Passes};
-ghost use Rattle.cfdp_paths.specs.Marks.{marks_of};
+ghost use Rattle.cfdp_paths.specs.code.Marks.{marks_of};
 ghost use Rattle.cfdp_paths.specs.Paths.{is_separator};
 
 use crate::buffers::SEPARATOR;

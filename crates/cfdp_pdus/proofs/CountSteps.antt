@@ -4,7 +4,7 @@ use Rattle.std.proofs.lemmas.List.{length-append, append-nil}
 use Rattle.std.specs.Prelude.{IsOk}
 use Rattle.cfdp_tlv.specs.Reading.{◌>>=◌}
 use Rattle.cfdp_pdus.specs.declared.fault.PduFault.{PduFault}
-use Rattle.cfdp_pdus.specs.Counting.{count_of}
+use Rattle.cfdp_pdus.specs.code.Counting.{count_read}
 
 -- this many before, and those that are still read
 abbrev pub counted : {A : Type 0} → ℕ → Result (List A) PduFault → Result ℕ PduFault
@@ -39,14 +39,14 @@ pub join_next : {A : Type 0} (front : List A) (x : A) (read after total : Result
 join_next front x read after total step so_far = sym (join_one front x after) ∙ sym (ap (joined front) step) ∙ so_far
 
 -- where all were counted, the rest is read, and an item of it is one more than those before
-pub rest_is_ok : {A : Type 0} (count : ℕ) (front : List A) (read total : Result (List A) PduFault) → joined front read ≡ total → count_of total ≡ Ok count →
+pub rest_is_ok : {A : Type 0} (count : ℕ) (front : List A) (read total : Result (List A) PduFault) → joined front read ≡ total → count_read total ≡ Ok count →
     IsOk read
 rest_is_ok count front (Ok items) total so_far all = refl
 rest_is_ok count front (Err fault) (Ok items) so_far all = absurd cc
 rest_is_ok count front (Err fault) (Err other) so_far all = absurd cc
 
 pub has_room : {A : Type 0} (count : ℕ) (front : List A) (x : A) (read total : Result (List A) PduFault) → joined (front ++ x ∷ []) read ≡ total →
-    count_of total ≡ Ok count → length front < count
+    count_read total ≡ Ok count → length front < count
 has_room count front x (Ok items) (Ok all) so_far counted_all =
     let whole : all ≡ (front ++ x ∷ []) ++ items = cc in
     let number : length all ≡ count = cc in

@@ -11,7 +11,7 @@ use Rattle.cfdp_pdus.specs.Bits.{flag, fss}
 use Rattle.cfdp_tlv.specs.Reading.{◌>>=◌}
 use Rattle.cfdp_pdus.specs.Reading.{mend}
 use Rattle.cfdp_pdus.specs.Grammar.{Field, field_octets, SpellsMetadata, IsSegment, SpellsFileData, SpellsEof, SpellsFinished}
-use Rattle.cfdp_pdus.specs.First.{number_at, name_at, requests_of, outcome_of, all_whole, fields_at, metadata_at, behind_segment, file_data_at, eof_at, finished_at}
+use Rattle.cfdp_pdus.specs.First.{number_at, name_field_at, requests_of, outcome_fields, all_whole, fields_at, metadata_at, behind_segment, file_data_at, eof_at, finished_at}
 use Rattle.cfdp_tlv.proofs.Steps.{bind_ok, guard_ok}
 use Rattle.cfdp_pdus.proofs.Steps.{ok_is, mend_ok}
 use Rattle.cfdp_pdus.proofs.NumberSteps.{number_takes, number_again}
@@ -21,10 +21,10 @@ use Rattle.cfdp_pdus.proofs.OutcomeSteps.{outcome_take, outcome_again}
 
 -- ---- names
 
-name_takes : (octets name rest : List ℕ) → name_at octets ≡ Ok (name, rest) → octets ≡ lv name ++ rest
+name_takes : (octets name rest : List ℕ) → name_field_at octets ≡ Ok (name, rest) → octets ≡ lv name ++ rest
 name_takes octets name rest e = lv_takes octets name rest (mend_ok LengthMismatch (lv_at octets) (name, rest) e)
 
-pub name_again : (name rest : List ℕ) → name_at (lv name ++ rest) ≡ Ok (name, rest)
+pub name_again : (name rest : List ℕ) → name_field_at (lv name ++ rest) ≡ Ok (name, rest)
 name_again name rest = ap (mend LengthMismatch) (lv_again name rest)
 
 -- ---- Metadata
@@ -34,8 +34,8 @@ pub metadata_takes : (large : Bool) (octets : List ℕ) (metadata : MetadataFiel
 unfolding metadata_at
 metadata_takes large [] metadata e = absurd cc
 metadata_takes large (flags ∷ octets) metadata e =
-    let a = bind_ok (number_at LengthMismatch (fss large) octets) (λ size. name_at size.1 >>= λ source.
-    name_at source.1 >>= λ destination. requests_of (fields_at destination.1) >>= λ requests.
+    let a = bind_ok (number_at LengthMismatch (fss large) octets) (λ size. name_field_at size.1 >>= λ source.
+    name_field_at source.1 >>= λ destination. requests_of (fields_at destination.1) >>= λ requests.
     Ok (record {
       closure = flag 6 flags;
       checksum_type = flags % 16;
@@ -44,7 +44,7 @@ metadata_takes large (flags ∷ octets) metadata e =
       destination_name = destination.0;
       requests = requests;
     })) metadata e in
-    let b = bind_ok (name_at a.0.1) (λ source. name_at source.1 >>= λ destination. requests_of (fields_at destination.1) >>= λ requests.
+    let b = bind_ok (name_field_at a.0.1) (λ source. name_field_at source.1 >>= λ destination. requests_of (fields_at destination.1) >>= λ requests.
     Ok (record {
       closure = flag 6 flags;
       checksum_type = flags % 16;
@@ -53,7 +53,7 @@ metadata_takes large (flags ∷ octets) metadata e =
       destination_name = destination.0;
       requests = requests;
     })) metadata a.2 in
-    let d = bind_ok (name_at b.0.1) (λ destination. requests_of (fields_at destination.1) >>= λ requests.
+    let d = bind_ok (name_field_at b.0.1) (λ destination. requests_of (fields_at destination.1) >>= λ requests.
     Ok (record {
       closure = flag 6 flags;
       checksum_type = flags % 16;
@@ -237,7 +237,7 @@ pub finished_takes : (octets : List ℕ) (finished : FinishedFields) → finishe
 unfolding finished_at
 finished_takes [] finished e = absurd cc
 finished_takes (flags ∷ octets) finished e =
-    let a = bind_ok (outcome_of (fields_at octets)) (λ outcome. Ok (record {
+    let a = bind_ok (outcome_fields (fields_at octets)) (λ outcome. Ok (record {
       condition = flags / 16;
       incomplete = flag 2 flags;
       file_status = flags % 4;
@@ -263,5 +263,5 @@ finished_takes (flags ∷ octets) finished e =
 pub finished_again : (octets : List ℕ) (finished : FinishedFields) → SpellsFinished octets finished → finished_at octets ≡ Ok finished
 unfolding finished_at
 finished_again octets finished spelled =
-    let outcome = ap outcome_of (fields_again spelled.fields) ∙ outcome_again spelled.fields finished.responses spelled.responses spelled.entities in
+    let outcome = ap outcome_fields (fields_again spelled.fields) ∙ outcome_again spelled.fields finished.responses spelled.responses spelled.entities in
     ap finished_at spelled.parts ∙ rw (outcome, ← spelled.condition, ← spelled.incomplete, ← spelled.file_status, ← spelled.fault) refl

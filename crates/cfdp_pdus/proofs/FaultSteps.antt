@@ -11,7 +11,7 @@ use Rattle.cfdp_pdus.specs.declared.fault.PduFault.TheVariants.{Truncated, Lengt
 use Rattle.cfdp_pdus.specs.Bits.{flag, fss}
 use Rattle.cfdp_pdus.specs.Grammar.{Field}
 use Rattle.cfdp_pdus.specs.Reading.{mend}
-use Rattle.cfdp_pdus.specs.First.{Start, number_at, fields_at, asked_at, requests_of, entity_at, outcome_of, all_whole, behind_segment, metadata_at, file_data_at, eof_at, finished_at, header_at, start_at, directive_at, field_at, pdu_at}
+use Rattle.cfdp_pdus.specs.First.{Start, number_at, fields_at, asked_at, requests_of, entity_at, outcome_fields, all_whole, behind_segment, metadata_at, file_data_at, eof_at, finished_at, header_at, start_at, directive_at, field_at, pdu_at}
 
 abbrev IsOfOctets : PduFault → Type 0
 IsOfOctets Memory = ⊥
@@ -64,8 +64,8 @@ entity : (octets : List ℕ) → OfOctets (entity_at octets)
 unfolding entity_at
 entity octets = chosen (nat_le 1 (length octets) && nat_le (length octets) 8) value (fault tt)
 
-outcome : (fields : List (Option Field)) → OfOctets (outcome_of fields)
-unfolding outcome_of
+outcome : (fields : List (Option Field)) → OfOctets (outcome_fields fields)
+unfolding outcome_fields
 outcome [] = value
 outcome (None ∷ fields) = fault tt
 outcome (Some field ∷ fields) =

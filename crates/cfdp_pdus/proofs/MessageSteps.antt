@@ -16,9 +16,10 @@ use Rattle.cfdp_pdus.specs.declared.eof.Eof.{Eof}
 use Rattle.cfdp_pdus.specs.Values.{MetadataFields, FileDataFields, FinishedFields}
 use Rattle.cfdp_pdus.specs.Bits.{flag, fss}
 use Rattle.cfdp_pdus.specs.Grammar.{Field, field_octets, values_of, SpellsMetadata, SpellsField, SpellsPdu}
-use Rattle.cfdp_pdus.specs.First.{Start, front_field, some_fields_at, number_at, name_at, fields_at, requests_of, metadata_at, file_data_at, eof_at, finished_at, directive_at, field_at, start_at}
-use Rattle.cfdp_pdus.specs.Messages.{whole_fields, messages_among, before_options, messages_of, messages_from, messages_at, options_told, options_said, after_names, judged_options, options_in, options_from, options_at}
-use Rattle.cfdp_pdus.specs.Counting.{count_of}
+use Rattle.cfdp_pdus.specs.First.{Start, front_field, some_fields_at, number_at, name_field_at, fields_at, requests_of, metadata_at, file_data_at, eof_at, finished_at, directive_at, field_at, start_at}
+use Rattle.cfdp_pdus.specs.Messages.{whole_fields, messages_among, before_options, messages_of, messages_from, messages_at, options_told, options_said}
+use Rattle.cfdp_pdus.specs.code.Messages.{after_names, judged_options, options_in, options_from, options_at}
+use Rattle.cfdp_pdus.specs.code.Counting.{count_read}
 use Rattle.cfdp_pdus.proofs.Steps.{ok_is}
 use Rattle.cfdp_pdus.proofs.Splits.{fields_at-step, fields_at-cut, fields_at-nil}
 use Rattle.cfdp_pdus.proofs.FieldSteps.{all_of, fields_again}
@@ -179,8 +180,8 @@ record Read (large : Bool) (octets : List ℕ) : Type 0 where
 
 metadata_made : (large : Bool) (flags : ℕ) (octets : List ℕ) (size : ℕ) (after_size source after_source destination rest : List ℕ)
     (requests : List RequestFields)
-    → number_at LengthMismatch (fss large) octets ≡ Ok (size, after_size) → name_at after_size ≡ Ok (source, after_source)
-    → name_at after_source ≡ Ok (destination, rest) → requests_of (fields_at rest) ≡ Ok requests → Read large (flags ∷ octets)
+    → number_at LengthMismatch (fss large) octets ≡ Ok (size, after_size) → name_field_at after_size ≡ Ok (source, after_source)
+    → name_field_at after_source ≡ Ok (destination, rest) → requests_of (fields_at rest) ≡ Ok requests → Read large (flags ∷ octets)
 unfolding metadata_at
 metadata_made large flags octets size after_size source after_source destination rest requests one two three four = record {
   metadata = record {
@@ -202,17 +203,18 @@ record Named (large : Bool) (octets rest : List ℕ) : Type 0 where
   after_source : List ℕ
   destination : List ℕ
   one : number_at LengthMismatch (fss large) octets ≡ Ok (size, after_size)
-  two : name_at after_size ≡ Ok (source, after_source)
-  three : name_at after_source ≡ Ok (destination, rest)
+  two : name_field_at after_size ≡ Ok (source, after_source)
+  three : name_field_at after_source ≡ Ok (destination, rest)
 
 names_read : (large : Bool) (flags : ℕ) (octets rest : List ℕ) → after_names large (flags ∷ octets) ≡ Ok rest → Named large octets rest
 unfolding after_names
 names_read large flags octets rest e =
-    let a = bind_ok (number_at LengthMismatch (fss large) octets) (λ size. name_at size.1 >>= λ source. name_at source.1 >>= λ destination. Ok destination.1)
+    let a = bind_ok (number_at LengthMismatch (fss large) octets)
+    (λ size. name_field_at size.1 >>= λ source. name_field_at source.1 >>= λ destination. Ok destination.1)
     rest e in
-    let b = bind_ok (name_at a.0.1) (λ source. name_at source.1 >>= λ destination. Ok destination.1) rest a.2 in
-    let d = bind_ok (name_at b.0.1) (λ destination. Ok destination.1) rest b.2 in
-    let last : name_at b.0.1 ≡ Ok (d.0.0, rest) = d.1 ∙ ap (λ (t : List ℕ). Ok (d.0.0, t)) (ok_is d.0.1 rest d.2) in
+    let b = bind_ok (name_field_at a.0.1) (λ source. name_field_at source.1 >>= λ destination. Ok destination.1) rest a.2 in
+    let d = bind_ok (name_field_at b.0.1) (λ destination. Ok destination.1) rest b.2 in
+    let last : name_field_at b.0.1 ≡ Ok (d.0.0, rest) = d.1 ∙ ap (λ (t : List ℕ). Ok (d.0.0, t)) (ok_is d.0.1 rest d.2) in
     record { size = a.0.0; after_size = a.0.1; source = b.0.0; after_source = b.0.1; destination = d.0.0; one = a.1; two = b.1; three = last }
 
 no_names : (large : Bool) (rest : List ℕ) → after_names large [] ≡ Ok rest → ⊥
@@ -303,21 +305,21 @@ messages_are octets = found_from (start_at octets)
 
 -- ---- what the code learns
 
-counted_ok : (options : List ℕ) (count : ℕ) (read : Result (List RequestFields) PduFault) → Ok count ≡ count_of read → (read >>= λ requests. Ok options)
+counted_ok : (options : List ℕ) (count : ℕ) (read : Result (List RequestFields) PduFault) → Ok count ≡ count_read read → (read >>= λ requests. Ok options)
     ≡ Ok options
 counted_ok options count (Ok requests) e = refl
 counted_ok options count (Err fault) e = absurd cc
 
-counted_err : (options : List ℕ) (fault : PduFault) (read : Result (List RequestFields) PduFault) → Err fault ≡ count_of read →
+counted_err : (options : List ℕ) (fault : PduFault) (read : Result (List RequestFields) PduFault) → Err fault ≡ count_read read →
     (read >>= λ requests. Ok options) ≡ Err fault
 counted_err options fault (Ok requests) e = absurd cc
 counted_err options fault (Err other) e = cc
 
 -- the requests were counted
-pub judged_ok : (options : List ℕ) (count : ℕ) → Ok count ≡ count_of (requests_of (fields_at options)) → judged_options options ≡ Ok options
+pub judged_ok : (options : List ℕ) (count : ℕ) → Ok count ≡ count_read (requests_of (fields_at options)) → judged_options options ≡ Ok options
 judged_ok options count e = counted_ok options count (requests_of (fields_at options)) e
 
-pub judged_err : (options : List ℕ) (fault : PduFault) → Err fault ≡ count_of (requests_of (fields_at options)) → judged_options options ≡ Err fault
+pub judged_err : (options : List ℕ) (fault : PduFault) → Err fault ≡ count_read (requests_of (fields_at options)) → judged_options options ≡ Err fault
 judged_err options fault e = counted_err options fault (requests_of (fields_at options)) e
 
 -- a message less to pass over

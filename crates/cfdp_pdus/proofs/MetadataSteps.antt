@@ -5,12 +5,13 @@ use Rattle.cfdp_tlv.specs.Reading.{Fails}
 use Rattle.cfdp_pdus.specs.declared.fault.PduFault.{PduFault}
 use Rattle.cfdp_pdus.specs.declared.fault.PduFault.TheVariants.{LengthMismatch, Memory}
 use Rattle.cfdp_pdus.specs.Bits.{fss}
-use Rattle.cfdp_pdus.specs.First.{number_at, name_at, requests_of, fields_at, metadata_at}
+use Rattle.cfdp_pdus.specs.First.{number_at, name_field_at, requests_of, fields_at, metadata_at}
 use Rattle.cfdp_pdus.proofs.Steps.{last_fails}
 
 pub requests_fail : (e : PduFault) (large : Bool) (octets : List ℕ) (size : ℕ) (after_size source after_source destination rest : List ℕ) → 1 ≤ length octets
-    → number_at LengthMismatch (fss large) (take (length octets - 1) (drop 1 octets)) ≡ Ok (size, after_size) → name_at after_size ≡ Ok (source, after_source) →
-    name_at after_source ≡ Ok (destination, rest)
+    → number_at LengthMismatch (fss large) (take (length octets - 1) (drop 1 octets)) ≡ Ok (size, after_size) → name_field_at after_size ≡ Ok
+    (source, after_source) →
+    name_field_at after_source ≡ Ok (destination, rest)
     → Fails Memory e (requests_of (fields_at rest)) → Fails Memory e (metadata_at large octets)
 unfolding metadata_at
 requests_fail e large [] size after_size source after_source destination rest some one two three fails = absurd (omega arith)

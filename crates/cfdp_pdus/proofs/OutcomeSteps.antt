@@ -11,7 +11,7 @@ use Rattle.cfdp_pdus.specs.declared.fault.PduFault.TheVariants.{BadTlv}
 use Rattle.cfdp_tlv.specs.Reading.{◌>>=◌}
 use Rattle.cfdp_pdus.specs.Reading.{mend}
 use Rattle.cfdp_pdus.specs.Grammar.{Field, values_of, EachTells, IsEntity, AreEntities, last_entity}
-use Rattle.cfdp_pdus.specs.First.{told_at, entity_at, or_else, outcome_of}
+use Rattle.cfdp_pdus.specs.First.{told_at, entity_at, or_else, outcome_fields}
 use Rattle.cfdp_tlv.proofs.Steps.{bind_ok}
 use Rattle.cfdp_pdus.proofs.Steps.{mend_ok, held_ok, ok_is, chosen}
 use Rattle.cfdp_pdus.proofs.FieldSteps.{all_of}
@@ -109,27 +109,28 @@ other_in_front field options responses fault not_one not_six behind =
       last = behind.last ∙ ap last_entity (sym sixes);
     }
 
-pub outcome_take : (options : List (Option Field)) (outcome : Outcome) → outcome_of options ≡ Ok outcome → TellsAll options outcome.0 outcome.1
-unfolding outcome_of
+pub outcome_take : (options : List (Option Field)) (outcome : Outcome) → outcome_fields options ≡ Ok outcome → TellsAll options outcome.0 outcome.1
+unfolding outcome_fields
 outcome_take [] outcome e =
     let P : Outcome → Type 0 = λ o. TellsAll [] o.0 o.1 in
     subst P (ok_is ([], None) outcome e) (record { fields = []; whole = refl; tells = tt; entities = tt; last = refl })
 outcome_take (None ∷ options) outcome e = absurd cc
 outcome_take (Some field ∷ options) outcome e =
     let P : Outcome → Type 0 = λ o. TellsAll (Some field ∷ options) o.0 o.1 in
-    elim (chosen (eqb field.0 1) (told_at field.1 >>= λ response. outcome_of options >>= λ others. Ok (response ∷ others.0, others.1))
-    (cond (eqb field.0 6) (entity_at field.1 >>= λ entity. outcome_of options >>= λ others. Ok (others.0, or_else others.1 (Some entity)))
-    (outcome_of options)) (Ok outcome) e) [
+    elim (chosen (eqb field.0 1) (told_at field.1 >>= λ response. outcome_fields options >>= λ others. Ok (response ∷ others.0, others.1))
+    (cond (eqb field.0 6) (entity_at field.1 >>= λ entity. outcome_fields options >>= λ others. Ok (others.0, or_else others.1 (Some entity)))
+    (outcome_fields options)) (Ok outcome) e) [
       | inl here ↦
-          let a = bind_ok (told_at field.1) (λ response. outcome_of options >>= λ others. Ok (response ∷ others.0, others.1)) outcome here.1 in
-          let b = bind_ok (outcome_of options) (λ others. Ok (a.0 ∷ others.0, others.1)) outcome a.2 in
+          let a = bind_ok (told_at field.1) (λ response. outcome_fields options >>= λ others. Ok (response ∷ others.0, others.1)) outcome here.1 in
+          let b = bind_ok (outcome_fields options) (λ others. Ok (a.0 ∷ others.0, others.1)) outcome a.2 in
           let spelled = response_takes field.1 a.0 (mend_ok BadTlv (response_at field.1) a.0 a.1) in
           subst P (ok_is (a.0 ∷ b.0.0, b.0.1) outcome b.2) (response_in_front field options a.0 b.0.0 b.0.1 here.0 spelled (outcome_take options b.0 b.1))
-      | inr other ↦ elim (chosen (eqb field.0 6) (entity_at field.1 >>= λ entity. outcome_of options >>= λ others.
-          Ok (others.0, or_else others.1 (Some entity))) (outcome_of options) (Ok outcome) other.1) [
+      | inr other ↦ elim (chosen (eqb field.0 6) (entity_at field.1 >>= λ entity. outcome_fields options >>= λ others.
+          Ok (others.0, or_else others.1 (Some entity))) (outcome_fields options) (Ok outcome) other.1) [
             | inl here ↦
-                let a = bind_ok (entity_at field.1) (λ entity. outcome_of options >>= λ others. Ok (others.0, or_else others.1 (Some entity))) outcome here.1 in
-                let b = bind_ok (outcome_of options) (λ others. Ok (others.0, or_else others.1 (Some a.0))) outcome a.2 in
+                let a = bind_ok (entity_at field.1) (λ entity. outcome_fields options >>= λ others. Ok
+                (others.0, or_else others.1 (Some entity))) outcome here.1 in
+                let b = bind_ok (outcome_fields options) (λ others. Ok (others.0, or_else others.1 (Some a.0))) outcome a.2 in
                 let is = entity_takes field.1 a.0 a.1 in
                 let Q : ℕ → Type 0 = λ n. TellsAll (Some field ∷ options) b.0.0 (or_else b.0.1 (Some n)) in
                 subst P (ok_is (b.0.0, or_else b.0.1 (Some a.0)) outcome b.2) (subst Q is.1
@@ -157,10 +158,10 @@ behind_field kind value fields responses read again false true one six tells ent
 behind_field kind value fields responses read again false false one six tells entities = again responses tells entities
 
 pub outcome_again : (fields : List Field) (responses : List ResponseFields) → EachTells (values_of 1 fields) responses → AreEntities (values_of 6 fields) →
-    outcome_of (all_of fields) ≡ Ok (responses, last_entity (values_of 6 fields))
-unfolding outcome_of
+    outcome_fields (all_of fields) ≡ Ok (responses, last_entity (values_of 6 fields))
+unfolding outcome_fields
 outcome_again [] [] tells entities = refl
 outcome_again [] (response ∷ responses) tells entities = absurd tells
 outcome_again (field ∷ fields) responses tells entities =
-    behind_field field.0 field.1 fields responses (outcome_of (all_of fields)) (λ others. outcome_again fields others) (eqb field.0 1)
+    behind_field field.0 field.1 fields responses (outcome_fields (all_of fields)) (λ others. outcome_again fields others) (eqb field.0 1)
     (eqb field.0 6) refl refl tells entities

@@ -9,7 +9,8 @@ use Rattle.cfdp_tlv.specs.Reading.{Fails, Gives}
 use Rattle.cfdp_tlv.proofs.Steps.{bind_ok}
 use Rattle.cfdp_pdus.specs.Grammar.{SpellsPdu}
 use Rattle.cfdp_pdus.specs.First.{pdu_at}
-use Rattle.cfdp_pdus.specs.Receiving.{received, received_in, ReceivesLean, IsCopied}
+use Rattle.cfdp_pdus.specs.Receiving.{received, received_of, IsCopied}
+use Rattle.cfdp_pdus.specs.code.Receiving.{ReceivesLean}
 use Rattle.cfdp_pdus.proofs.Steps.{ok_is, never_both}
 use Rattle.cfdp_pdus.proofs.PduSteps.{pdu_takes}
 
@@ -22,7 +23,7 @@ if_received P (pdus.NotOurs header code) holds = holds
 
 pub told_holds : (P : Pdu → Type 0) (octets : List ℕ) (result : Result (Option Pdu) PduFault)
     → ((pdu : Pdu) → SpellsPdu octets pdu → P pdu)
-    → Gives Memory (λ (told : Option Pdu). told) result (received_in (pdu_at octets)) → IfOk result (λ told. IfSome told P)
+    → Gives Memory (λ (told : Option Pdu). told) result (received_of (pdu_at octets)) → IfOk result (λ told. IfSome told P)
 told_holds P octets (Ok told) all given =
     let read = bind_ok (pdu_at octets) (λ pdu. Ok (received pdu)) told given in
     let holds = if_received P read.0 (all read.0 (pdu_takes octets read.0 read.1)) in
@@ -36,18 +37,18 @@ not_both told (Err fault) wanting given = cc
 abbrev failed : PduFault → Result Pdu PduFault
 failed fault = Err fault
 
-not_failed : (fault : PduFault) → (failed fault ≡ failed Memory → ⊥) → Fails Memory Memory (received_in (failed fault)) → ⊥
+not_failed : (fault : PduFault) → (failed fault ≡ failed Memory → ⊥) → Fails Memory Memory (received_of (failed fault)) → ⊥
 not_failed fault never (inl same) = let why : fault ≡ Memory = cc in never (ap failed why)
-not_failed fault never (inr ran_out) = never_both (received_in (failed fault)) fault refl ran_out.1
+not_failed fault never (inr ran_out) = never_both (received_of (failed fault)) fault refl ran_out.1
 
 -- where memory is refused, and no octets have that fault, the PDU is one that is copied
 pub copied : (read : Result Pdu PduFault) (result : Result (Option Pdu) PduFault) → result ≡ Err Memory → (read ≡ failed Memory → ⊥)
-    → Gives Memory (λ (told : Option Pdu). told) result (received_in read) → (ReceivesLean read → result ≡ received_in read) → IsCopied read
+    → Gives Memory (λ (told : Option Pdu). told) result (received_of read) → (ReceivesLean read → result ≡ received_of read) → IsCopied read
 copied (Ok (pdus.Metadata header metadata)) result wanting never exact lean = tt
 copied (Ok (pdus.FileData header file_data)) result wanting never exact lean = tt
 copied (Ok (pdus.Eof header eof)) result wanting never exact lean = absurd (not_both (Some (pdus.Eof header eof)) result wanting (lean tt))
 copied (Ok (pdus.Finished header finished)) result wanting never exact lean = absurd (not_both None result wanting (lean tt))
 copied (Ok (pdus.NotOurs header code)) result wanting never exact lean = absurd (not_both (Some (pdus.NotOurs header code)) result wanting (lean tt))
 copied (Err fault) result wanting never exact lean =
-    absurd (not_failed fault never (subst (λ (r : Result (Option Pdu) PduFault). Gives Memory (λ (told : Option Pdu). told) r (received_in (failed fault)))
+    absurd (not_failed fault never (subst (λ (r : Result (Option Pdu) PduFault). Gives Memory (λ (told : Option Pdu). told) r (received_of (failed fault)))
     wanting exact))

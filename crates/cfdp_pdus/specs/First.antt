@@ -2,7 +2,7 @@
 --   number_at fault len octets    the number in the first len octets, and what is after them
 --   fields_at octets              the TLV fields from the left, each as Some; None where one is cut
 --   requests_of fields            the requests among the fields of a Metadata PDU
---   outcome_of fields             the responses and the last fault location of a Finished PDU
+--   outcome_fields fields         the responses and the last fault location of a Finished PDU
 --   all_whole fields              no field is cut
 --   start_at octets               the header, what kind of PDU it is, and its data field
 --   pdu_at octets                 the PDU that the octets spell, or the first fault
@@ -71,15 +71,16 @@ entity_at value =
 abbrev pub told_at : List ℕ → Result ResponseFields PduFault
 told_at value = mend BadTlv (response_at value)
 
-unfoldable pub outcome_of : List (Option Field) → Result (List ResponseFields × Option ℕ) PduFault
-outcome_of [] = Ok ([], None)
-outcome_of (None ∷ fields) = Err BadTlv
-outcome_of (Some field ∷ fields) =
+unfoldable pub outcome_fields : List (Option Field) → Result (List ResponseFields × Option ℕ) PduFault
+outcome_fields [] = Ok ([], None)
+outcome_fields (None ∷ fields) = Err BadTlv
+outcome_fields (Some field ∷ fields) =
     if field.0 == 1
-    then (told_at field.1 >>= λ response. outcome_of fields >>= λ others. Ok (response ∷ others.0, others.1))
+    then (told_at field.1 >>= λ response. outcome_fields fields >>= λ others. Ok (response ∷ others.0, others.1))
     else if field.0 == 6
-    then (entity_at field.1 >>= λ entity. outcome_of fields >>= λ others. Ok (others.0, or_else others.1 (Some entity)))
-    else outcome_of fields
+    then (entity_at field.1 >>= λ entity. outcome_fields fields >>= λ others. Ok
+    (others.0, or_else others.1 (Some entity)))
+    else outcome_fields fields
 
 unfoldable pub all_whole : List (Option Field) → Result (Unit {0}) PduFault
 all_whole [] = Ok tt
@@ -88,15 +89,15 @@ all_whole (Some field ∷ fields) = all_whole fields
 
 -- ---- data fields
 
-abbrev pub name_at : List ℕ → Result (List ℕ × List ℕ) PduFault
-name_at octets = mend LengthMismatch (lv_at octets)
+abbrev pub name_field_at : List ℕ → Result (List ℕ × List ℕ) PduFault
+name_field_at octets = mend LengthMismatch (lv_at octets)
 
 unfoldable pub metadata_at : Bool → List ℕ → Result MetadataFields PduFault
 metadata_at large [] = Err LengthMismatch
 metadata_at large (flags ∷ octets) = do
   size ← number_at LengthMismatch (fss large) octets
-  source ← name_at size.1
-  destination ← name_at source.1
+  source ← name_field_at size.1
+  destination ← name_field_at source.1
   requests ← requests_of (fields_at destination.1)
   Ok (record {
     closure = flag 6 flags;
@@ -131,7 +132,7 @@ eof_at large (condition ∷ octets) = do
 unfoldable pub finished_at : List ℕ → Result FinishedFields PduFault
 finished_at [] = Err LengthMismatch
 finished_at (flags ∷ octets) = do
-  outcome ← outcome_of (fields_at octets)
+  outcome ← outcome_fields (fields_at octets)
   Ok (record {
     condition = flags / 16;
     incomplete = flag 2 flags;

@@ -3,7 +3,6 @@ pub mod Bits
 pub mod Reading
 pub mod Grammar
 pub mod First
-pub mod Counting
 pub mod Canonical
 pub mod Equality
 pub mod Texts
@@ -11,3 +10,4 @@ pub mod Sound
 pub mod Receiving
 pub mod Messages
 pub mod Placing
+pub mod code

@@ -7,20 +7,16 @@
 --   messages_at octets              the messages of the Metadata PDU that the octets spell; none where they spell no
 --                                   Metadata PDU
 --   options_said ..                 the options that the grammar finds in the Metadata PDU that the octets spell
---   options_at octets               the octets of the options of a Metadata PDU, read from left to right; or the first
---                                   fault
-use Rattle.std.specs.Prelude.{ℕ, ◌+◌, ◌==◌, if◌then◌else◌, Bool, true, false, List, [], ◌∷◌, length, drop, Option, Some, None, Result, Ok, Err}
+use Rattle.std.specs.Prelude.{ℕ, ◌+◌, Bool, true, false, List, [], ◌∷◌, length, drop, Option, Some, None, Result, Ok, Err}
 use Rattle.cfdp_tlv.specs.Field.{lv}
-use Rattle.cfdp_tlv.specs.Reading.{◌>>=◌}
 use Rattle.cfdp_pdus.specs.declared.fault.PduFault.{PduFault}
-use Rattle.cfdp_pdus.specs.declared.fault.PduFault.TheVariants.{LengthMismatch, BadDirective}
 use Rattle.cfdp_pdus.specs.declared.header.Header.{Header}
 use Rattle.cfdp_pdus.specs.declared.pdu.Pdu.{Pdu}
 use Rattle.cfdp_pdus.specs.declared.pdu.Pdu.TheVariants as pdus
 use Rattle.cfdp_pdus.specs.Values.{MetadataFields}
 use Rattle.cfdp_pdus.specs.Bits.{flag, fss}
 use Rattle.cfdp_pdus.specs.Grammar.{Field, values_of, SpellsField, SpellsPdu}
-use Rattle.cfdp_pdus.specs.First.{Start, number_at, name_at, fields_at, requests_of, field_at, start_at}
+use Rattle.cfdp_pdus.specs.First.{Start, fields_at, field_at, start_at}
 
 -- ---- the messages
 
@@ -66,28 +62,3 @@ options_said (first ∷ high ∷ []) header metadata spelled = absurd spelled
 options_said (first ∷ high ∷ low ∷ []) header metadata spelled = absurd spelled
 options_said (first ∷ high ∷ low ∷ fourth ∷ rest) header metadata spelled =
     options_told (flag 4 first) (flag 3 fourth) spelled.field header metadata spelled.spelled
-
--- ---- from left to right
-
--- what is left after the names of a Metadata PDU, of the octets after its directive code
-unfoldable pub after_names : Bool → List ℕ → Result (List ℕ) PduFault
-after_names large [] = Err LengthMismatch
-after_names large (flags ∷ octets) = do
-  size ← number_at LengthMismatch (fss large) octets
-  source ← name_at size.1
-  destination ← name_at source.1
-  Ok destination.1
-
--- the same options, where each of them is whole and each request among them is one
-abbrev pub judged_options : List ℕ → Result (List ℕ) PduFault
-judged_options options = requests_of (fields_at options) >>= λ requests. Ok options
-
-unfoldable pub options_in : Bool → List ℕ → Result (List ℕ) PduFault
-options_in large [] = Err LengthMismatch
-options_in large (code ∷ octets) = if code == 7 then after_names large octets >>= judged_options else Err BadDirective
-
-abbrev pub options_from : Start → Result (List ℕ) PduFault
-options_from start = if start.file_data then Err BadDirective else options_in start.header.large start.field
-
-unfoldable pub options_at : List ℕ → Result (List ℕ) PduFault
-options_at octets = start_at octets >>= options_from

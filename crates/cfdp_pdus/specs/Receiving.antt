@@ -1,10 +1,9 @@
 -- What the receiver of a file is informed of a PDU.
 --   received pdu             the PDU itself; of a Finished PDU, which only the file's sender takes, nothing
---   received_in read         the same of what reading gives
+--   received_of read         the same of what reading gives
 --   IsLeanToReceive pdu      nothing is copied of it: an EOF PDU, a Finished PDU, and one that is not ours
---   ReceivesLean read        reading gives such a PDU
 --   IsCopied read            reading gives another one: a Metadata PDU or a File Data PDU
-use Rattle.std.specs.Prelude.{⊤, Option, Some, None, Result, Ok, Err}
+use Rattle.std.specs.Prelude.{⊤, Option, Some, None, Result, Ok}
 use Rattle.cfdp_tlv.specs.Reading.{◌>>=◌}
 use Rattle.cfdp_pdus.specs.declared.pdu.Pdu.{Pdu}
 use Rattle.cfdp_pdus.specs.declared.pdu.Pdu.TheVariants as pdus
@@ -17,8 +16,8 @@ received (pdus.Eof header eof) = Some (pdus.Eof header eof)
 received (pdus.Finished header finished) = None
 received (pdus.NotOurs header code) = Some (pdus.NotOurs header code)
 
-abbrev pub received_in : Result Pdu PduFault → Result (Option Pdu) PduFault
-received_in read = read >>= λ pdu. Ok (received pdu)
+abbrev pub received_of : Result Pdu PduFault → Result (Option Pdu) PduFault
+received_of read = read >>= λ pdu. Ok (received pdu)
 
 abbrev pub IsLeanToReceive : Pdu → Type 0
 IsLeanToReceive (pdus.Metadata header metadata) = ⊥
@@ -26,10 +25,6 @@ IsLeanToReceive (pdus.FileData header file_data) = ⊥
 IsLeanToReceive (pdus.Eof header eof) = Unit {0}
 IsLeanToReceive (pdus.Finished header finished) = Unit {0}
 IsLeanToReceive (pdus.NotOurs header code) = Unit {0}
-
-abbrev pub ReceivesLean : Result Pdu PduFault → Type 0
-ReceivesLean (Ok pdu) = IsLeanToReceive pdu
-ReceivesLean (Err fault) = ⊥
 
 abbrev pub IsCopied : Result Pdu PduFault → Type 0
 IsCopied (Ok (pdus.Metadata header metadata)) = ⊤

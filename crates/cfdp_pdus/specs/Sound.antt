@@ -2,9 +2,8 @@
 --   IsSound pdu    the header's lengths are 1 to 8 and its numbers fit them; each number of the data
 --                  field fits its field; a response can repeat each filestore request
 --   IsLean pdu     it hands out no octets: an EOF PDU, and one that is not ours
---   GivesLean read     reading gives such a PDU
 --   IsNoFileData read  reading gives no File Data PDU
-use Rattle.std.specs.Prelude.{◌<◌, ⊤, Result, Ok, Err}
+use Rattle.std.specs.Prelude.{◌<◌, ⊤, Result, Ok}
 use Rattle.std.specs.List.{AllByRecursion}
 use Rattle.cfdp_pdus.specs.declared.header.Header.{Header}
 use Rattle.cfdp_pdus.specs.declared.pdu.Pdu.{Pdu}
@@ -37,10 +36,6 @@ IsLean (pdus.FileData header file_data) = ⊥
 IsLean (pdus.Eof header eof) = Unit {0}
 IsLean (pdus.Finished header finished) = ⊥
 IsLean (pdus.NotOurs header code) = Unit {0}
-
-abbrev pub GivesLean : Result Pdu PduFault → Type 0
-GivesLean (Ok pdu) = IsLean pdu
-GivesLean (Err fault) = ⊥
 
 abbrev pub IsNoFileData : Result Pdu PduFault → Type 0
 IsNoFileData (Ok (pdus.FileData header file_data)) = ⊥

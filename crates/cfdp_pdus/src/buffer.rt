@@ -3,7 +3,7 @@
 ghost use Rattle.std.specs.Prelude.{◌≡◌, ◌≤◌, ◌<◌, ◌+◌, ◌*◌, ◌^◌, length};
 ghost use Rattle.byteorder.specs.Endian.{big_bytes};
 ghost use Rattle.cfdp_pdus.specs.Canonical.{IsHeader, header_octets};
-ghost use Rattle.cfdp_pdus.specs.Placing.{filled, overwritten};
+ghost use Rattle.cfdp_pdus.specs.Placing.{filled, with_octets_at};
 
 use crate::Header;
 use byteorder::{BigEndian, ByteOrder};
@@ -11,7 +11,7 @@ use byteorder::{BigEndian, ByteOrder};
 /// Writes octets at an offset. The rest of the buffer stays. Cost: the octets.
 pub fn put_octets(out: &mut [u8], at: usize, octets: &[u8])
     requires { at + length octets.now ≤ length out.old }
-    ensures { out.new ≡ overwritten out.old at octets.now }
+    ensures { out.new ≡ with_octets_at out.old at octets.now }
 {
     out[at..at + octets.len()].copy_from_slice(octets);
 }
@@ -22,7 +22,7 @@ pub fn put_number(out: &mut [u8], at: usize, number: u64, len: usize)
     requires high { len ≤ 8 }
     requires fits { number < 256 ^ len }
     requires room { at + len ≤ length out.old }
-    ensures { out.new ≡ overwritten out.old at (big_bytes len number) }
+    ensures { out.new ≡ with_octets_at out.old at (big_bytes len number) }
 {
     BigEndian::write_uint(&mut out[at..], number, len);
 }

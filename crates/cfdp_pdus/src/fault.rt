@@ -29,9 +29,9 @@ pub enum PduFault {
 
 impl fmt::Display for PduFault {
     ghost use Rattle.std.specs.Prelude.{Some};
-    ghost use Rattle.cfdp_pdus.specs.Texts.{text_of};
+    ghost use Rattle.cfdp_pdus.specs.Texts.{pdu_fault_text};
 
-    ghost output = { λ fault. Some (text_of fault) };
+    ghost output = { λ fault. Some (pdu_fault_text fault) };
 
     fn fmt<W: fmt::Write>(&self, f: &mut fmt::Formatter<W>) -> fmt::Result {
         f.write_str(match self {

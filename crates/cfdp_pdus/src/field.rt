@@ -2,8 +2,8 @@
 
 ghost use Rattle.std.specs.Prelude.{◌≡◌, IfOk, Ok};
 ghost use Rattle.cfdp_tlv.specs.Reading.{Answers, Gives};
-ghost use Rattle.cfdp_pdus.specs.First.{name_at, asked_at, told_at, requests_of, outcome_of, entity_at, all_whole, fields_at};
-ghost use Rattle.cfdp_pdus.specs.Counting.{count_of, responses_of, outcome_count};
+ghost use Rattle.cfdp_pdus.specs.First.{name_field_at, asked_at, told_at, requests_of, outcome_fields, entity_at, all_whole, fields_at};
+ghost use Rattle.cfdp_pdus.specs.code.Counting.{count_read, responses_in_fields, outcome_count};
 ghost use Rattle.cfdp_pdus.specs.declared.fault.PduFault.TheVariants.{Memory};
 
 use crate::PduFault;
@@ -25,7 +25,7 @@ const MAX_ID_LEN: usize = 8;
 
 /// The LV field at the front, and what is after it.
 pub fn read_name(octets: &[u8]) -> Result<(&[u8], &[u8]), PduFault>
-    ensures { Answers (λ x. (x.0.now, x.1.now)) result (name_at octets.now) }
+    ensures { Answers (λ x. (x.0.now, x.1.now)) result (name_field_at octets.now) }
 {
     read_lv(octets).map_err(|_| PduFault::LengthMismatch)
 }
@@ -47,7 +47,7 @@ fn read_request_parts(value: &[u8]) -> Result<RequestParts<'_>, PduFault>
 /// How many filestore requests there are among TLV fields, each of which is looked at. It takes no
 /// memory.
 pub fn count_requests(octets: &[u8]) -> Result<usize, PduFault>
-    ensures { result ≡ count_of (requests_of (fields_at octets.now)) }
+    ensures { result ≡ count_read (requests_of (fields_at octets.now)) }
 {
     let mut count = 0usize;
     let mut rest = octets;
@@ -70,7 +70,7 @@ fn copy_requests(
     octets: &[u8],
     count: usize,
 ) -> Result<Vec<FilestoreRequest>, AllocError>
-    requires { count_of (requests_of (fields_at octets.now)) ≡ Ok count }
+    requires { count_read (requests_of (fields_at octets.now)) ≡ Ok count }
     ensures { IfOk result (λ requests. requests_of (fields_at octets.now) ≡ Ok requests.items) }
 {
     let mut requests = Vec::with_capacity(alloc, count)?;
@@ -142,8 +142,8 @@ fn copy_responses(
     octets: &[u8],
     count: usize,
 ) -> Result<Vec<FilestoreResponse>, AllocError>
-    requires { count_of (responses_of (fields_at octets.now)) ≡ Ok count }
-    ensures { IfOk result (λ responses. responses_of (fields_at octets.now) ≡ Ok responses.items) }
+    requires { count_read (responses_in_fields (fields_at octets.now)) ≡ Ok count }
+    ensures { IfOk result (λ responses. responses_in_fields (fields_at octets.now) ≡ Ok responses.items) }
 {
     let mut responses = Vec::with_capacity(alloc, count)?;
     let mut rest = octets;
@@ -164,7 +164,7 @@ pub fn read_outcome(
     alloc: Global,
     octets: &[u8],
 ) -> Result<(Vec<FilestoreResponse>, Option<u64>), PduFault>
-    ensures { Gives Memory (λ x. (x.0.items, x.1)) result (outcome_of (fields_at octets.now)) }
+    ensures { Gives Memory (λ x. (x.0.items, x.1)) result (outcome_fields (fields_at octets.now)) }
 {
     let (count, fault) = count_responses(octets)?;
     Ok((copy_responses(alloc, octets, count)?, fault))

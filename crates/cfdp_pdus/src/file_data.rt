@@ -32,7 +32,8 @@ impl Model for FileData {
 }
 
 impl PartialEq for FileData {
-    ghost use Rattle.cfdp_pdus.specs.Equality.{same_file_data, file_data_per};
+    ghost use Rattle.cfdp_pdus.specs.Equality.{same_file_data};
+    ghost use Rattle.cfdp_pdus.specs.code.Equality.{file_data_per};
 
     ghost eq = { same_file_data };
 
@@ -44,7 +45,7 @@ impl PartialEq for FileData {
 }
 
 impl Eq for FileData {
-    ghost use Rattle.cfdp_pdus.specs.Equality.{file_data_equiv};
+    ghost use Rattle.cfdp_pdus.specs.code.Equality.{file_data_equiv};
 
     ghost laws = { file_data_equiv };
 }

@@ -5,7 +5,7 @@ ghost use Rattle.std.specs.List.{flat_map, list_all};
 ghost use Rattle.std.specs.Vec.{vec_capacity};
 ghost use Rattle.cfdp_pdus.specs.Equality.{same_codes};
 ghost use Rattle.cfdp_tlv.specs.Reading.{Answers, Gives};
-ghost use Rattle.cfdp_pdus.specs.Reading.{judged};
+ghost use Rattle.cfdp_pdus.specs.code.Reading.{only_judged};
 ghost use Rattle.cfdp_pdus.specs.First.{finished_at};
 ghost use Rattle.cfdp_pdus.specs.Canonical.{IsHeader, IsSizedFinished, pdu_octets, finished_field, finished_fits, response_field, is_short_response};
 ghost use Rattle.cfdp_pdus.specs.declared.fault.PduFault.TheVariants.{Memory as OutOfMemory};
@@ -50,7 +50,8 @@ impl Model for Finished {
 }
 
 impl PartialEq for Finished {
-    ghost use Rattle.cfdp_pdus.specs.Equality.{same_finished, finished_per};
+    ghost use Rattle.cfdp_pdus.specs.Equality.{same_finished};
+    ghost use Rattle.cfdp_pdus.specs.code.Equality.{finished_per};
 
     ghost eq = { same_finished };
 
@@ -64,7 +65,7 @@ impl PartialEq for Finished {
 }
 
 impl Eq for Finished {
-    ghost use Rattle.cfdp_pdus.specs.Equality.{finished_equiv};
+    ghost use Rattle.cfdp_pdus.specs.code.Equality.{finished_equiv};
 
     ghost laws = { finished_equiv };
 }
@@ -98,7 +99,7 @@ pub fn read_finished(alloc: Global, octets: &[u8]) -> Result<Finished, PduFault>
 /// That the octets are a Finished PDU's data field after its directive code. Takes no memory.
 #[tactic(auto, unfolding(crate::specs::First::finished_at))]
 pub fn check_finished(octets: &[u8]) -> Result<(), PduFault>
-    ensures { Answers (λ good. good) result (judged (finished_at octets.now)) }
+    ensures { Answers (λ good. good) result (only_judged (finished_at octets.now)) }
 {
     let [_, rest @ ..] = octets else {
         return Err(PduFault::LengthMismatch);

@@ -4,7 +4,8 @@ ghost use Rattle.std.specs.Prelude.{◌≡◌, [], ◌∷◌, length, option_map
 ghost use Rattle.std.specs.Iterator.{YieldsFirstRef, item_count};
 ghost use Rattle.cfdp_tlv.specs.Reading.{Answers};
 ghost use Rattle.cfdp_pdus.specs.Grammar.{SpellsPdu, values_of};
-ghost use Rattle.cfdp_pdus.specs.Messages.{messages_among, messages_at, options_at, options_in, options_said, after_names, judged_options};
+ghost use Rattle.cfdp_pdus.specs.Messages.{messages_among, messages_at, options_said};
+ghost use Rattle.cfdp_pdus.specs.code.Messages.{options_at, options_in, after_names, judged_options};
 ghost use Rattle.cfdp_pdus.specs.Values.{MetadataFields};
 ghost use Rattle.cfdp_pdus.specs.declared.header.Header.{Header as HeaderValue};
 ghost use Rattle.cfdp_pdus.specs.declared.pdu.Pdu.TheVariants.{Metadata as MetadataCame};
@@ -113,7 +114,7 @@ impl<'a> Messages<'a> {
 }
 
 /// What is left of a Metadata PDU after its names, of the octets after its directive code.
-#[tactic(auto, unfolding(crate::specs::Messages::after_names))]
+#[tactic(auto, unfolding(crate::specs::code::Messages::after_names))]
 fn skip_names(large: bool, octets: &[u8]) -> Result<&[u8], PduFault>
     ensures { Answers (λ options. options.now) result (after_names large octets.now) }
 {
@@ -135,7 +136,7 @@ fn judge(options: &[u8]) -> Result<&[u8], PduFault>
 }
 
 /// The options in the data field of a Metadata PDU.
-#[tactic(auto, unfolding(crate::specs::Messages::options_in))]
+#[tactic(auto, unfolding(crate::specs::code::Messages::options_in))]
 fn find_in_field(large: bool, field: &[u8]) -> Result<&[u8], PduFault>
     ensures { Answers (λ options. options.now) result (options_in large field.now) }
 {
@@ -150,7 +151,7 @@ fn find_in_field(large: bool, field: &[u8]) -> Result<&[u8], PduFault>
 }
 
 /// The options of the Metadata PDU that the octets spell.
-#[tactic(auto, unfolding(crate::specs::Messages::options_at))]
+#[tactic(auto, unfolding(crate::specs::code::Messages::options_at))]
 fn find_options(octets: &[u8]) -> Result<&[u8], PduFault>
     ensures { Answers (λ options. options.now) result (options_at octets.now) }
 {

@@ -3,7 +3,7 @@
 ghost use Rattle.std.specs.Prelude.{◌≡◌, ◌≤◌, ◌<◌, ◌+◌, ◌⊎◌, ◌↔◌, ◌++◌, length, vec_len, min, true, false, IfErr, OnOk, OnErr, IsErrOf, IsOk};
 ghost use Rattle.std.specs.List.{flat_map, list_all};
 ghost use Rattle.std.specs.Vec.{vec_capacity};
-ghost use Rattle.cfdp_pdus.specs.Equality.{same_options, same_names};
+ghost use Rattle.cfdp_pdus.specs.Equality.{same_options, same_file_names};
 ghost use Rattle.cfdp_tlv.specs.Reading.{Gives};
 ghost use Rattle.cfdp_pdus.specs.First.{metadata_at};
 ghost use Rattle.cfdp_pdus.specs.Canonical.{IsHeader, IsSizedMetadata, pdu_octets, metadata_field, metadata_fits, request_field, is_short_request};
@@ -52,7 +52,8 @@ impl Model for Metadata {
 }
 
 impl PartialEq for Metadata {
-    ghost use Rattle.cfdp_pdus.specs.Equality.{same_metadata, metadata_per};
+    ghost use Rattle.cfdp_pdus.specs.Equality.{same_metadata};
+    ghost use Rattle.cfdp_pdus.specs.code.Equality.{metadata_per};
 
     ghost eq = { same_metadata };
 
@@ -66,7 +67,7 @@ impl PartialEq for Metadata {
 }
 
 impl Eq for Metadata {
-    ghost use Rattle.cfdp_pdus.specs.Equality.{metadata_equiv};
+    ghost use Rattle.cfdp_pdus.specs.code.Equality.{metadata_equiv};
 
     ghost laws = { metadata_equiv };
 }
@@ -80,9 +81,9 @@ fn have_same_options(a: &Metadata, b: &Metadata) -> bool
 }
 
 /// Whether both have the same names.
-#[tactic(auto, unfolding(crate::specs::Equality::same_names))]
+#[tactic(auto, unfolding(crate::specs::Equality::same_file_names))]
 fn have_same_names(a: &Metadata, b: &Metadata) -> bool
-    ensures { result ≡ same_names a.now b.now }
+    ensures { result ≡ same_file_names a.now b.now }
 {
     a.source_name == b.source_name && a.destination_name == b.destination_name
 }

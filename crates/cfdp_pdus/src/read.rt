@@ -4,8 +4,10 @@ ghost use Rattle.std.specs.Prelude.{◌≡◌, ◌⊎◌, IfOk, IfNone, IfSome, 
 ghost use Rattle.cfdp_tlv.specs.Reading.{Gives};
 ghost use Rattle.cfdp_pdus.specs.First.{directive_at, field_at, pdu_at};
 ghost use Rattle.cfdp_pdus.specs.Grammar.{SpellsPdu};
-ghost use Rattle.cfdp_pdus.specs.Receiving.{received, received_in, IsCopied, IsLeanToReceive, ReceivesLean};
-ghost use Rattle.cfdp_pdus.specs.Sound.{IsSound, IsLean, GivesLean, IsNoFileData};
+ghost use Rattle.cfdp_pdus.specs.Receiving.{received, received_of, IsCopied, IsLeanToReceive};
+ghost use Rattle.cfdp_pdus.specs.code.Receiving.{ReceivesLean};
+ghost use Rattle.cfdp_pdus.specs.Sound.{IsSound, IsLean, IsNoFileData};
+ghost use Rattle.cfdp_pdus.specs.code.Sound.{GivesLean};
 ghost use Rattle.cfdp_pdus.specs.declared.pdu.Pdu.{Pdu as PduValue};
 ghost use Rattle.cfdp_pdus.specs.declared.pdu.Pdu.TheVariants.{FileData as FileDataCame};
 ghost use Rattle.cfdp_pdus.specs.declared.fault.PduFault.TheVariants.{Memory};
@@ -111,8 +113,8 @@ pub fn read_pdu(alloc: Global, octets: &[u8]) -> Result<Pdu, PduFault>
 /// What a file's receiver is informed of a directive.
 #[tactic(auto, unfolding(crate::specs::First::directive_at))]
 fn receive_directive(alloc: Global, header: Header, field: &[u8]) -> Result<Option<Pdu>, PduFault>
-    ensures exact { Gives Memory (λ told. told) result (received_in (directive_at header field.now)) }
-    ensures lean { ReceivesLean (directive_at header field.now) → result ≡ received_in (directive_at header field.now) }
+    ensures exact { Gives Memory (λ told. told) result (received_of (directive_at header field.now)) }
+    ensures lean { ReceivesLean (directive_at header field.now) → result ≡ received_of (directive_at header field.now) }
 {
     if let [FINISHED, rest @ ..] = field {
         return check_finished(rest).map(|()| None);
@@ -123,8 +125,8 @@ fn receive_directive(alloc: Global, header: Header, field: &[u8]) -> Result<Opti
 /// What [`read_for_receiver`] returns.
 #[tactic(auto, unfolding(crate::specs::First::field_at))]
 fn receive_whole(alloc: Global, octets: &[u8]) -> Result<Option<Pdu>, PduFault>
-    ensures exact { Gives Memory (λ told. told) result (received_in (pdu_at octets.now)) }
-    ensures lean { ReceivesLean (pdu_at octets.now) → result ≡ received_in (pdu_at octets.now) }
+    ensures exact { Gives Memory (λ told. told) result (received_of (pdu_at octets.now)) }
+    ensures lean { ReceivesLean (pdu_at octets.now) → result ≡ received_of (pdu_at octets.now) }
 {
     let start = read_start(octets)?;
     if start.file_data {
@@ -146,7 +148,7 @@ pub fn read_for_receiver(alloc: Global, octets: &[u8]) -> Result<Option<Pdu>, Pd
     // What is spelled so is reported, unless memory runs out.
     ensures only { (pdu : PduValue) → SpellsPdu octets.now pdu → (result ≡ Ok (received pdu)) ⊎ (result ≡ Err Memory) }
     // Which fault it is: `Memory` is only in place of a PDU.
-    ensures exact { Gives Memory (λ told. told) result (received_in (pdu_at octets.now)) }
+    ensures exact { Gives Memory (λ told. told) result (received_of (pdu_at octets.now)) }
     // An EOF PDU, a Finished PDU, and one that is not ours, are read without memory.
     ensures lean { (pdu : PduValue) → SpellsPdu octets.now pdu → IsLeanToReceive pdu → result ≡ Ok (received pdu) }
     // Memory is refused only where a Metadata PDU or a File Data PDU is spelled.

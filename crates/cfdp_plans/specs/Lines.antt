@@ -12,7 +12,7 @@ use Rattle.hex.specs.Hex.{encode_lower}
 use Rattle.cfdp_texts.specs.Replies.{line, labelled}
 use Rattle.cfdp_pdus.specs.declared.header.Header.{Header}
 use Rattle.cfdp_pdus.specs.declared.pdu.Pdu.{Pdu}
-use Rattle.cfdp_uploads.specs.Uploads.{UploadFields, octets_of, pdus_of}
+use Rattle.cfdp_uploads.specs.Uploads.{UploadFields, sent_octets, upload_pdus}
 
 abbrev pub config_line : (entity blocks cap checks journal : ℕ) → List ℕ
 config_line entity blocks cap checks journal =
@@ -31,14 +31,14 @@ unfoldable pub title_line : UploadFields → List ℕ
 title_line u = labelled (codes "# ") u.header.source ++ labelled (codes "/") u.header.number ++ sizes_text u
 
 unfoldable pub pdu_line : Pdu → List ℕ
-pdu_line pdu = line (codes "pdu " ++ encode_lower (octets_of pdu))
+pdu_line pdu = line (codes "pdu " ++ encode_lower (sent_octets pdu))
 
 abbrev pub work_lines : Header → List ℕ
 work_lines header =
     codes "run\n" ++ labelled (codes "take ") header.source ++ labelled (codes " ") header.number ++ codes "\n"
 
 abbrev pub upload_lines : UploadFields → List ℕ
-upload_lines u = title_line u ++ flat_map pdu_line (pdus_of u) ++ work_lines u.header
+upload_lines u = title_line u ++ flat_map pdu_line (upload_pdus u) ++ work_lines u.header
 
 abbrev pub list_line : List ℕ
 list_line = line (codes "list")

@@ -2,8 +2,8 @@
 -- an octet.
 --   octet_of_pair    the octet of two digits, of either case
 --   name_in          the octets that a text spells, if it does
---   path_in          the same where they are a path of the filestore
---   path_at          the path of the filestore that a text spells, if it does
+--   path_octets_in   the same where they are a path of the filestore
+--   path_spelled     the path of the filestore that a text spells, if it does
 use Rattle.std.specs.Prelude.{ℕ, ◌+◌, ◌*◌, ◌==◌, if◌then◌else◌, List, [], ◌∷◌, Option, Some, None, is_some, option_and_then}
 use Rattle.hex.specs.Hex.{hex_digit_value}
 use Rattle.cfdp_paths.specs.Paths.{Path, path_of}
@@ -34,8 +34,8 @@ abbrev pub if_path : Option (List ℕ) → Option (List ℕ)
 if_path None = None
 if_path (Some octets) = if is_some (path_of octets) then Some octets else None
 
-abbrev pub path_in : List ℕ → Option (List ℕ)
-path_in text = if_path (name_in text)
+abbrev pub path_octets_in : List ℕ → Option (List ℕ)
+path_octets_in text = if_path (name_in text)
 
-abbrev pub path_at : List ℕ → Option Path
-path_at text = option_and_then path_of (name_in text)
+abbrev pub path_spelled : List ℕ → Option Path
+path_spelled text = option_and_then path_of (name_in text)

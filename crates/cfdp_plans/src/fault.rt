@@ -1,7 +1,7 @@
 //! Why a request is not read, and why a script is not written.
 
 ghost use Rattle.std.specs.Prelude.{◌≡◌};
-ghost use Rattle.cfdp_plans.specs.Requests.{form_of};
+ghost use Rattle.cfdp_plans.specs.Requests.{request_form};
 
 use cfdp_pdus::WriteFault;
 use cfdp_status::Action;
@@ -26,9 +26,9 @@ pub enum RequestFault {
 }
 
 /// How a request for an action is written.
-#[tactic(auto, unfolding(crate::specs::Requests::form_of))]
+#[tactic(auto, unfolding(crate::specs::Requests::request_form))]
 fn form_of(action: Action) -> &'static str
-    ensures { result.now ≡ form_of action }
+    ensures { result.now ≡ request_form action }
 {
     match action {
         Action::CreateFile => "create-file PATH",
@@ -45,9 +45,9 @@ fn form_of(action: Action) -> &'static str
 
 impl fmt::Display for RequestFault {
     ghost use Rattle.std.specs.Prelude.{Some};
-    ghost use Rattle.cfdp_plans.specs.Texts.{text_of};
+    ghost use Rattle.cfdp_plans.specs.Texts.{request_fault_text};
 
-    ghost output = { λ fault. Some (text_of fault) };
+    ghost output = { λ fault. Some (request_fault_text fault) };
 
     fn fmt<W: fmt::Write>(&self, f: &mut fmt::Formatter<W>) -> fmt::Result {
         match self {

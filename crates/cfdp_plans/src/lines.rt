@@ -4,7 +4,7 @@ ghost use Rattle.std.specs.Prelude.{◌≡◌, ◌⊎◌, ◌<◌, ◌++◌, len
 ghost use Rattle.cfdp_plans.specs.declared.fault.ScriptFault.TheVariants.{Memory, Write};
 ghost use Rattle.std.specs.List.{flat_map, slice_get};
 ghost use Rattle.std.specs.Io.KnownBytes.{Appends};
-ghost use Rattle.cfdp_uploads.specs.Uploads.{pdus_of};
+ghost use Rattle.cfdp_uploads.specs.Uploads.{upload_pdus};
 ghost use Rattle.cfdp_plans.specs.Lines.{config_line, list_line, pdu_line, protect_line, sizes_text, title_line, upload_lines, work_lines};
 
 use crate::ScriptFault;
@@ -82,8 +82,8 @@ fn push_pdu(
     octets: &mut Vec<u8>,
     text: &mut Vec<u8>,
 ) -> Result<(), ScriptFault>
-    requires { number < length (pdus_of upload.now) }
-    ensures ok { OnOk result (IfSome (slice_get (pdus_of upload.now) number)
+    requires { number < length (upload_pdus upload.now) }
+    ensures ok { OnOk result (IfSome (slice_get (upload_pdus upload.now) number)
         (λ pdu. text.new.items ≡ text.old.items ++ pdu_line pdu)) }
     ensures faults { IfErr result (λ fault. fault ≡ Memory) }
 {
@@ -111,7 +111,7 @@ fn write_pdus<W: ScriptOut>(
     writer: &mut W,
 ) -> Result<(), ScriptFault>
     ensures ok { OnOk result (Appends (W.contents writer.old) (W.contents writer.new)
-        (flat_map pdu_line (pdus_of upload.now))) }
+        (flat_map pdu_line (upload_pdus upload.now))) }
     ensures well { OnOk result (W.failed writer.new ≡ W.failed writer.old) }
     ensures fails { IfErr result (λ fault. (fault ≡ Memory) ⊎ ((fault ≡ Write) × (W.failed writer.new ≡ true))) }
 {

@@ -4,7 +4,7 @@ ghost use Rattle.std.specs.Prelude.{◌≡◌, ◌<◌, length, Some, None, IfOk
 ghost use Rattle.std.specs.Option.{option_map};
 ghost use Rattle.hex.specs.Hex.{hex_digit_value};
 ghost use Rattle.cfdp_texts.specs.Replies.{is_plain};
-ghost use Rattle.cfdp_plans.specs.Names.{before, octet_of_pair, name_in, path_at, path_in};
+ghost use Rattle.cfdp_plans.specs.Names.{before, octet_of_pair, name_in, path_spelled, path_octets_in};
 
 use cfdp_paths::{Path, PathFault};
 use std::alloc::{AllocError, Global};
@@ -80,7 +80,7 @@ pub fn read_name(alloc: Global, text: &[u8]) -> Result<Option<Vec<u8>>, AllocErr
 ///
 /// Out of memory. Cost: two passes over the text.
 pub fn read_path(alloc: Global, text: &[u8]) -> Result<Option<Vec<u8>>, AllocError>
-    ensures { IfOk result (λ path. option_map (λ octets. octets.items) path ≡ path_in text.now) }
+    ensures { IfOk result (λ path. option_map (λ octets. octets.items) path ≡ path_octets_in text.now) }
 {
     let Some(octets) = read_name(alloc, text)? else {
         return Ok(None);
@@ -99,7 +99,7 @@ pub fn read_path(alloc: Global, text: &[u8]) -> Result<Option<Vec<u8>>, AllocErr
 ///
 /// Out of memory. Cost: two passes over the text.
 pub fn parse_path(alloc: Global, text: &[u8]) -> Result<Option<Path>, AllocError>
-    ensures { IfOk result (λ path. path ≡ path_at text.now) }
+    ensures { IfOk result (λ path. path ≡ path_spelled text.now) }
 {
     let Some(octets) = read_name(alloc, text)? else {
         return Ok(None);

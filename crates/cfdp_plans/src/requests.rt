@@ -2,9 +2,9 @@
 
 ghost use Rattle.std.specs.Prelude.{◌≡◌, ◌⊎◌, IfOk, IfErr, Ok, Err, true, false};
 ghost use Rattle.cfdp_status.specs.Codes.{has_second};
-ghost use Rattle.cfdp_plans.specs.Requests.{action_of, by_count, request_in, with_one, with_two};
+ghost use Rattle.cfdp_plans.specs.Requests.{action_named, by_count, request_in, with_one, with_two};
 ghost use Rattle.cfdp_lines.specs.Words.{words_of};
-ghost use Rattle.cfdp_plans.specs.Names.{path_in};
+ghost use Rattle.cfdp_plans.specs.Names.{path_octets_in};
 ghost use Rattle.cfdp_plans.specs.declared.fault.RequestFault.TheVariants.{Memory};
 
 use crate::RequestFault;
@@ -15,9 +15,9 @@ use cfdp_tlv::FilestoreRequest;
 use std::alloc::Global;
 
 /// The action that a word names.
-#[tactic(auto, unfolding(crate::specs::Requests::action_of))]
+#[tactic(auto, unfolding(crate::specs::Requests::action_named))]
 fn action_of(word: &[u8]) -> Option<Action>
-    ensures { result ≡ action_of word.now }
+    ensures { result ≡ action_named word.now }
 {
     if word == b"create-file".as_slice() {
         return Some(Action::CreateFile);
@@ -52,8 +52,8 @@ fn action_of(word: &[u8]) -> Option<Action>
 /// The request for an action with one path.
 fn with_one(alloc: Global, action: Action, first: &[u8]) -> Result<FilestoreRequest, RequestFault>
     requires { has_second action ≡ false }
-    ensures ok { IfOk result (λ request. with_one action (path_in first.now) ≡ Ok request) }
-    ensures err { IfErr result (λ fault. (fault ≡ Memory) ⊎ (with_one action (path_in first.now) ≡ Err fault)) }
+    ensures ok { IfOk result (λ request. with_one action (path_octets_in first.now) ≡ Ok request) }
+    ensures err { IfErr result (λ fault. (fault ≡ Memory) ⊎ (with_one action (path_octets_in first.now) ≡ Err fault)) }
 {
     let Some(first) = read_path(alloc, first)? else {
         return Err(RequestFault::FirstPath);
@@ -69,9 +69,10 @@ fn with_two(
     second: &[u8],
 ) -> Result<FilestoreRequest, RequestFault>
     requires { has_second action ≡ true }
-    ensures ok { IfOk result (λ request. with_two action (path_in first.now) (path_in second.now) ≡ Ok request) }
+    ensures ok { IfOk result (λ request. with_two action (path_octets_in first.now) (path_octets_in second.now)
+        ≡ Ok request) }
     ensures err { IfErr result (λ fault. (fault ≡ Memory)
-        ⊎ (with_two action (path_in first.now) (path_in second.now) ≡ Err fault)) }
+        ⊎ (with_two action (path_octets_in first.now) (path_octets_in second.now) ≡ Err fault)) }
 {
     let Some(first) = read_path(alloc, first)? else {
         return Err(RequestFault::FirstPath);

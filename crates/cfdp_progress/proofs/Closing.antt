@@ -14,7 +14,7 @@ use Rattle.cfdp_retransmission.specs.Coming.{one_if}
 use Rattle.cfdp_retransmission.specs.Timers.{passed}
 use Rattle.cfdp_retransmission.specs.declared.timer.Expiry.TheVariants.{Again, Limit}
 use Rattle.cfdp_sessions.specs.Closed.{ClosedFields, with_name, remembers}
-use Rattle.cfdp_sessions.specs.Sessions.{SessionFields, name_of, found, without, AreDistinct}
+use Rattle.cfdp_sessions.specs.Sessions.{SessionFields, session_id, found, without_session, AreDistinct}
 use Rattle.cfdp_sessions.specs.declared.session.Stage.{Stage}
 use Rattle.cfdp_sessions.specs.declared.session.Stage.TheVariants.{Held, Known, Over as OverStage, Waiting}
 use Rattle.cfdp_sessions.proofs.Names.{same_self, same_is, both_of, found_name, replaced_self, gone}
@@ -41,8 +41,8 @@ use Rattle.cfdp_progress.proofs.Runs.{distinct_all, mib_all}
 
 -- it is closed, or it stays as it is and the input is no acknowledgement
 data TurnsWaiting (R : State) (i : Input) (id : TransactionId) (s : SessionFields) : Type 0 where
-  Closes : (none : session_of (Turning.after R i) id ≡ None) → (remembered : is_closed (Turning.after R i) id ≡ true) → TurnsWaiting R i id s
-  Stays : (here : session_of (Turning.after R i) id ≡ Some s) → (other : acknowledges R id i ≡ false) → TurnsWaiting R i id s
+  Closes : (none : session_of (Turning.after_input R i) id ≡ None) → (remembered : is_closed (Turning.after_input R i) id ≡ true) → TurnsWaiting R i id s
+  Stays : (here : session_of (Turning.after_input R i) id ≡ Some s) → (other : acknowledges R id i ≡ false) → TurnsWaiting R i id s
 
 -- ---- by the input, of its own
 
@@ -84,7 +84,7 @@ kept_data : (R L : State) (U : World) (rs : List Reply) (h : Header) (piece : Fi
     KeepsWaiting (id_of h) s (Turning.data_parts L U rs h piece (Some s))
 kept_data R L U rs h piece s same here w =
     subst (KeepsWaiting (id_of h) s) (sym
-    (cond-false (Turning.is_known s.stage) (Turning.takes_data L U rs h piece s) (Turning.keeps L (Turning.said s words.Idle)) (ap Turning.is_known w)))
+    (cond-false (Turning.is_known s.stage) (Turning.takes_piece L U rs h piece s) (Turning.keeps L (Turning.said_word s words.Idle)) (ap Turning.is_known w)))
     (ap (λ (ss : List SessionFields). found ss (id_of h)) same ∙ here)
 
 kept_prompt : (R L : State) (h : Header) (prompt : Prompt) (s : SessionFields) → L.sessions ≡ R.sessions → session_of R (id_of h) ≡ Some s →
@@ -92,8 +92,8 @@ kept_prompt : (R L : State) (h : Header) (prompt : Prompt) (s : SessionFields) �
 kept_prompt R L h prompt s same here w =
     let takes = Turning.takes_prompts (at_of L.world s) in
     subst (KeepsWaiting (id_of h) s)
-    (sym (cond-false (s.header.acknowledged && takes) (Turning.puts L (Turning.roused L s) (Turning.prompted L h s prompt))
-    (Turning.keeps L (Turning.said_of h words.Idle)) (and_right s.header.acknowledged takes (ap Turning.takes_prompts (at_waiting L.world s w)))))
+    (sym (cond-false (s.header.acknowledged && takes) (Turning.replaces_one L (Turning.roused L s) (Turning.prompted L h s prompt))
+    (Turning.keeps L (Turning.said_of_header h words.Idle)) (and_right s.header.acknowledged takes (ap Turning.takes_prompts (at_waiting L.world s w)))))
     (ap (λ (ss : List SessionFields). found ss (id_of h)) same ∙ here)
 
 kept_cancel : (R L : State) (rs : List Reply) (id : TransactionId) (s : SessionFields) (stage : Stage) → L.sessions ≡ R.sessions →
@@ -117,8 +117,8 @@ own_ack R now h ack s d here w =
     let ours = Handing.is_ours L h in
     let five = ack.directive == 5 in
     let quiet = Turning.keeps L (Turning.quiet (Turning.foreign h)) in
-    let idle = Turning.keeps L (Turning.said_of h words.Idle) in
-    let closing = Turning.closes L (name_of s) (Turning.said_of h words.Acknowledged) in
+    let idle = Turning.keeps L (Turning.said_of_header h words.Idle) in
+    let closing = Turning.closes L (session_id s) (Turning.said_of_header h words.Acknowledged) in
     let own = Turning.ack_parts L h ack (session_of L id) in
     let staged : own ≡ (if five then closing else idle) = ap (Turning.ack_parts L h ack) here ∙ ap (Turning.ack_stage L h ack s) w in
     elim (cases_Bool ours) [
@@ -131,7 +131,7 @@ own_ack R now h ack s d here w =
         | inl finished ↦
             let parts : Turning.parts R i ≡ closing = cond-true ours own quiet mine ∙ staged ∙ cond-true five closing idle finished in
             let name = found_name R.sessions id s here in
-            Closes (ap (λ (p : Turning.Parts). found p.sessions id) parts ∙ ap (λ (n : TransactionId). found (without R.sessions n) id) name
+            Closes (ap (λ (p : Turning.Parts). found p.sessions id) parts ∙ ap (λ (n : TransactionId). found (without_session R.sessions n) id) name
             ∙ gone R.sessions id d)
             (ap (λ (p : Turning.Parts). remembers p.closed id) parts ∙ ap (λ (n : TransactionId). remembers (with_name R.closed n) id) name
             ∙ remembers_it R.closed id)
@@ -147,11 +147,11 @@ other_turned R i id s here other none = Stays (others_stay R i id other ∙ here
 -- a PDU of its own, or of another transaction
 pdu_turned : (R : State) (i : Input) (h : Header) (id : TransactionId) (s : SessionFields) → session_of R id ≡ Some s → touched R i ≡ id_of h →
     acknowledges R id i ≡ false →
-    (session_of R (id_of h) ≡ Some s → session_of (Turning.after R i) (id_of h) ≡ Some s) → TurnsWaiting R i id s
+    (session_of R (id_of h) ≡ Some s → session_of (Turning.after_input R i) (id_of h) ≡ Some s) → TurnsWaiting R i id s
 pdu_turned R i h id s here of none own = elim (cases_Bool (is_same (id_of h) id)) [
   | inl same ↦
       let it = same_is (id_of h) id same in
-      Stays (subst (λ (n : TransactionId). session_of (Turning.after R i) n ≡ Some s) it (own (ap (found R.sessions) it ∙ here))) none
+      Stays (subst (λ (n : TransactionId). session_of (Turning.after_input R i) n ≡ Some s) it (own (ap (found R.sessions) it ∙ here))) none
   | inr other ↦ other_turned R i id s here (ap (λ (n : TransactionId). is_same n id) of ∙ other) none
 ]
 
@@ -170,7 +170,7 @@ due_kept R now U id s (Dues.Alive_due t) d here w is same none =
     let alive = alive_due L R.sessions t is in
     let it : s ≡ t = is_it R id s t d here alive.0 same in
     absurd (not_alive L t (ap (λ (y : SessionFields). y.stage) (sym it) ∙ w) alive.1)
-due_kept R now U id s (Dues.Stage_due t limit) d here w is same none = absurd (both_of (is_same (name_of t) id) none same)
+due_kept R now U id s (Dues.Stage_due t limit) d here w is same none = absurd (both_of (is_same (session_id t) id) none same)
 
 finish_kept : (R : State) (now : ℕ) (id : TransactionId) (s : SessionFields) (o : Option SessionFields) → AreDistinct R.sessions →
     session_of R id ≡ Some s → s.stage ≡ Waiting → Dues.first_over R.world R.sessions ≡ o →
@@ -244,7 +244,7 @@ turn_of R (CancelAsked now n) id s d here w none = elim (cases_Bool (is_same n i
       let own : session_of R n ≡ Some s = ap (found R.sessions) it ∙ here in
       let kept : KeepsWaiting n s (Turning.cancel_parts L rs n (session_of L n)) =
       subst (λ (o : Option SessionFields). KeepsWaiting n s (Turning.cancel_parts L rs n o)) (sym own) (kept_cancel R L rs n s s.stage refl own w) in
-      Stays (subst (λ (x : TransactionId). session_of (Turning.after R i) x ≡ Some s) it kept) refl
+      Stays (subst (λ (x : TransactionId). session_of (Turning.after_input R i) x ≡ Some s) it kept) refl
   | inr other ↦ other_turned R (CancelAsked now n) id s here other refl
 ]
 turn_of R ForgetAsked id s d here w none = Stays here refl
@@ -254,13 +254,13 @@ turn_of R ForgetAsked id s d here w none = Stays here refl
 still_waits : (R : State) (id : TransactionId) (s : SessionFields) → session_of R id ≡ Some s → s.stage ≡ Waiting → waits_in (session_of R id) ≡ true
 still_waits R id s here w = ap waits_in here ∙ ap is_waiting w
 
-pub closed_later : (R : State) (i : Input) (is : List Input) (id : TransactionId) → WasClosed (Turning.after R i) is id → WasClosed R (i ∷ is) id
+pub closed_later : (R : State) (i : Input) (is : List Input) (id : TransactionId) → WasClosed (Turning.after_input R i) is id → WasClosed R (i ∷ is) id
 closed_later R i is id w =
     record { front = i ∷ w.front; back = w.back; parts = ap (λ (xs : List Input). i ∷ xs) w.parts; gone = w.gone; remembered = w.remembered }
 
 pub closed_after : (R : State) (xs ys : List Input) (id : TransactionId) → WasClosed (Turning.after_all R xs) ys id → WasClosed R (xs ++ ys) id
 closed_after R [] ys id w = w
-closed_after R (x ∷ xs) ys id w = closed_later R x (xs ++ ys) id (closed_after (Turning.after R x) xs ys id w)
+closed_after R (x ∷ xs) ys id w = closed_later R x (xs ++ ys) id (closed_after (Turning.after_input R x) xs ys id w)
 
 joined : (xs ys zs : List Input) → (xs ++ ys) ++ zs ≡ xs ++ (ys ++ zs)
 joined [] ys zs = refl
@@ -291,9 +291,9 @@ pub over : (R : State) (inputs : List Input) (id : TransactionId) (s : SessionFi
 over R [] id s d here w none = inr (here, refl)
 over R (i ∷ is) id s d here w none = elim (turn_of R i id s d here w (none.0 (still_waits R id s here w))) [
   | Closes no_session remembered ↦ inl (record { front = i ∷ []; back = is; parts = refl; gone = no_session; remembered = remembered })
-  | Stays again other ↦ elim (over (Turning.after R i) is id s (distinct_after R i d) again w none.1) [
+  | Stays again other ↦ elim (over (Turning.after_input R i) is id s (distinct_after R i d) again w none.1) [
     | inl was ↦ inl (closed_later R i is id was)
-    | inr left ↦ inr (left.0, or_none (acknowledges R id i) (is_acknowledged (Turning.after R i) id is) other left.1)
+    | inr left ↦ inr (left.0, or_none (acknowledges R id i) (is_acknowledged (Turning.after_input R i) id is) other left.1)
   ]
 ]
 
@@ -324,7 +324,7 @@ ack_is_full R id s moment d here w served =
 -- below its limit the Finished PDU is sent again
 resent : (R : State) (id : TransactionId) (s : SessionFields) (moment : ℕ) → AreDistinct R.sessions → session_of R id ≡ Some s →
     IsServed R id moment false →
-    session_of (Turning.after R (Expire moment)) id ≡ Some (record s { timer = passed (Handing.later moment R).now s.timer Again })
+    session_of (Turning.after_input R (Expire moment)) id ≡ Some (record s { timer = passed (Handing.later moment R).now s.timer Again })
 resent R id s moment d here served =
     let i = Expire moment in
     let L = Handing.later moment R in
@@ -369,7 +369,7 @@ pub rounds_close : (mib : Mib) (R : State) (id : TransactionId) (s : SessionFiel
 rounds_close mib R id s [] same d here w are safe enough = absurd (omega (arith, enough))
 rounds_close mib R id s (round ∷ rounds) same d here w are safe enough =
     let i = Expire round.moment in
-    let N = Turning.after R i in
+    let N = Turning.after_input R i in
     let M = Turning.after_all N round.rest in
     let is = are.0 (still_waits R id s here w) in
     let low = is_low R id s round rounds d here w (subst (λ (m : Mib). IsSafeToSend m.ack.limit s.timer.count (round ∷ rounds)) (sym same) safe) is.served in

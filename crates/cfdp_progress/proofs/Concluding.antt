@@ -12,12 +12,12 @@ use Rattle.cfdp_directives.specs.declared.ack.Ack.{Ack}
 use Rattle.cfdp_directives.specs.declared.prompt.Prompt.{Prompt}
 use Rattle.cfdp_retransmission.specs.declared.timer.Expiry.TheVariants.{NotDue, Again, Limit}
 use Rattle.cfdp_retransmission.specs.declared.timer.Timer.{Timer}
-use Rattle.cfdp_sessions.specs.Sessions.{SessionFields, name_of, found, replaced, AreDistinct}
+use Rattle.cfdp_sessions.specs.Sessions.{SessionFields, session_id, found, replaced, AreDistinct}
 use Rattle.cfdp_sessions.specs.declared.session.Stage.{Stage}
 use Rattle.cfdp_sessions.specs.declared.session.Stage.TheVariants.{Held, Known, Over as OverStage, Waiting}
 use Rattle.cfdp_sessions.proofs.Names.{same_is, both_of, found_name, replaced_self, member_found, IsMember}
 use Rattle.cfdp_transactions.specs.Admission.{metadata_came}
-use Rattle.cfdp_transactions.specs.Delivery.{data_at, data_came, eof_at, eof_came}
+use Rattle.cfdp_transactions.specs.Delivery.{data_at, data_came, eof_without_error, eof_came}
 use Rattle.cfdp_transactions.specs.Ending.{ended, ends, cancelled}
 use Rattle.cfdp_transactions.specs.Entry.{Entry, id_of, is_live, is_receiving, is_executing, takes_data}
 use Rattle.cfdp_transactions.specs.Entry as Entries
@@ -97,12 +97,12 @@ eof_past : (W : World) (id : TransactionId) (eof : Eof) (e : Entry) → Past W i
     OwnPast id (eof_came W (index_of W id) eof (Some e))
 eof_past W id eof e p here past =
     let k = index_of W id in
-    let last : World × Reply = if not (is_receiving e.phase) then (W, Reply.Duplicate) else eof_at W k e eof in
+    let last : World × Reply = if not (is_receiving e.phase) then (W, Reply.Duplicate) else eof_without_error W k e eof in
     let faulted : World × Reply = (ends W k (record e { ended_by_eof = true }) eof.condition, Reply.Faulted eof.condition) in
     cond_both (not (is_live e.phase)) (W, Reply.Idle) (if not (eof.condition == 0) then faulted else last) (OwnPast id) (λ q. p)
     (λ q. cond_both (not (eof.condition == 0)) faulted last (OwnPast id)
     (λ z. ends_past W id e (record e { ended_by_eof = true }) eof.condition (Reply.Faulted eof.condition) here refl)
-    (λ z. subst (OwnPast id) (sym (cond-true (not (is_receiving e.phase)) (W, Reply.Duplicate) (eof_at W k e eof) (receives_not e.phase past))) p))
+    (λ z. subst (OwnPast id) (sym (cond-true (not (is_receiving e.phase)) (W, Reply.Duplicate) (eof_without_error W k e eof) (receives_not e.phase past))) p))
 
 past_before : (n : ℕ) (items : List Item) → takes_data (phase_before n items) ≡ false
 past_before n [] = refl
@@ -176,12 +176,12 @@ kept_still R V id s here known past = record { session = s; here = here; known =
 put_still : (R : State) (V : World) (id : TransactionId) (s t : SessionFields) → session_of R id ≡ Some s → s.stage ≡ Known → t.header ≡ s.header →
     t.stage ≡ s.stage → Past V id → KnownStill V (replaced R.sessions t) id
 put_still R V id s t here known header stage past =
-    let name : name_of t ≡ id = ap id_of header ∙ found_name R.sessions id s here in
+    let name : session_id t ≡ id = ap id_of header ∙ found_name R.sessions id s here in
     record { session = t; here = replaced_self R.sessions t id (s, here) name; known = stage ∙ known; past = past }
 
 heard_still : (R L : State) (U V : World) (id : TransactionId) (s : SessionFields) → session_of R id ≡ Some s → s.stage ≡ Known → Past V id →
-    KnownStill V (replaced R.sessions (Turning.heard L U s)) id
-heard_still R L U V id s here known past = let h = heard_is L U s in put_still R V id s (Turning.heard L U s) here known h.1 h.0 past
+    KnownStill V (replaced R.sessions (Turning.heard_session L U s)) id
+heard_still R L U V id s here known past = let h = heard_is L U s in put_still R V id s (Turning.heard_session L U s) here known h.1 h.0 past
 
 still_if : (W : World) (id : TransactionId) (b : Bool) (es : List Event) (p q : Turning.Parts) → KnownStill (run W es) p.sessions id →
     KnownStill W q.sessions id →
@@ -197,14 +197,14 @@ still_either V id false p q hp hq = hq
 -- ---- inputs of its own
 
 abbrev After : State → Input → TransactionId → Type 0
-After R i id = KnownStill (Turning.after R i).world (Turning.after R i).sessions id
+After R i id = KnownStill (Turning.after_input R i).world (Turning.after_input R i).sessions id
 
 metadata_stage : (R L : State) (U : World) (rs : List Reply) (h : Header) (m : MetadataFields) (s : SessionFields) (stage : Stage) →
     L.sessions ≡ R.sessions → session_of R (id_of h) ≡ Some s → s.stage ≡ Known → Past R.world (id_of h) →
     stage ≡ Known → KnownStill (run R.world (Handing.metadata_in_stage h m s stage)) (Turning.metadata_stage L U rs h m s stage).sessions (id_of h)
 metadata_stage R L U rs h m s (Held eof) same here known p k = absurd cc
 metadata_stage R L U rs h m s Known same here known p k =
-    subst (λ (ss : List SessionFields). KnownStill (next R.world (MetadataCame h m)).0 (replaced ss (Turning.heard L U s)) (id_of h)) (sym same)
+    subst (λ (ss : List SessionFields). KnownStill (next R.world (MetadataCame h m)).0 (replaced ss (Turning.heard_session L U s)) (id_of h)) (sym same)
     (heard_still R L U (next R.world (MetadataCame h m)).0 (id_of h) s here known (metadata_next R.world h m p))
 metadata_stage R L U rs h m s (OverStage ending) same here known p k = absurd cc
 metadata_stage R L U rs h m s Waiting same here known p k = absurd cc
@@ -227,10 +227,10 @@ data_stage : (R L : State) (U : World) (rs : List Reply) (h : Header) (piece : F
     L.sessions ≡ R.sessions → session_of R (id_of h) ≡ Some s → s.stage ≡ Known → Past R.world (id_of h) →
     stage ≡ Known →
     KnownStill (run R.world (Handing.where_known stage (DataCame h piece ∷ [])))
-    (if Turning.is_known stage then Turning.takes_data L U rs h piece s else Turning.keeps L (Turning.said s words.Idle)).sessions (id_of h)
+    (if Turning.is_known stage then Turning.takes_piece L U rs h piece s else Turning.keeps L (Turning.said_word s words.Idle)).sessions (id_of h)
 data_stage R L U rs h piece s (Held eof) same here known p k = absurd cc
 data_stage R L U rs h piece s Known same here known p k =
-    subst (λ (ss : List SessionFields). KnownStill (next R.world (DataCame h piece)).0 (replaced ss (Turning.heard L U s)) (id_of h)) (sym same)
+    subst (λ (ss : List SessionFields). KnownStill (next R.world (DataCame h piece)).0 (replaced ss (Turning.heard_session L U s)) (id_of h)) (sym same)
     (heard_still R L U (next R.world (DataCame h piece)).0 (id_of h) s here known (data_next R.world h piece p))
 data_stage R L U rs h piece s (OverStage ending) same here known p k = absurd cc
 data_stage R L U rs h piece s Waiting same here known p k = absurd cc
@@ -255,7 +255,7 @@ eof_stage : (R L : State) (U : World) (rs : List Reply) (h : Header) (eof : Eof)
     stage ≡ Known → KnownStill (run R.world (Handing.where_known stage (EofCame h eof ∷ []))) (Turning.eof_stage L U rs h eof s stage).sessions (id_of h)
 eof_stage R L U rs h eof s (Held held) same here known p k = absurd cc
 eof_stage R L U rs h eof s Known same here known p k =
-    subst (λ (ss : List SessionFields). KnownStill (next R.world (EofCame h eof)).0 (replaced ss (Turning.heard L U s)) (id_of h)) (sym same)
+    subst (λ (ss : List SessionFields). KnownStill (next R.world (EofCame h eof)).0 (replaced ss (Turning.heard_session L U s)) (id_of h)) (sym same)
     (heard_still R L U (next R.world (EofCame h eof)).0 (id_of h) s here known (eof_next R.world h eof p))
 eof_stage R L U rs h eof s (OverStage ending) same here known p k = absurd cc
 eof_stage R L U rs h eof s Waiting same here known p k = absurd cc
@@ -303,7 +303,7 @@ own_prompt R now h prompt s here known p =
     (Turning.keeps L (Turning.quiet (Turning.foreign h)))
     (subst (λ (o : Option SessionFields). KnownStill R.world (Turning.prompt_parts L h prompt o).sessions (id_of h)) (sym here)
     (still_either R.world (id_of h) (s.header.acknowledged && Turning.takes_prompts (at_of L.world s))
-    (Turning.puts L (Turning.roused L s) (Turning.prompted L h s prompt)) (Turning.keeps L (Turning.said_of h words.Idle))
+    (Turning.replaces_one L (Turning.roused L s) (Turning.prompted L h s prompt)) (Turning.keeps L (Turning.said_of_header h words.Idle))
     (put_still R R.world (id_of h) s (Turning.roused L s) here known r.1 r.0 p) kept))
     kept
 
@@ -349,7 +349,7 @@ past_at (Ended condition) h = inr refl
 at_is : (R : State) (id : TransactionId) (s : SessionFields) (p : Past R.world id) → session_of R id ≡ Some s → s.stage ≡ Known →
     at_of R.world s ≡ at_phase p.entry.phase
 at_is R id s p here known =
-    ap (λ (stage : Stage). at_stage stage (entry_of R.world (name_of s))) known
+    ap (λ (stage : Stage). at_stage stage (entry_of R.world (session_id s))) known
     ∙ ap (λ (n : TransactionId). at_entry (entry_of R.world n)) (found_name R.sessions id s here)
     ∙ ap at_entry p.here
 
@@ -396,7 +396,7 @@ due_still R now U id s (Dues.Stage_due t true) d here known p at is same =
 -- its outcome is handed out, or it goes on
 data TurnsPast (R : State) (i : Input) (id : TransactionId) : Type 0 where
   Concludes : (moment : ℕ) → (is : i ≡ Finish moment) → (s : SessionFields) → (over : Dues.first_over R.world R.sessions ≡ Some s) →
-      (named : name_of s ≡ id) → TurnsPast R i id
+      (named : session_id s ≡ id) → TurnsPast R i id
   Goes_on : (still : After R i id) → TurnsPast R i id
 
 other_still : NextIsSound → NextIsPromised → (R : State) (i : Input) (id : TransactionId) (s : SessionFields) → Sound R.world → session_of R id ≡ Some s →
@@ -435,8 +435,8 @@ finish_turned next_sound promised R now id s None sound here known p is =
     let L = Handing.later now R in
     Goes_on (subst (λ (o : Option SessionFields). KnownStill (run R.world (Handing.take_of o)) (Turning.finish_parts L o).sessions id) (sym is)
     (kept_still R R.world id s here known p))
-finish_turned next_sound promised R now id s (Some t) sound here known p is = elim (cases_Bool (is_same (name_of t) id)) [
-  | inl same ↦ Concludes now refl t is (same_is (name_of t) id same)
+finish_turned next_sound promised R now id s (Some t) sound here known p is = elim (cases_Bool (is_same (session_id t) id)) [
+  | inl same ↦ Concludes now refl t is (same_is (session_id t) id same)
   | inr other ↦ Goes_on (other_still next_sound promised R (Finish now) id s sound here known p refl
       (ap (λ (o : Option SessionFields). is_same (session_name o) id) is ∙ other))
 ]
@@ -505,7 +505,7 @@ member_by x xs id s false h later = inr (later h)
 
 found_member : (ss : List SessionFields) (id : TransactionId) (s : SessionFields) → found ss id ≡ Some s → IsMember s ss
 found_member [] id s h = absurd cc
-found_member (x ∷ xs) id s h = member_by x xs id s (is_same (name_of x) id) h (found_member xs id s)
+found_member (x ∷ xs) id s h = member_by x xs id s (is_same (session_id x) id) h (found_member xs id s)
 
 -- where an item of an entry is next, some item is
 runs : (table : List Entry) (k : ℕ) (e : Entry) → slice_get table k ≡ Some e → is_executing e.phase ≡ true → is_some (next_runnable table) ≡ true
@@ -545,7 +545,7 @@ left_none R id s here known p none =
           (overs R.world R.sessions s (found_member R.sessions id s here) (ap Dues.is_over (at_is R id s p here known ∙ over)))
     ]
 
-pub concluded_later : (R : State) (i : Input) (is : List Input) (id : TransactionId) → WasConcluded (Turning.after R i) is id → WasConcluded R (i ∷ is) id
+pub concluded_later : (R : State) (i : Input) (is : List Input) (id : TransactionId) → WasConcluded (Turning.after_input R i) is id → WasConcluded R (i ∷ is) id
 concluded_later R i is id w =
     record {
       front = i ∷ w.front;
@@ -566,7 +566,8 @@ goes next_sound promised R (i ∷ is) id s sound d here known p none = elim (tur
   | Concludes moment finish t over named ↦
       record { front = []; moment = moment; back = is; parts = ap (λ (x : Input). x ∷ is) finish; session = t; over = over; named = named }
   | Goes_on still ↦
-      concluded_later R i is id (goes next_sound promised (Turning.after R i) is id still.session (run_sound next_sound R.world (Handing.handed R i) sound)
+      concluded_later R i is id (goes next_sound promised (Turning.after_input R i) is id still.session
+      (run_sound next_sound R.world (Handing.handed R i) sound)
       (distinct_after R i d) still.here still.known still.past none)
 ]
 
@@ -577,16 +578,16 @@ concluded_when_done next_sound promised R inputs id s e sound d here known there
 -- ---- its Finished PDU
 
 sent_and_waits : (R : State) (moment : ℕ) (s : SessionFields) (x : Option Entry) → AreDistinct R.sessions → Dues.first_over R.world R.sessions ≡ Some s →
-    s.is_abandoned ≡ false → s.header.acknowledged ≡ true → entry_of R.world (name_of s) ≡ x → (Turning.outcome_for s x).send ≡ true →
+    s.is_abandoned ≡ false → s.header.acknowledged ≡ true → entry_of R.world (session_id s) ≡ x → (Turning.outcome_for s x).send ≡ true →
     IsSentAndWaits R moment s (Turning.outcome_for s x)
 sent_and_waits R moment s x d over kept mode there sends =
     let i = Finish moment in
     let L = Handing.later moment R in
     let o = Turning.outcome_for s x in
-    let closed = Turning.closes L (name_of s) (Turning.said s words.Closed) in
-    let quietly = Turning.closes L (name_of s) (Turning.concluded s o words.Closed) in
-    let unacknowledged = Turning.closes L (name_of s) (Turning.sends_it s o words.Closed) in
-    let waiting = Turning.puts L (Turning.waits L s o) (Turning.sends_it s o words.Finished) in
+    let closed = Turning.closes L (session_id s) (Turning.said_word s words.Closed) in
+    let quietly = Turning.closes L (session_id s) (Turning.concluded s o words.Closed) in
+    let unacknowledged = Turning.closes L (session_id s) (Turning.sends_it s o words.Closed) in
+    let waiting = Turning.replaces_one L (Turning.waits_for_ack L s o) (Turning.sends_it s o words.Finished) in
     let third = if not s.header.acknowledged then unacknowledged else waiting in
     let second = if not o.send then quietly else third in
     let parts : Turning.parts R i ≡ waiting =
@@ -595,11 +596,12 @@ sent_and_waits R moment s x d over kept mode there sends =
     ∙ cond-false s.is_abandoned closed second kept
     ∙ cond-false (not o.send) quietly third (ap not sends)
     ∙ cond-false (not s.header.acknowledged) unacknowledged waiting (ap not mode) in
-    let here : session_of R (name_of s) ≡ Some s = member_found R.sessions s d (first_over_is R.world R.sessions s over).0 in
+    let here : session_of R (session_id s) ≡ Some s = member_found R.sessions s d (first_over_is R.world R.sessions s over).0 in
     record {
       sent = ap (λ (p : Turning.Parts). p.answer.finished) parts;
-      waiting = Turning.waits L s o;
-      here = ap (λ (p : Turning.Parts). found p.sessions (name_of s)) parts ∙ replaced_self R.sessions (Turning.waits L s o) (name_of s) (s, here) refl;
+      waiting = Turning.waits_for_ack L s o;
+      here = ap (λ (p : Turning.Parts). found p.sessions (session_id s)) parts ∙ replaced_self R.sessions (Turning.waits_for_ack L s o) (session_id s)
+          (s, here) refl;
       waits = refl;
       anew = refl;
     }

@@ -15,7 +15,7 @@ use Rattle.cfdp_transactions.specs.Entry.{Entry, id_of, is_live, is_receiving, t
 use Rattle.cfdp_transactions.specs.declared.event.Event.{Event}
 use Rattle.cfdp_transactions.specs.declared.reply.Reply.{Reply}
 use Rattle.cfdp_transactions.specs.declared.event.Event.TheVariants.{Metadata as MetadataCame, Data as DataCame, Eof as EofCame, Step, Cancel, Check, Take}
-use Rattle.cfdp_transactions.specs.World.{World, bound, spare, leases_of, index_of, entry_of}
+use Rattle.cfdp_transactions.specs.World.{World, bound, spare_blocks, leases_of, index_of, entry_of}
 use Rattle.cfdp_transactions.specs.Admission.{judged, is_known_checksum, metadata_came, proposal_of}
 use Rattle.cfdp_transactions.specs.Delivery.{is_right_checksum, whole, limit, storing, stores, after_eof, stored, data_came, eof_came, check_at, checked}
 use Rattle.cfdp_transactions.specs.Execution.{step_at, step_in, stepped, act_now}
@@ -36,7 +36,7 @@ metadata_same W h m None =
     cond_both (nat_le 64 (length W.table)) _ _ S (λ _. refl)
     (λ _. cond_both (nat_lt 64 (length m.requests)) _ _ S (λ _. refl)
     (λ _. cond_both (has_file m && not (is_known_checksum m.checksum_type)) _ _ S (λ _. refl)
-    (λ _. judged_same W h m (verdict W.config.prefixes W.filestore (leases_of W.table) (spare W) (proposal_of W.config m)))))
+    (λ _. judged_same W h m (verdict W.config.prefixes W.filestore (leases_of W.table) (spare_blocks W) (proposal_of W.config m)))))
 
 whole_same : (W : World) (k : ℕ) (e : Entry) (sum : ℕ) → Same W.config (whole W k e sum)
 whole_same W k e sum = cond_both (is_right_checksum e sum) _ _ (Same W.config) (λ _. refl) (λ _. refl)

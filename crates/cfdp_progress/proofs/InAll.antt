@@ -9,7 +9,7 @@ use Rattle.cfdp_pdus.specs.declared.eof.Eof.{Eof}
 use Rattle.cfdp_retransmission.specs.Coming.{one_if}
 use Rattle.cfdp_retransmission.specs.Rounds.{Exchange, asked_for, lost_in, spare_round, WholeAfterLosses}
 use Rattle.cfdp_sessions.specs.Closed.{remembers}
-use Rattle.cfdp_sessions.specs.Sessions.{SessionFields, name_of, found, AreDistinct}
+use Rattle.cfdp_sessions.specs.Sessions.{SessionFields, session_id, found, AreDistinct}
 use Rattle.cfdp_sessions.specs.declared.session.Stage.{Stage}
 use Rattle.cfdp_sessions.specs.declared.session.Stage.TheVariants.{Held, Known, Over as OverStage, Waiting}
 use Rattle.cfdp_sessions.proofs.Names.{same_self, replaced_self, gone, member_found}
@@ -26,8 +26,8 @@ use Rattle.cfdp_receiver.specs.State.{State, Input, Expire, Finish, session_of}
 use Rattle.cfdp_receiver.specs.Due as Dues
 use Rattle.cfdp_receiver.specs.Handing as Handing
 use Rattle.cfdp_receiver.specs.Turning as Turning
-use Rattle.cfdp_receiver.specs.Turning.{most_requests, parts, after, after_all}
-use Rattle.cfdp_receiver.specs.Laws.{is_known, knows, AreKnown}
+use Rattle.cfdp_receiver.specs.Turning.{most_nak_requests, parts, after_input, after_all}
+use Rattle.cfdp_receiver.specs.Laws.{is_known_session, knows, AreKnown}
 use Rattle.cfdp_receiver.proofs.Distinct.{distinct_after}
 use Rattle.cfdp_receiver.proofs.Knowing.{Laws, known_after}
 use Rattle.cfdp_receiver.proofs.Limits.{first_over_is}
@@ -51,7 +51,7 @@ pub known_all : Laws → NextIsSound → NextIsPromised → (R : State) (inputs 
     AreKnown (after_all R inputs)
 known_all laws next_sound promised R [] sound d known = known
 known_all laws next_sound promised R (i ∷ is) sound d known =
-    known_all laws next_sound promised (after R i) is (run_sound next_sound R.world (Handing.handed R i) sound) (distinct_after R i d)
+    known_all laws next_sound promised (after_input R i) is (run_sound next_sound R.world (Handing.handed R i) sound) (distinct_after R i d)
     (known_after laws next_sound promised R i sound d known)
 
 -- a session that is known
@@ -60,7 +60,7 @@ record HasKnown (R : State) (id : TransactionId) : Type 0 where
   here : session_of R id ≡ Some session
   known : session.stage ≡ Known
 
-known_stage : (stage : Stage) → is_known stage ≡ true → stage ≡ Known
+known_stage : (stage : Stage) → is_known_session stage ≡ true → stage ≡ Known
 known_stage (Held eof) h = absurd cc
 known_stage Known h = refl
 known_stage (OverStage ending) h = absurd cc
@@ -78,45 +78,45 @@ Handed id p =
     ((found p.sessions id ≡ None) × (remembers p.closed id ≡ true))
     ⊎ ((u : SessionFields) × (found p.sessions id ≡ Some u) × (u.stage ≡ Waiting) × (u.timer.count ≡ 0))
 
-finish_hands : (R : State) (s : SessionFields) (o : Outcome) → AreDistinct R.sessions → found R.sessions (name_of s) ≡ Some s →
-    Handed (name_of s) (Turning.finish_session R s o)
+finish_hands : (R : State) (s : SessionFields) (o : Outcome) → AreDistinct R.sessions → found R.sessions (session_id s) ≡ Some s →
+    Handed (session_id s) (Turning.finish_session R s o)
 finish_hands R s o d here =
-    let H = Handed (name_of s) in
-    let closed = Turning.closes R (name_of s) (Turning.said s words.Closed) in
-    let quietly = Turning.closes R (name_of s) (Turning.concluded s o words.Closed) in
-    let unacknowledged = Turning.closes R (name_of s) (Turning.sends_it s o words.Closed) in
-    let waiting = Turning.puts R (Turning.waits R s o) (Turning.sends_it s o words.Finished) in
+    let H = Handed (session_id s) in
+    let closed = Turning.closes R (session_id s) (Turning.said_word s words.Closed) in
+    let quietly = Turning.closes R (session_id s) (Turning.concluded s o words.Closed) in
+    let unacknowledged = Turning.closes R (session_id s) (Turning.sends_it s o words.Closed) in
+    let waiting = Turning.replaces_one R (Turning.waits_for_ack R s o) (Turning.sends_it s o words.Finished) in
     let third = if not s.header.acknowledged then unacknowledged else waiting in
     let second = if not o.send then quietly else third in
-    let none = gone R.sessions (name_of s) d in
-    let named = remembers_it R.closed (name_of s) in
+    let none = gone R.sessions (session_id s) d in
+    let named = remembers_it R.closed (session_id s) in
     cond_both s.is_abandoned closed second H (λ q. inl (none, named))
     (λ q. cond_both (not o.send) quietly third H (λ z. inl (none, named))
     (λ z. cond_both (not s.header.acknowledged) unacknowledged waiting H (λ x. inl (none, named))
-    (λ x. inr (Turning.waits R s o, replaced_self R.sessions (Turning.waits R s o) (name_of s) (s, here) refl, refl, refl))))
+    (λ x. inr (Turning.waits_for_ack R s o, replaced_self R.sessions (Turning.waits_for_ack R s o) (session_id s) (s, here) refl, refl, refl))))
 
 finish_handed : (R : State) (moment : ℕ) (s : SessionFields) (id : TransactionId) → AreDistinct R.sessions → Dues.first_over R.world R.sessions ≡ Some s →
-    name_of s ≡ id → Handed id (parts R (Finish moment))
+    session_id s ≡ id → Handed id (parts R (Finish moment))
 finish_handed R moment s id d is named =
     let L = Handing.later moment R in
     let here = member_found R.sessions s d (first_over_is R.world R.sessions s is).0 in
     subst (λ (n : TransactionId). Handed n (parts R (Finish moment))) named
-    (subst (Handed (name_of s)) (sym (ap (Turning.finish_parts L) is)) (finish_hands L s (Turning.outcome_for s (entry_of R.world (name_of s))) d here))
+    (subst (Handed (session_id s)) (sym (ap (Turning.finish_parts L) is)) (finish_hands L s (Turning.outcome_for s (entry_of R.world (session_id s))) d here))
 
 -- ---- the round in which the file is delivered
 
 once_after : (R : State) (xs ys : List Input) (id : TransactionId) → IsSentOnce R id (xs ++ ys) → IsSentOnce (after_all R xs) id ys
 once_after R [] ys id once = once
-once_after R (x ∷ xs) ys id once = once_after (after R x) xs ys id once.1
+once_after R (x ∷ xs) ys id once = once_after (after_input R x) xs ys id once.1
 
 acknowledged_after : (lost : Bool) (R : State) (xs ys : List Input) (id : TransactionId) → IsAcknowledgedAfter lost R id (xs ++ ys) →
     IsAcknowledgedAfter lost (after_all R xs) id ys
 acknowledged_after lost R [] ys id comes = comes
-acknowledged_after lost R (x ∷ xs) ys id comes = acknowledged_after lost (after R x) xs ys id comes.1
+acknowledged_after lost R (x ∷ xs) ys id comes = acknowledged_after lost (after_input R x) xs ys id comes.1
 
 concluded_after : (R : State) (xs ys : List Input) (id : TransactionId) → WasConcluded (after_all R xs) ys id → WasConcluded R (xs ++ ys) id
 concluded_after R [] ys id w = w
-concluded_after R (x ∷ xs) ys id w = concluded_later R x (xs ++ ys) id (concluded_after (after R x) xs ys id w)
+concluded_after R (x ∷ xs) ys id w = concluded_later R x (xs ++ ys) id (concluded_after (after_input R x) xs ys id w)
 
 -- the session is closed in it, or its Finished PDU was sent, and that or the acknowledgement is lost
 data Ends (N : State) (rest : List Input) (id : TransactionId) (lost : Bool) : Type 0 where
@@ -129,7 +129,7 @@ ends_concluded : (N : State) (rest : List Input) (id : TransactionId) (lost : Bo
 ends_concluded N rest id lost d watched w =
     let i = Finish w.moment in
     let G = after_all N w.front in
-    let P = after G i in
+    let P = after_input G i in
     let apart = distinct_all N w.front d in
     let once : IsSentOnce P id w.back = (once_after N w.front (i ∷ w.back) id (subst (IsSentOnce N id) w.parts watched.once)).1 in
     let is : concludes G id i ≡ true = ap (is_session_of id) w.over ∙ ap (λ (n : TransactionId). is_same n id) w.named ∙ same_self id in
@@ -229,15 +229,15 @@ close_rest mib M id u rounds same d here w are safe enough =
 all_go : Laws → NextIsSound → NextIsPromised → WholeAfterLosses →
     (mib : Mib) (R : State) (id : TransactionId) (rounds : List EitherRound) (e : Entry) (eof : Eof) (s : SessionFields) (rs : Received)
     (done : List Exchange) →
-    R.mib ≡ mib → Sound R.world → AreDistinct R.sessions → AreKnown R → Before R id e eof s → SoFar (most_requests mib) rs eof done e →
+    R.mib ≡ mib → Sound R.world → AreDistinct R.sessions → AreKnown R → Before R id e eof s → SoFar (most_nak_requests mib) rs eof done e →
     AreEitherRounds R id rounds → AreBothSafe mib s.timer.count rs done rounds →
     lost_in done + total_lost rounds + spare_round rs < length done + length rounds → WasClosed R (flat_map inputs_of rounds) id
 all_go laws next_sound promised whole mib R id [] e eof s rs done same sound d known b so are safe enough =
-    absurd (omega (arith, enough, not_enough whole R id e eof s (most_requests mib) rs done sound b so))
+    absurd (omega (arith, enough, not_enough whole R id e eof s (most_nak_requests mib) rs done sound b so))
 all_go laws next_sound promised whole mib R id (round ∷ rounds) e eof s rs done same sound d known b so are safe enough =
-    let most = most_requests mib in
+    let most = most_nak_requests mib in
     let i = Expire round.moment in
-    let N = after R i in
+    let N = after_input R i in
     let M = after_all N round.rest in
     let exchange = round.exchange in
     let naks = (parts R i).answer.naks in
@@ -248,7 +248,7 @@ all_go laws next_sound promised whole mib R id (round ∷ rounds) e eof s rs don
     (subst (λ (m : Mib). Room round.is_at_limit m.nak.limit s.timer.count rs done) (sym same) room) is.served in
     let opened = open_expire R id e eof s round.moment d b (subst (IsServed R id round.moment) low is.served) in
     let asks : requests_of_each naks ≡ asked_for most eof.size e.received =
-    opened.asks ∙ ap (λ (m : Mib). asked_for (most_requests m) eof.size e.received) same in
+    opened.asks ∙ ap (λ (m : Mib). asked_for (most_nak_requests m) eof.size e.received) same in
     let sound_now = run_sound next_sound R.world (Handing.handed R i) sound in
     let apart = distinct_after R i d in
     let known_now = known_after laws next_sound promised R i sound d known in
@@ -293,9 +293,9 @@ pub closed_in_all : OnlyTakeRemoves → TakeRemoves → NextIsSound → NextIsPr
 closed_in_all only_take takes next_sound promised whole R id first is_lost rounds e eof sound d known some r watched are low enough =
     let laws : Laws = record { only_take = only_take; takes = takes } in
     let mib = R.mib in
-    let most = most_requests mib in
+    let most = most_nak_requests mib in
     let i = first.opening in
-    let N = after R i in
+    let N = after_input R i in
     let M = after_all N first.rest in
     let exchange = first.exchange in
     let naks = (parts R i).answer.naks in

@@ -19,10 +19,10 @@ use Rattle.cfdp_transactions.specs.World.{entry_of}
 use Rattle.cfdp_receiver.specs.declared.mib.Mib.{Mib}
 use Rattle.cfdp_receiver.specs.State.{State, Input, MetadataPdu, DataPdu, EofPdu, AckPdu, PromptPdu, OtherPdu, Expire, Work, Finish, CancelAsked, ForgetAsked, session_of}
 use Rattle.cfdp_receiver.specs.Handing.{is_ours}
-use Rattle.cfdp_receiver.specs.Turning.{most_requests, after, after_all}
+use Rattle.cfdp_receiver.specs.Turning.{most_nak_requests, after_input, after_all}
 use Rattle.cfdp_receiver.proofs.Distinct.{distinct_after}
 use Rattle.cfdp_receiver.proofs.Knowing.{Laws}
-use Rattle.cfdp_progress.specs.HeldRounds.{is_held, holds_in, holds_eof, joins, comes, HeldRound, held_inputs, IsHeldRound, AreHeldRounds, has_come, lost_while_held, AreHeldBelow, MetadataCame, MetadataComes, until_metadata, ClosedFromHeld}
+use Rattle.cfdp_progress.specs.HeldRounds.{is_eof_held, holds_in, holds_eof, joins_held, comes, HeldRound, held_inputs, IsHeldRound, AreHeldRounds, comes_in, lost_while_held, AreHeldBelow, MetadataCame, MetadataComes, until_metadata, ClosedFromHeld}
 use Rattle.cfdp_progress.specs.InAll.{EitherRound, inputs_of, lost_in_all}
 use Rattle.cfdp_progress.specs.NakRounds.{MetadataOpens, Opens, FirstRound}
 use Rattle.cfdp_progress.proofs.Closing.{closed_after}
@@ -38,9 +38,9 @@ record Loses (R : State) (id : TransactionId) (round : HeldRound) (count : ℕ) 
   still : StillHeld (after_all R (held_inputs round)) id count
 
 round_loses : (R : State) (id : TransactionId) (round : HeldRound) (count : ℕ) → AreDistinct R.sessions → Opened R round.opening id count →
-    IsHeldRound R id round → comes (after R round.opening) id round.rest ≡ false → Loses R id round count
+    IsHeldRound R id round → comes (after_input R round.opening) id round.rest ≡ false → Loses R id round count
 round_loses R id round count d opened is none =
-    let N = after R round.opening in
+    let N = after_input R round.opening in
     let still = stays_held N round.rest id count (distinct_after R round.opening d) opened.still is.goes_on none in
     elim (cases_Bool round.is_lost) [
       | inl lost ↦ record { lost = lost; still = still }
@@ -62,14 +62,14 @@ low_rest : (round : HeldRound) (rounds : List HeldRound) (so_far limit : ℕ) �
 low_rest round rounds so_far limit lost (inl below) = inl below.1
 low_rest round rounds so_far limit lost (inr room) = inr (omega (arith, room, ap one_if lost))
 
-few_again : (R : State) (id : TransactionId) (rounds : List HeldRound) (count : ℕ) (mib : Mib) → R.mib ≡ mib → 1 ≤ most_requests mib →
-    AreDistinct R.sessions → StillHeld R id count → AreHeldRounds R id rounds → has_come R id rounds ≡ false →
+few_again : (R : State) (id : TransactionId) (rounds : List HeldRound) (count : ℕ) (mib : Mib) → R.mib ≡ mib → 1 ≤ most_nak_requests mib →
+    AreDistinct R.sessions → StillHeld R id count → AreHeldRounds R id rounds → comes_in R id rounds ≡ false →
     Low rounds (count + 1) mib.nak.limit → length rounds ≤ lost_while_held rounds
 few_again R id [] count mib same some d h are none low = omega arith
 few_again R id (round ∷ rounds) count mib same some d h are none low =
     let M = after_all R (held_inputs round) in
-    let no = or_parts (comes (after R round.opening) id round.rest) (has_come M id rounds) none in
-    let most : 1 ≤ most_requests R.mib = subst (λ (m : Mib). 1 ≤ most_requests m) (sym same) some in
+    let no = or_parts (comes (after_input R round.opening) id round.rest) (comes_in M id rounds) none in
+    let most : 1 ≤ most_nak_requests R.mib = subst (λ (m : Mib). 1 ≤ most_nak_requests m) (sym same) some in
     let opened = opened_again R id round.opening round.is_at_limit count most d h (room_of R round rounds (count + 1) mib same low) are.0.begins in
     let loses = round_loses R id round (count + 1) d opened are.0 no.0 in
     let rest =
@@ -77,12 +77,12 @@ few_again R id (round ∷ rounds) count mib same some d h are none low =
     (are.1 no.0) no.1 (low_rest round rounds (count + 1) mib.nak.limit loses.lost low) in
     omega (arith, rest, ap one_if loses.lost)
 
-few_held : (R : State) (id : TransactionId) (rounds : List HeldRound) → AreDistinct R.sessions → session_of R id ≡ None → 1 ≤ most_requests R.mib →
-    AreHeldRounds R id rounds → has_come R id rounds ≡ false → Low rounds 0 R.mib.nak.limit → length rounds ≤ lost_while_held rounds
+few_held : (R : State) (id : TransactionId) (rounds : List HeldRound) → AreDistinct R.sessions → session_of R id ≡ None → 1 ≤ most_nak_requests R.mib →
+    AreHeldRounds R id rounds → comes_in R id rounds ≡ false → Low rounds 0 R.mib.nak.limit → length rounds ≤ lost_while_held rounds
 few_held R id [] d new some are none low = omega arith
 few_held R id (round ∷ rounds) d new some are none low =
     let M = after_all R (held_inputs round) in
-    let no = or_parts (comes (after R round.opening) id round.rest) (has_come M id rounds) none in
+    let no = or_parts (comes (after_input R round.opening) id round.rest) (comes_in M id rounds) none in
     let opened = opened_first R id round.opening round.is_at_limit some d new are.0.begins in
     let loses = round_loses R id round 0 d opened are.0 no.0 in
     let rest =
@@ -102,7 +102,7 @@ record HeldSession (R : State) (id : TransactionId) : Type 0 where
   eof : Eof
   held : session.stage ≡ Held eof
 
-eof_of : (stage : Stage) → is_held stage ≡ true → (eof : Eof) × (stage ≡ Held eof)
+eof_of : (stage : Stage) → is_eof_held stage ≡ true → (eof : Eof) × (stage ≡ Held eof)
 eof_of (Held eof) h = (eof, refl)
 eof_of Known h = absurd cc
 eof_of (OverStage ending) h = absurd cc
@@ -112,7 +112,7 @@ session_by : (R : State) (id : TransactionId) (o : Option SessionFields) → ses
 session_by R id None here h = absurd cc
 session_by R id (Some s) here h = let e = eof_of s.stage h in record { session = s; here = here; eof = e.0; held = e.1 }
 
-came_later : (R : State) (i : Input) (is : List Input) (id : TransactionId) → MetadataCame (after R i) is id → MetadataCame R (i ∷ is) id
+came_later : (R : State) (i : Input) (is : List Input) (id : TransactionId) → MetadataCame (after_input R i) is id → MetadataCame R (i ∷ is) id
 came_later R i is id c = record {
   front = i ∷ c.front;
   moment = c.moment;
@@ -125,7 +125,7 @@ came_later R i is id c = record {
 
 came_after : (R : State) (xs ys : List Input) (id : TransactionId) → MetadataCame (after_all R xs) ys id → MetadataCame R (xs ++ ys) id
 came_after R [] ys id c = c
-came_after R (x ∷ xs) ys id c = came_later R x (xs ++ ys) id (came_after (after R x) xs ys id c)
+came_after R (x ∷ xs) ys id c = came_later R x (xs ++ ys) id (came_after (after_input R x) xs ys id c)
 
 joined : (xs ys zs : List Input) → (xs ++ ys) ++ zs ≡ xs ++ (ys ++ zs)
 joined [] ys zs = refl
@@ -142,7 +142,7 @@ came_before R xs ys id c = record {
   opens = c.opens;
 }
 
-came_here : (R : State) (i : Input) (is : List Input) (id : TransactionId) → joins R id i ≡ true → MetadataCame R (i ∷ is) id
+came_here : (R : State) (i : Input) (is : List Input) (id : TransactionId) → joins_held R id i ≡ true → MetadataCame R (i ∷ is) id
 came_here R (MetadataPdu now h m) is id it =
     let all = and_parts (is_ours R h) (is_same (id_of h) id && (h.acknowledged && holds_eof R id)) it in
     let named = and_parts (is_same (id_of h) id) (h.acknowledged && holds_eof R id) all.1 in
@@ -182,24 +182,25 @@ one_of false b h = inr h
 
 came_in : (R : State) (inputs : List Input) (id : TransactionId) → comes R id inputs ≡ true → MetadataCame R inputs id
 came_in R [] id it = absurd cc
-came_in R (i ∷ is) id it = elim (one_of (joins R id i) (comes (after R i) id is) it) [
+came_in R (i ∷ is) id it = elim (one_of (joins_held R id i) (comes (after_input R i) id is) it) [
   | inl here ↦ came_here R i is id here
-  | inr rest ↦ came_later R i is id (came_in (after R i) is id rest)
+  | inr rest ↦ came_later R i is id (came_in (after_input R i) is id rest)
 ]
 
-came_in_rounds : (R : State) (rounds : List HeldRound) (id : TransactionId) → has_come R id rounds ≡ true →
+came_in_rounds : (R : State) (rounds : List HeldRound) (id : TransactionId) → comes_in R id rounds ≡ true →
     MetadataCame R (flat_map held_inputs rounds) id
 came_in_rounds R [] id it = absurd cc
 came_in_rounds R (round ∷ rounds) id it =
     let M = after_all R (held_inputs round) in
     let others = flat_map held_inputs rounds in
-    elim (one_of (comes (after R round.opening) id round.rest) (has_come M id rounds) it) [
-      | inl here ↦ came_before R (held_inputs round) others id (came_later R round.opening round.rest id (came_in (after R round.opening) round.rest id here))
+    elim (one_of (comes (after_input R round.opening) id round.rest) (comes_in M id rounds) it) [
+      | inl here ↦ came_before R (held_inputs round) others id (came_later R round.opening round.rest id
+          (came_in (after_input R round.opening) round.rest id here))
       | inr rest ↦ came_after R (held_inputs round) others id (came_in_rounds M rounds id rest)
     ]
 
 pub metadata_comes : MetadataComes
-metadata_comes R id rounds d new some are low enough = elim (cases_Bool (has_come R id rounds)) [
+metadata_comes R id rounds d new some are low enough = elim (cases_Bool (comes_in R id rounds)) [
   | inl come ↦ came_in_rounds R rounds id come
   | inr none ↦ absurd (omega (arith, enough, few_held R id rounds d new some are none (low_first rounds R.mib.nak.limit low)))
 ]
@@ -237,13 +238,13 @@ closed_from_held only_take takes next_sound promised whole R id held before mome
     let S = after_all R inputs in
     let known_then = known_all laws next_sound promised R inputs sound d known in
     let opens : MetadataOpens S id h = subst (Opens S id) opening r.opens in
-    let there = ap (λ (i : Input). entry_of (after S i).world id) (sym opening) ∙ r.awaits.core.here in
+    let there = ap (λ (i : Input). entry_of (after_input S i).world id) (sym opening) ∙ r.awaits.core.here in
     let spare : spare_round e.received ≡ 0 = ap spare_round (nothing_kept S id moment h m known_then opens e there) in
     let few = few_held R id held d new some are none (low_held held first is_lost rounds R.mib low) in
     let same = mib_all R inputs in
     closed_after R inputs (first.opening ∷ first.rest ++ flat_map inputs_of rounds) id
     (closed_in_all only_take takes next_sound promised whole S id first is_lost rounds e eof
     (sound_all next_sound R inputs sound) (distinct_all R inputs d) known_then
-    (subst (λ (mib : Mib). 1 ≤ most_requests mib) (sym same) some) r watched later
+    (subst (λ (mib : Mib). 1 ≤ most_nak_requests mib) (sym same) some) r watched later
     (low_later held first is_lost rounds (spare_round e.received) R.mib S.mib (sym same) spare low)
     (omega (arith, enough, few, spare)))

@@ -9,13 +9,13 @@ use Rattle.cfdp_pdus.specs.Values.{MetadataFields}
 use Rattle.cfdp_pdus.specs.declared.eof.Eof.{Eof}
 use Rattle.cfdp_pdus.specs.declared.header.Header.{Header}
 use Rattle.cfdp_directives.specs.Reading.{NakFields}
-use Rattle.cfdp_retransmission.specs.Naks.{Range, Nak, naks}
+use Rattle.cfdp_retransmission.specs.Naks.{SegmentRequest, Nak, naks}
 use Rattle.cfdp_retransmission.specs.Rounds.{asked_for}
 use Rattle.cfdp_retransmission.specs.Timers.{expiry, passed, restarted}
 use Rattle.cfdp_retransmission.specs.declared.timer.Expiry.TheVariants.{NotDue, Again, Limit}
 use Rattle.cfdp_retransmission.specs.declared.timer.Timer.{Timer}
 use Rattle.cfdp_retransmission.proofs.Waiting.{Early, Due, Over, why}
-use Rattle.cfdp_sessions.specs.Sessions.{SessionFields, name_of, found, replaced, AreDistinct}
+use Rattle.cfdp_sessions.specs.Sessions.{SessionFields, session_id, found, replaced, AreDistinct}
 use Rattle.cfdp_sessions.specs.declared.session.Stage.{Stage}
 use Rattle.cfdp_sessions.specs.declared.session.Stage.TheVariants.{Known}
 use Rattle.cfdp_sessions.proofs.Names.{same_self, found_name, replaced_self}
@@ -30,7 +30,7 @@ use Rattle.cfdp_receiver.specs.declared.answer.Word.TheVariants as words
 use Rattle.cfdp_receiver.specs.declared.mib.Mib.{Mib}
 use Rattle.cfdp_receiver.specs.declared.at.At.{At}
 use Rattle.cfdp_receiver.specs.declared.at.At.TheVariants.{Awaiting as At_awaiting}
-use Rattle.cfdp_receiver.specs.State.{State, AnswerFields, Input, MetadataPdu, DataPdu, EofPdu, AckPdu, PromptPdu, OtherPdu, Expire, Work, Finish, CancelAsked, ForgetAsked, session_of, at_of, turned}
+use Rattle.cfdp_receiver.specs.State.{State, AnswerFields, Input, MetadataPdu, DataPdu, EofPdu, AckPdu, PromptPdu, OtherPdu, Expire, Work, Finish, CancelAsked, ForgetAsked, session_of, at_of, turned_header}
 use Rattle.cfdp_receiver.specs.Due as Dues
 use Rattle.cfdp_receiver.specs.Handing as Handing
 use Rattle.cfdp_receiver.specs.Turning as Turning
@@ -44,34 +44,35 @@ use Rattle.cfdp_progress.proofs.Runs.{before_of}
 -- ---- the requests of a sequence for its gaps
 
 abbrev with_header : Header → Nak → NakFields
-with_header h nak = record { header = turned h; scope = nak.scope; requests = nak.requests }
+with_header h nak = record { header = turned_header h; scope = nak.scope; requests = nak.requests }
 
 requests_are : (h : Header) (xs : List Nak) → requests_of_each (map (with_header h) xs) ≡ map (λ (n : Nak). n.requests) xs
 requests_are h [] = refl
-requests_are h (x ∷ xs) = ap (λ (rest : List (List Range)). x.requests ∷ rest) (requests_are h xs)
+requests_are h (x ∷ xs) = ap (λ (rest : List (List SegmentRequest)). x.requests ∷ rest) (requests_are h xs)
 
-from_zero : (xs : List Range) → filter (λ (g : Range). nat_le 0 g.0) xs ≡ xs
+from_zero : (xs : List SegmentRequest) → filter (λ (g : SegmentRequest). nat_le 0 g.0) xs ≡ xs
 from_zero [] = refl
 from_zero (x ∷ xs) =
-    cond-true (nat_le 0 x.0) (x ∷ filter (λ (g : Range). nat_le 0 g.0) xs) (filter (λ (g : Range). nat_le 0 g.0) xs) (le-leb 0 x.0 (omega arith))
-    ∙ ap (λ (rest : List Range). x ∷ rest) (from_zero xs)
+    cond-true (nat_le 0 x.0) (x ∷ filter (λ (g : SegmentRequest). nat_le 0 g.0) xs) (filter (λ (g : SegmentRequest). nat_le 0 g.0) xs)
+    (le-leb 0 x.0 (omega arith))
+    ∙ ap (λ (rest : List SegmentRequest). x ∷ rest) (from_zero xs)
 
-abbrev Requests : ℕ → ℕ → List Range → List (List Range)
+abbrev Requests : ℕ → ℕ → List SegmentRequest → List (List SegmentRequest)
 Requests most high found = map (λ (n : Nak). n.requests) (naks most 0 high found)
 
 sequence_asks : (mib : Mib) (h : Header) (e : Entry) (eof : Eof) (checks : ℕ) → e.phase ≡ Awaiting checks → e.eof ≡ Some eof →
-    requests_of_each (Turning.sequence mib h 0 (reach e) (Turning.gaps_after 0 e)) ≡ asked_for (Turning.most_requests mib) eof.size e.received
+    requests_of_each (Turning.sequence mib h 0 (reach e) (Turning.gaps_after 0 e)) ≡ asked_for (Turning.most_nak_requests mib) eof.size e.received
 sequence_asks mib h e eof checks phase came =
-    let most = Turning.most_requests mib in
+    let most = Turning.most_nak_requests mib in
     requests_are h (naks most 0 (reach e) (Turning.gaps_after 0 e))
     ∙ ap (Requests most (reach e)) (from_zero (gaps e))
     ∙ ap (λ (p : Phase). Requests most (reach_in p e) (gaps_in p e)) phase
     ∙ ap (λ (o : Option Eof). Requests most (awaited o) (gaps_below (awaited o) e.received)) came
 
-asks_is : (mib : Mib) (V : World) (s : SessionFields) (id : TransactionId) (e : Entry) → s.stage ≡ Known → name_of s ≡ id → entry_of V id ≡ Some e →
+asks_is : (mib : Mib) (V : World) (s : SessionFields) (id : TransactionId) (e : Entry) → s.stage ≡ Known → session_id s ≡ id → entry_of V id ≡ Some e →
     Turning.asks mib V s ≡ Turning.sequence mib s.header 0 (reach e) (Turning.gaps_after 0 e)
 asks_is mib V s id e known name here =
-    ap (λ (stage : Stage). Turning.asks_stage mib s.header 0 stage (entry_of V (name_of s))) known
+    ap (λ (stage : Stage). Turning.asks_stage mib s.header 0 stage (entry_of V (session_id s))) known
     ∙ ap (λ (n : TransactionId). Turning.asks_entry mib s.header 0 (entry_of V n)) name
     ∙ ap (Turning.asks_entry mib s.header 0) here
 
@@ -79,8 +80,8 @@ asks_is mib V s id e known name here =
 
 pub record Opened (R : State) (i : Input) (id : TransactionId) (e : Entry) (eof : Eof) (count : ℕ) : Type 0 where
   pub session : SessionFields
-  pub before : Before (Turning.after R i) id e eof session
-  pub asks : requests_of_each (Turning.parts R i).answer.naks ≡ asked_for (Turning.most_requests R.mib) eof.size e.received
+  pub before : Before (Turning.after_input R i) id e eof session
+  pub asks : requests_of_each (Turning.parts R i).answer.naks ≡ asked_for (Turning.most_nak_requests R.mib) eof.size e.received
   pub few : session.timer.count ≤ count
 
 -- ---- the NAK timer
@@ -105,15 +106,16 @@ open_expire R id e eof s moment d b served =
     let none : Handing.handed R i ≡ [] = ap (Handing.due_events L) due ∙ asks_none L s b.acknowledged in
     let world : U ≡ R.world = ap (run R.world) none in
     let new : SessionFields = record s { timer = passed L.now s.timer Again } in
-    let ss : (Turning.after R i).sessions ≡ replaced R.sessions new = ap (λ (x : Dues.Due). (Turning.due_parts L U x).sessions) due in
-    let here : found (Turning.after R i).sessions id ≡ Some new =
+    let ss : (Turning.after_input R i).sessions ≡ replaced R.sessions new = ap (λ (x : Dues.Due). (Turning.due_parts L U x).sessions) due in
+    let here : found (Turning.after_input R i).sessions id ≡ Some new =
     ap (λ (xs : List SessionFields). found xs id) ss ∙ replaced_self R.sessions new id (s, b.here) name in
     let core : EntryAwaits U id e eof = subst (λ (V : World). EntryAwaits V id e eof) (sym world) b.core in
     let sent : (Turning.parts R i).answer.naks ≡ Turning.sequence R.mib s.header 0 (reach e) (Turning.gaps_after 0 e) =
     ap (λ (x : Dues.Due). (Turning.due_parts L U x).answer.naks) due
     ∙ ap (λ (at : At). (Turning.repeats L U s at).naks) (at_is R id e eof s b)
     ∙ ap (λ (a : AnswerFields). a.naks)
-    (cond-true s.header.acknowledged (record (Turning.said s words.Expired) { naks = Turning.asks R.mib U s }) (Turning.said s words.Expired) b.acknowledged)
+    (cond-true s.header.acknowledged (record (Turning.said_word s words.Expired) { naks = Turning.asks R.mib U s })
+    (Turning.said_word s words.Expired) b.acknowledged)
     ∙ asks_is R.mib U s id e b.known name core.here in
     record {
       session = new;
@@ -144,7 +146,7 @@ limit_is_full R id e eof s moment d b served =
 -- ---- the EOF PDU, or the Metadata PDU after it
 
 open_eof : (R : State) (id : TransactionId) (moment : ℕ) (h : Header) (came : Eof) (e : Entry) (eof : Eof) → EofOpens R id h came →
-    TransactionAwaits (Turning.after R (EofPdu moment h came)) id e eof →
+    TransactionAwaits (Turning.after_input R (EofPdu moment h came)) id e eof →
     Opened R (EofPdu moment h came) id e eof 0
 open_eof R id moment h came e eof r awaits =
     let i = EofPdu moment h came in
@@ -152,7 +154,7 @@ open_eof R id moment h came e eof r awaits =
     let U = run R.world (Handing.handed R i) in
     let rs = replies R.world (Handing.handed R i) in
     let s = r.session in
-    let t = Turning.heard L U s in
+    let t = Turning.heard_session L U s in
     let is = heard_is L U s in
     let core = awaits.core in
     let name = found_name R.sessions id s r.here in
@@ -161,7 +163,7 @@ open_eof R id moment h came e eof r awaits =
     cond-true (Handing.is_ours L h) (Turning.eof_parts L U rs h came (session_of L (id_of h))) (Turning.keeps L (Turning.quiet (Turning.foreign h))) r.ours
     ∙ ap (Turning.eof_parts L U rs h came) own
     ∙ ap (Turning.eof_stage L U rs h came s) r.known in
-    let here : found (Turning.after R i).sessions id ≡ Some t =
+    let here : found (Turning.after_input R i).sessions id ≡ Some t =
     ap (λ (p : Turning.Parts). found p.sessions id) parts ∙ replaced_self R.sessions t id (s, r.here) (heard_name L U s ∙ name) in
     let it : awaits.session ≡ t = some_same awaits.session t (sym awaits.here ∙ here) in
     let mode : s.header.acknowledged ≡ true =
@@ -180,19 +182,19 @@ open_eof R id moment h came e eof r awaits =
     ∙ asks_is R.mib U s id e r.known name core.here in
     let news : Turning.is_news R.world U s ≡ true =
     ap (λ (at : At). not (Turning.is_awaiting_at at && Turning.is_awaiting_at (at_of U s)) || not
-    (Turning.same_ranges (Turning.gaps_at (entry_of R.world (name_of s))) (Turning.gaps_at (entry_of U (name_of s))))) r.receiving in
+    (Turning.same_ranges (Turning.gaps_at (entry_of R.world (session_id s))) (Turning.gaps_at (entry_of U (session_id s))))) r.receiving in
     let fresh : t.timer.count ≡ 0 =
     ap (λ (y : SessionFields). y.timer.count) (cond-true (Turning.is_news R.world U s) (record s { timer = restarted L.now }) s news) in
     let count : awaits.session.timer.count ≡ 0 = ap (λ (y : SessionFields). y.timer.count) it ∙ fresh in
     record {
       session = awaits.session;
-      before = before_of (Turning.after R i) id e eof awaits;
+      before = before_of (Turning.after_input R i) id e eof awaits;
       asks = ap requests_of_each sent ∙ sequence_asks R.mib s.header e eof core.checks core.phase core.came;
       few = omega (arith, count);
     }
 
 open_metadata : (R : State) (id : TransactionId) (moment : ℕ) (h : Header) (m : MetadataFields) (e : Entry) (eof : Eof) → MetadataOpens R id h →
-    TransactionAwaits (Turning.after R (MetadataPdu moment h m)) id e eof →
+    TransactionAwaits (Turning.after_input R (MetadataPdu moment h m)) id e eof →
     Opened R (MetadataPdu moment h m) id e eof 0
 open_metadata R id moment h m e eof r awaits =
     let i = MetadataPdu moment h m in
@@ -200,15 +202,15 @@ open_metadata R id moment h m e eof r awaits =
     let U = run R.world (Handing.handed R i) in
     let rs = replies R.world (Handing.handed R i) in
     let s = r.session in
-    let t = Turning.begun L h (Turning.stage_in (entry_of U (id_of h)) true h.destination) in
+    let t = Turning.begun_session L h (Turning.stage_in (entry_of U (id_of h)) true h.destination) in
     let core = awaits.core in
     let own : session_of L (id_of h) ≡ Some s = ap (found R.sessions) r.named ∙ r.here in
     let parts : Turning.parts R i ≡ Turning.joins L U rs h m =
     cond-true (Handing.is_ours L h) (Turning.metadata_parts L U rs h m (session_of L (id_of h))) (Turning.keeps L (Turning.quiet (Turning.foreign h))) r.ours
     ∙ ap (Turning.metadata_parts L U rs h m) own
     ∙ ap (Turning.metadata_stage L U rs h m s) r.held
-    ∙ cond-true h.acknowledged (Turning.joins L U rs h m) (Turning.keeps L (Turning.said s words.Idle)) r.mode in
-    let here : found (Turning.after R i).sessions id ≡ Some t =
+    ∙ cond-true h.acknowledged (Turning.joins L U rs h m) (Turning.keeps L (Turning.said_word s words.Idle)) r.mode in
+    let here : found (Turning.after_input R i).sessions id ≡ Some t =
     ap (λ (p : Turning.Parts). found p.sessions id) parts ∙ replaced_self R.sessions t id (s, r.here) r.named in
     let it : awaits.session ≡ t = some_same awaits.session t (sym awaits.here ∙ here) in
     let known : t.stage ≡ Known = ap (λ (y : SessionFields). y.stage) (sym it) ∙ awaits.known in
@@ -221,12 +223,12 @@ open_metadata R id moment h m e eof r awaits =
     let count : awaits.session.timer.count ≡ 0 = ap (λ (y : SessionFields). y.timer.count) it in
     record {
       session = awaits.session;
-      before = before_of (Turning.after R i) id e eof awaits;
+      before = before_of (Turning.after_input R i) id e eof awaits;
       asks = ap requests_of_each sent ∙ sequence_asks R.mib h e eof core.checks core.phase core.came;
       few = omega (arith, count);
     }
 
-pub open_first : (R : State) (id : TransactionId) (i : Input) (e : Entry) (eof : Eof) → Opens R id i → TransactionAwaits (Turning.after R i) id e eof →
+pub open_first : (R : State) (id : TransactionId) (i : Input) (e : Entry) (eof : Eof) → Opens R id i → TransactionAwaits (Turning.after_input R i) id e eof →
     Opened R i id e eof 0
 open_first R id (EofPdu moment h came) e eof opens awaits = open_eof R id moment h came e eof opens awaits
 open_first R id (MetadataPdu moment h m) e eof opens awaits = open_metadata R id moment h m e eof opens awaits

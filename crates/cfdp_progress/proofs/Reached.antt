@@ -25,7 +25,7 @@ use Rattle.cfdp_transactions.specs.Headline.{NextIsSound, NextIsPromised}
 use Rattle.cfdp_transactions.specs.Next.{next, run}
 use Rattle.cfdp_transactions.specs.Received.{Received, kept_with, pieces, is_whole}
 use Rattle.cfdp_transactions.specs.Sound.{Sound}
-use Rattle.cfdp_transactions.specs.World.{World, bound, spare, leases_of, place_of, entry_of, index_of, change_at}
+use Rattle.cfdp_transactions.specs.World.{World, bound, spare_blocks, leases_of, place_of, entry_of, index_of, change_at}
 use Rattle.cfdp_transactions.specs.declared.event.Event.{Event}
 use Rattle.cfdp_transactions.specs.declared.event.Event.TheVariants.{Metadata as MetadataCame, Data as DataCame, Eof as EofCame, Step, Cancel, Check, Take}
 use Rattle.cfdp_transactions.specs.declared.phase.Phase.{Phase}
@@ -36,7 +36,7 @@ use Rattle.cfdp_transactions.proofs.Lookups.{set_own, append_own}
 use Rattle.cfdp_transactions.proofs.Places.{set_set_same}
 use Rattle.cfdp_receiver.specs.State.{begin}
 use Rattle.cfdp_receiver.specs.Turning.{after_all, all_handed}
-use Rattle.cfdp_receiver.specs.Laws.{is_known, knows, KnownIsEntry}
+use Rattle.cfdp_receiver.specs.Laws.{is_known_session, knows, KnownIsEntry}
 use Rattle.cfdp_receiver.proofs.Handing.{hands_on}
 use Rattle.cfdp_progress.specs.Awaiting.{AwaitingAwaits}
 use Rattle.cfdp_receiver.proofs.Others.{other_than}
@@ -289,7 +289,7 @@ metadata_own W h m None lacks none =
     (λ z. cond_both (has_file m && not (is_known_checksum m.checksum_type)) (with_new W (refused_entry h m (Ended 11)), Reply.Faulted 11) _
     (OwnLacks W (id_of h))
     (λ wrong. new_own W (id_of h) (refused_entry h m (Ended 11)) (Reply.Faulted 11) none refl (λ checks is. absurd cc))
-    (λ right. judged_own W h m (verdict W.config.prefixes W.filestore (leases_of W.table) (spare W) (proposal_of W.config m)) none)))
+    (λ right. judged_own W h m (verdict W.config.prefixes W.filestore (leases_of W.table) (spare_blocks W) (proposal_of W.config m)) none)))
 
 ours_own : (W : World) (h : Header) (id : TransactionId) (answer : World × Reply) → LacksAt W.config W id → OwnLacks W id answer →
     OwnLacks W id (if h.destination == W.config.entity then answer else (W, Reply.NotForUs))
@@ -325,7 +325,7 @@ run_lacks removes next_sound promised W [] sound all = all
 run_lacks removes next_sound promised W (v ∷ vs) sound all =
     run_lacks removes next_sound promised (next W v).0 vs (next_sound W v sound) (next_lacks removes promised W v sound all)
 
-known_by : (stage : Stage) → is_known stage ≡ true → stage ≡ Known
+known_by : (stage : Stage) → is_known_session stage ≡ true → stage ≡ Known
 known_by (Held eof) h = absurd cc
 known_by Known h = refl
 known_by (OverStage ending) h = absurd cc
@@ -339,7 +339,7 @@ awaiting_awaits removes next_sound promised known mib W inputs id s e checks sou
     let none : AllLack W = λ n. none_is W.config W n (ap (λ (t : List Entry). slice_get t (place_of n t)) empty) in
     let all : AllLack R.world = subst AllLack (sym world) (run_lacks removes next_sound promised W (all_handed (begin mib W) inputs) sound none) in
     let l = all id e there checks phase in
-    let is : is_known s.stage ≡ true = sym (ap knows here) ∙ sym (known mib W inputs sound empty id) ∙ ap is_some there in (
+    let is : is_known_session s.stage ≡ true = sym (ap knows here) ∙ sym (known mib W inputs sound empty id) ∙ ap is_some there in (
       l.eof,
       record {
         session = s;

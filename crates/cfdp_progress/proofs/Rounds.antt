@@ -5,8 +5,8 @@ use Rattle.cfdp_status.specs.declared.transaction.TransactionId.{TransactionId}
 use Rattle.cfdp_pdus.specs.declared.eof.Eof.{Eof}
 use Rattle.cfdp_directives.specs.Reading.{NakFields}
 use Rattle.cfdp_retransmission.specs.Coming.{keep_all}
-use Rattle.cfdp_retransmission.specs.Naks.{Range}
-use Rattle.cfdp_retransmission.specs.Rounds.{Exchange, IsExchange, arrived, lost_of, kept_after, asked_for, AreRounds, after_rounds, lost_in, spare_round, WholeAfterLosses}
+use Rattle.cfdp_retransmission.specs.Naks.{SegmentRequest}
+use Rattle.cfdp_retransmission.specs.Rounds.{Exchange, IsExchange, arrived, lost_of, kept_after_round, asked_for, AreRounds, after_rounds, lost_in, spare_round, WholeAfterLosses}
 use Rattle.cfdp_retransmission.proofs.Hearing.{Within, within_sent}
 use Rattle.cfdp_sessions.specs.Sessions.{SessionFields, AreDistinct}
 use Rattle.cfdp_transactions.specs.Entry.{Entry}
@@ -16,7 +16,7 @@ use Rattle.cfdp_transactions.specs.Sound.{Sound}
 use Rattle.cfdp_receiver.specs.declared.mib.Mib.{Mib}
 use Rattle.cfdp_receiver.specs.State.{State, Input, Expire}
 use Rattle.cfdp_receiver.specs.Handing.{handed}
-use Rattle.cfdp_receiver.specs.Turning.{most_requests, parts, after, after_all}
+use Rattle.cfdp_receiver.specs.Turning.{most_nak_requests, parts, after_input, after_all}
 use Rattle.cfdp_receiver.proofs.Distinct.{distinct_after}
 use Rattle.cfdp_progress.specs.Awaiting.{WasDelivered}
 use Rattle.cfdp_progress.specs.NakRounds.{requests_of_each, AreAnswered, IsServed, NakRound, round_inputs, AreNakRounds, all_lost, AreBelow, all_inputs, DeliveredAfterRounds, DeliveredAfterLosses}
@@ -38,12 +38,12 @@ pub record SoFar (most : ℕ) (rs : Received) (eof : Eof) (done : List Exchange)
 rounds_more : (most size : ℕ) (rs : Received) (done : List Exchange) (round : Exchange) → AreRounds most size rs done →
     IsExchange (asked_for most size (after_rounds rs done)) round → AreRounds most size rs (done ++ round ∷ [])
 rounds_more most size rs [] round all is = (is, tt)
-rounds_more most size rs (d ∷ done) round all is = (all.0, rounds_more most size (kept_after rs d) done round all.1 is)
+rounds_more most size rs (d ∷ done) round all is = (all.0, rounds_more most size (kept_after_round rs d) done round all.1 is)
 
 after_more : (rs : Received) (done : List Exchange) (round : Exchange) →
-    after_rounds rs (done ++ round ∷ []) ≡ kept_after (after_rounds rs done) round
+    after_rounds rs (done ++ round ∷ []) ≡ kept_after_round (after_rounds rs done) round
 after_more rs [] round = refl
-after_more rs (d ∷ done) round = after_more (kept_after rs d) done round
+after_more rs (d ∷ done) round = after_more (kept_after_round rs d) done round
 
 pub lost_more : (done : List Exchange) (round : Exchange) → lost_in (done ++ round ∷ []) ≡ lost_in done + lost_of round
 lost_more [] round = omega arith
@@ -55,15 +55,15 @@ count_more (d ∷ done) round = omega (arith, count_more done round)
 
 pub one_more : (most : ℕ) (rs : Received) (eof : Eof) (done : List Exchange) (e new : Entry) (naks : List NakFields) (round : Exchange) →
     SoFar most rs eof done e → requests_of_each naks ≡ asked_for most eof.size e.received → IsExchange (requests_of_each naks) round →
-    new.received ≡ kept_after e.received round → SoFar most rs eof (done ++ round ∷ []) new
+    new.received ≡ kept_after_round e.received round → SoFar most rs eof (done ++ round ∷ []) new
 one_more most rs eof done e new naks round so asks is kept =
     let now : requests_of_each naks ≡ asked_for most eof.size (after_rounds rs done) = asks ∙ ap (asked_for most eof.size) (sym so.received) in
     record {
       some = so.some;
       few = so.few;
       fits = so.fits;
-      rounds = rounds_more most eof.size rs done round so.rounds (subst (λ (xs : List (List Range)). IsExchange xs round) now is);
-      received = after_more rs done round ∙ ap (λ (q : Received). kept_after q round) so.received ∙ sym kept;
+      rounds = rounds_more most eof.size rs done round so.rounds (subst (λ (xs : List (List SegmentRequest)). IsExchange xs round) now is);
+      received = after_more rs done round ∙ ap (λ (q : Received). kept_after_round q round) so.received ∙ sym kept;
     }
 
 -- as long as it waits, no more rounds were made than is lost, and the spare one
@@ -83,9 +83,9 @@ not_enough whole R id e eof s most rs done sound b so = elim (cases_lt (lost_in 
 pub round_goes : NextIsSound → NextIsPromised →
     (N : State) (id : TransactionId) (e : Entry) (eof : Eof) (s : SessionFields) (most : ℕ) (naks : List NakFields) (round : Exchange) (rest : List Input) →
     Sound N.world → AreDistinct N.sessions → Before N id e eof s → 1 ≤ most → requests_of_each naks ≡ asked_for most eof.size e.received →
-    AreAnswered N id naks round rest → WasDelivered N rest id ⊎ Left N rest id eof (kept_after e.received round) s.timer.count
+    AreAnswered N id naks round rest → WasDelivered N rest id ⊎ Left N rest id eof (kept_after_round e.received round) s.timer.count
 round_goes next_sound promised N id e eof s most naks round rest sound d b some asks a =
-    let within = within_sent most eof.size e.received round some (subst (λ (xs : List (List Range)). IsExchange xs round) asks a.exchanged) in
+    let within = within_sent most eof.size e.received round some (subst (λ (xs : List (List SegmentRequest)). IsExchange xs round) asks a.exchanged) in
     subst (λ (q : Received). WasDelivered N rest id ⊎ Left N rest id eof q s.timer.count)
     (ap (keep_all e.received) a.come ∙ keep_both e.received (arrived round.sent) (arrived round.sent_again))
     (over_inputs next_sound promised N rest id e eof s sound d b a.goes_on (subst (Within eof.size) (sym a.come) within))
@@ -128,15 +128,15 @@ room_of limit count rs done round rounds (inr counted) = inr (counted.0, omega (
 rounds_go : NextIsSound → NextIsPromised → WholeAfterLosses →
     (mib : Mib) (R : State) (id : TransactionId) (rounds : List NakRound) (e : Entry) (eof : Eof) (s : SessionFields) (rs : Received)
     (done : List Exchange) → R.mib ≡ mib → Sound R.world →
-    AreDistinct R.sessions → Before R id e eof s → SoFar (most_requests mib) rs eof done e → AreNakRounds R id rounds →
+    AreDistinct R.sessions → Before R id e eof s → SoFar (most_nak_requests mib) rs eof done e → AreNakRounds R id rounds →
     IsSafeToAsk mib.nak.limit s.timer.count rs done rounds →
     lost_in done + all_lost rounds + spare_round rs < length done + length rounds → WasDelivered R (all_inputs rounds) id
 rounds_go next_sound promised whole mib R id [] e eof s rs done same sound d b so are safe enough =
-    absurd (omega (arith, enough, not_enough whole R id e eof s (most_requests mib) rs done sound b so))
+    absurd (omega (arith, enough, not_enough whole R id e eof s (most_nak_requests mib) rs done sound b so))
 rounds_go next_sound promised whole mib R id (round ∷ rounds) e eof s rs done same sound d b so are safe enough =
-    let most = most_requests mib in
+    let most = most_nak_requests mib in
     let i = Expire round.moment in
-    let N = after R i in
+    let N = after_input R i in
     let M = after_all N round.rest in
     let exchange = round.exchange in
     let naks = (parts R i).answer.naks in
@@ -147,7 +147,7 @@ rounds_go next_sound promised whole mib R id (round ∷ rounds) e eof s rs done 
     (subst (λ (m : Mib). Room round.is_at_limit m.nak.limit s.timer.count rs done) (sym same) room) is.served in
     let opened = open_expire R id e eof s round.moment d b (subst (IsServed R id round.moment) low is.served) in
     let asks : requests_of_each naks ≡ asked_for most eof.size e.received =
-    opened.asks ∙ ap (λ (m : Mib). asked_for (most_requests m) eof.size e.received) same in
+    opened.asks ∙ ap (λ (m : Mib). asked_for (most_nak_requests m) eof.size e.received) same in
     let sound_now = run_sound next_sound R.world (handed R i) sound in
     let apart = distinct_after R i d in
     elim (round_goes next_sound promised N id e eof opened.session most naks exchange round.rest sound_now apart opened.before so.some asks is.answered) [
@@ -181,9 +181,9 @@ safe_first limit count rs exchange rounds (inr room) few = inr (omega (arith, fe
 pub delivered_after_losses : NextIsSound → NextIsPromised → WholeAfterLosses → DeliveredAfterLosses
 delivered_after_losses next_sound promised whole R id first rounds e eof sound d some r are low enough =
     let i = first.opening in
-    let N = after R i in
+    let N = after_input R i in
     let M = after_all N first.rest in
-    let most = most_requests R.mib in
+    let most = most_nak_requests R.mib in
     let exchange = first.exchange in
     let naks = (parts R i).answer.naks in
     let opened = open_first R id i e eof r.opens r.awaits in

@@ -10,7 +10,7 @@ use Rattle.cfdp_actions.specs.Actions.{Install}
 use Rattle.cfdp_checksum.specs.Checksum.{weighed_from}
 use Rattle.cfdp_pdus.specs.Canonical.{finished_field}
 use Rattle.cfdp_pdus.specs.declared.eof.Eof.{Eof}
-use Rattle.cfdp_retransmission.specs.Naks.{Range}
+use Rattle.cfdp_retransmission.specs.Naks.{SegmentRequest}
 use Rattle.cfdp_retransmission.specs.Rounds.{Asking, Sending}
 use Rattle.cfdp_retransmission.specs.Timers.{restarted}
 use Rattle.cfdp_sessions.specs.Sessions.{SessionFields}
@@ -20,12 +20,12 @@ use Rattle.cfdp_transactions.specs.Entry.{Entry}
 use Rattle.cfdp_transactions.specs.Sound.{Sound}
 use Rattle.cfdp_transactions.specs.World.{entry_of}
 use Rattle.cfdp_transactions.specs.declared.phase.Phase.TheVariants.{Receiving}
-use Rattle.cfdp_transactions.proofs.ExampleWords.{config}
+use Rattle.cfdp_transactions.proofs.Examples.ExampleWords.{config}
 use Rattle.cfdp_receiver.specs.declared.mib.Handler.TheVariants as handlers
 use Rattle.cfdp_receiver.specs.declared.mib.Mib.{Mib}
 use Rattle.cfdp_receiver.specs.State.{State, Input, DataPdu, EofPdu, AckPdu, Finish, session_of}
 use Rattle.cfdp_receiver.specs.Laws.{AreKnown}
-use Rattle.cfdp_receiver.specs.Turning.{after, after_all}
+use Rattle.cfdp_receiver.specs.Turning.{after_input, after_all}
 use Rattle.cfdp_receiver.proofs.RowWords.{mib, header, id, M, D, E, finished_ack, pdu_of}
 use Rattle.cfdp_progress.specs.Awaiting.{IsDelivered, WasDelivered}
 use Rattle.cfdp_progress.specs.NakRounds.{NakRound, AreNakRounds, all_inputs, FirstRound, IsFirstRound, DeliveredAfterLosses}
@@ -61,14 +61,14 @@ data_at moment low high = DataPdu moment (header 5) (D low high)
 abbrev pub sending : ℕ → ℕ → Bool → Sending
 sending low high lost = record { piece = (low, (D low high).octets); is_lost = lost }
 
-abbrev pub asking : List Range → Bool → Asking
+abbrev pub asking : List SegmentRequest → Bool → Asking
 asking requests lost = record { requests = requests; is_lost = lost }
 
 abbrev pub wrong : Eof
 wrong = record E { checksum = 0 }
 
 abbrev middle : State
-middle = after described (data_at 0 4 8)
+middle = after_input described (data_at 0 4 8)
 
 abbrev first : FirstRound
 first = record {
@@ -118,7 +118,7 @@ session_in None = known
 session_in (Some s) = s
 
 abbrev waiting : State
-waiting = after middle first.opening
+waiting = after_input middle first.opening
 
 abbrev rest : State
 rest = after_all middle (first.opening ∷ first.rest)
@@ -266,7 +266,7 @@ other_half = record {
 }
 
 abbrev half_asked : State
-half_asked = after narrow half.opening
+half_asked = after_input narrow half.opening
 
 abbrev half_there : State
 half_there = after_all narrow (half.opening ∷ half.rest)

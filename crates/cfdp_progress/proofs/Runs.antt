@@ -27,10 +27,10 @@ use Rattle.cfdp_transactions.specs.Headline.{NextIsSound, NextIsPromised}
 use Rattle.cfdp_transactions.specs.Next.{next, run}
 use Rattle.cfdp_transactions.specs.Sound.{Sound}
 use Rattle.cfdp_transactions.specs.World.{World, entry_of, index_of, next_runnable}
-use Rattle.cfdp_transactions.proofs.OctetsAndGaps.{gaps_are_missing}
+use Rattle.cfdp_transactions.proofs.Received.OctetsAndGaps.{gaps_are_missing}
 use Rattle.cfdp_receiver.specs.State.{State, Input, MetadataPdu, DataPdu, EofPdu, AckPdu, PromptPdu, OtherPdu, Expire, Work, Finish, CancelAsked, ForgetAsked, session_of}
 use Rattle.cfdp_receiver.specs.Handing as Handing
-use Rattle.cfdp_receiver.specs.Turning.{after, after_all}
+use Rattle.cfdp_receiver.specs.Turning.{after_input, after_all}
 use Rattle.cfdp_receiver.specs.Laws.{touched, is_work}
 use Rattle.cfdp_receiver.proofs.Distinct.{distinct_after}
 use Rattle.cfdp_progress.specs.Awaiting.{EntryAwaits, TransactionAwaits, is_awaiting_entry, awaits_octets, GoesOn, piece_in, pieces_in, IsDelivered, WasDelivered, AnsweredTurns, is_named, is_kept_apart, AreKeptApart, StaysDelivered}
@@ -43,26 +43,26 @@ use Rattle.cfdp_progress.proofs.Turns.{Before, Still, Is_done, step}
 
 pub after_both : (R : State) (xs ys : List Input) → after_all R (xs ++ ys) ≡ after_all (after_all R xs) ys
 after_both R [] ys = refl
-after_both R (x ∷ xs) ys = after_both (after R x) xs ys
+after_both R (x ∷ xs) ys = after_both (after_input R x) xs ys
 
 pub sound_all : NextIsSound → (R : State) (inputs : List Input) → Sound R.world → Sound (after_all R inputs).world
 sound_all next_sound R [] s = s
-sound_all next_sound R (i ∷ is) s = sound_all next_sound (after R i) is (run_sound next_sound R.world (Handing.handed R i) s)
+sound_all next_sound R (i ∷ is) s = sound_all next_sound (after_input R i) is (run_sound next_sound R.world (Handing.handed R i) s)
 
 pub distinct_all : (R : State) (inputs : List Input) → AreDistinct R.sessions → AreDistinct (after_all R inputs).sessions
 distinct_all R [] d = d
-distinct_all R (i ∷ is) d = distinct_all (after R i) is (distinct_after R i d)
+distinct_all R (i ∷ is) d = distinct_all (after_input R i) is (distinct_after R i d)
 
 pub mib_all : (R : State) (inputs : List Input) → (after_all R inputs).mib ≡ R.mib
 mib_all R [] = refl
-mib_all R (i ∷ is) = mib_all (after R i) is
+mib_all R (i ∷ is) = mib_all (after_input R i) is
 
-pub was_later : (R : State) (i : Input) (is : List Input) (id : TransactionId) → WasDelivered (after R i) is id → WasDelivered R (i ∷ is) id
+pub was_later : (R : State) (i : Input) (is : List Input) (id : TransactionId) → WasDelivered (after_input R i) is id → WasDelivered R (i ∷ is) id
 was_later R i is id w = record { front = i ∷ w.front; back = w.back; parts = ap (λ (xs : List Input). i ∷ xs) w.parts; delivered = w.delivered }
 
 pub was_after : (R : State) (xs ys : List Input) (id : TransactionId) → WasDelivered (after_all R xs) ys id → WasDelivered R (xs ++ ys) id
 was_after R [] ys id w = w
-was_after R (x ∷ xs) ys id w = was_later R x (xs ++ ys) id (was_after (after R x) xs ys id w)
+was_after R (x ∷ xs) ys id w = was_later R x (xs ++ ys) id (was_after (after_input R x) xs ys id w)
 
 joined : (xs ys zs : List Input) → (xs ++ ys) ++ zs ≡ xs ++ (ys ++ zs)
 joined [] ys zs = refl
@@ -103,7 +103,7 @@ pub over_inputs : NextIsSound → NextIsPromised → (R : State) (inputs : List 
     Within eof.size (pieces_in R id inputs) → WasDelivered R inputs id ⊎ Left R inputs id eof (keep_all e.received (pieces_in R id inputs)) s.timer.count
 over_inputs next_sound promised R [] id e eof s sound d b on within = inr (record { entry = e; session = s; before = b; kept = refl; few = λ q. omega arith })
 over_inputs next_sound promised R (i ∷ is) id e eof s sound d b on within =
-    let N = after R i in
+    let N = after_input R i in
     let fits = within_both eof.size (piece_in R id i) (pieces_in N id is) within in
     let awaits = still_awaits R id e eof s b in
     elim (step next_sound promised R i id e eof s sound d b (on.0 awaits) fits.0) [
@@ -193,7 +193,7 @@ session_same : (W : World) (o : Option SessionFields) (v : Event) → (next W v)
 session_same W None v same = refl
 session_same W (Some s) v same = known_same W s.stage v same
 
-data_same : (R : State) (now : ℕ) (h : Header) (piece : FileDataFields) → IsDelivered R.world (id_of h) → (after R (DataPdu now h piece)).world ≡ R.world
+data_same : (R : State) (now : ℕ) (h : Header) (piece : FileDataFields) → IsDelivered R.world (id_of h) → (after_input R (DataPdu now h piece)).world ≡ R.world
 data_same R now h piece d =
     let L = Handing.later now R in
     let es = Handing.of_session (session_of L (id_of h)) (DataCame h piece ∷ []) in
@@ -211,12 +211,12 @@ not_named : (id : TransactionId) (o : Option TransactionId) → not (is_named id
 not_named id o h e = both_of (is_named id o) (not_true (is_named id o) h) (ap (is_named id) e ∙ same_self id)
 
 stays_one : NextIsSound → NextIsPromised → (R : State) (i : Input) (id : TransactionId) → Sound R.world → IsDelivered R.world id → is_work i ≡ false →
-    is_same (touched R i) id ≡ false → IsDelivered (after R i).world id
-stays_one next_sound promised R i id sound d w other = delivered_same (after R i).world R.world id
+    is_same (touched R i) id ≡ false → IsDelivered (after_input R i).world id
+stays_one next_sound promised R i id sound d w other = delivered_same (after_input R i).world R.world id
     (others_keep_entries next_sound promised R i id sound w other) d
 
 stays_step : NextIsSound → NextIsPromised → (R : State) (i : Input) (id : TransactionId) → Sound R.world → IsDelivered R.world id →
-    is_kept_apart R id i ≡ true → IsDelivered (after R i).world id
+    is_kept_apart R id i ≡ true → IsDelivered (after_input R i).world id
 stays_step next_sound promised R (DataPdu now h piece) id sound d apart = elim (cases_Bool (is_same (id_of h) id)) [
   | inl same ↦
       let it = same_is (id_of h) id same in
@@ -225,7 +225,7 @@ stays_step next_sound promised R (DataPdu now h piece) id sound d apart = elim (
   | inr other ↦ stays_one next_sound promised R (DataPdu now h piece) id sound d refl other
 ]
 stays_step next_sound promised R (Work now) id sound d apart =
-    delivered_same (after R (Work now)).world R.world id (work_keeps_others next_sound promised R now id sound
+    delivered_same (after_input R (Work now)).world R.world id (work_keeps_others next_sound promised R now id sound
     (not_named id (next_runnable R.world.table) apart)) d
 stays_step next_sound promised R (MetadataPdu now h m) id sound d apart =
     stays_one next_sound promised R (MetadataPdu now h m) id sound d refl (not_true (is_same (touched R (MetadataPdu now h m)) id) apart)
@@ -249,12 +249,12 @@ stays_all : NextIsSound → NextIsPromised → (R : State) (inputs : List Input)
     AreKeptApart R id inputs → IsDelivered (after_all R inputs).world id
 stays_all next_sound promised R [] id sound d apart = d
 stays_all next_sound promised R (i ∷ is) id sound d apart =
-    stays_all next_sound promised (after R i) is id (run_sound next_sound R.world (Handing.handed R i) sound)
+    stays_all next_sound promised (after_input R i) is id (run_sound next_sound R.world (Handing.handed R i) sound)
     (stays_step next_sound promised R i id sound d apart.0) apart.1
 
 apart_after : (R : State) (xs ys : List Input) (id : TransactionId) → AreKeptApart R id (xs ++ ys) → AreKeptApart (after_all R xs) id ys
 apart_after R [] ys id apart = apart
-apart_after R (x ∷ xs) ys id apart = apart_after (after R x) xs ys id apart.1
+apart_after R (x ∷ xs) ys id apart = apart_after (after_input R x) xs ys id apart.1
 
 pub stays_delivered : NextIsSound → NextIsPromised → StaysDelivered
 stays_delivered next_sound promised R inputs id sound w apart =

@@ -13,13 +13,13 @@ use Rattle.cfdp_retransmission.specs.Coming.{Piece, keep, keep_all}
 use Rattle.cfdp_retransmission.specs.Timers.{restarted, passed}
 use Rattle.cfdp_retransmission.proofs.Hearing.{Within}
 use Rattle.cfdp_retransmission.specs.declared.timer.Expiry.TheVariants.{Again}
-use Rattle.cfdp_sessions.specs.Sessions.{SessionFields, name_of, found, replaced, AreDistinct}
+use Rattle.cfdp_sessions.specs.Sessions.{SessionFields, session_id, found, replaced, AreDistinct}
 use Rattle.cfdp_sessions.specs.declared.session.Stage.{Stage}
 use Rattle.cfdp_sessions.specs.declared.session.Stage.TheVariants.{Held, Known, Over as OverStage, Waiting}
 use Rattle.cfdp_sessions.proofs.Names.{same_is, both_of, found_name, replaced_self}
 use Rattle.cfdp_transactions.specs.Config.{Config}
 use Rattle.cfdp_transactions.specs.Entry.{Entry, id_of, is_live, is_receiving, is_awaiting}
-use Rattle.cfdp_transactions.specs.Delivery.{eof_at, eof_came}
+use Rattle.cfdp_transactions.specs.Delivery.{eof_without_error, eof_came}
 use Rattle.cfdp_transactions.specs.Ending.{ends}
 use Rattle.cfdp_transactions.specs.Admission.{metadata_came}
 use Rattle.cfdp_transactions.specs.Received.{Received}
@@ -95,7 +95,7 @@ pub put_quiet : (R : State) (id : TransactionId) (s t : SessionFields) (again : 
     t.header ≡ s.header → (again ≡ false → t.timer.count ≤ s.timer.count) →
     Quiet R.world id s again V (replaced R.sessions t)
 put_quiet R id s t again V here world stage header few =
-    let name : name_of t ≡ id = ap id_of header ∙ found_name R.sessions id s here in
+    let name : session_id t ≡ id = ap id_of header ∙ found_name R.sessions id s here in
     record { world = world; session = t; here = replaced_self R.sessions t id (s, here) name; stage = stage; header = header; few = few }
 
 quiet_if : (R : State) (id : TransactionId) (s : SessionFields) (again b : Bool) (es : List Event) (p q : Turning.Parts) →
@@ -106,17 +106,18 @@ quiet_if R id s again false es p q hp hq = hq
 
 -- what a session hears
 pub heard_is : (R : State) (V : World) (s : SessionFields) →
-    ((Turning.heard R V s).stage ≡ s.stage) × ((Turning.heard R V s).header ≡ s.header) × ((Turning.heard R V s).timer.count ≤ s.timer.count)
+    ((Turning.heard_session R V s).stage ≡ s.stage) × ((Turning.heard_session R V s).header ≡ s.header) ×
+    ((Turning.heard_session R V s).timer.count ≤ s.timer.count)
 heard_is R V s =
     cond_both (Turning.is_news R.world V s) (record s { timer = restarted R.now }) s
     (λ (t : SessionFields). (t.stage ≡ s.stage) × (t.header ≡ s.header) × (t.timer.count ≤ s.timer.count))
     (λ e. (refl, refl, omega arith)) (λ e. (refl, refl, omega arith))
 
 heard_quiet : (R L : State) (U V : World) (id : TransactionId) (s : SessionFields) (again : Bool) → session_of R id ≡ Some s → V ≡ R.world →
-    Quiet R.world id s again V (replaced R.sessions (Turning.heard L U s))
+    Quiet R.world id s again V (replaced R.sessions (Turning.heard_session L U s))
 heard_quiet R L U V id s again here world =
     let h = heard_is L U s in
-    put_quiet R id s (Turning.heard L U s) again V here world h.0 h.1 (λ q. h.2)
+    put_quiet R id s (Turning.heard_session L U s) again V here world h.0 h.1 (λ q. h.2)
 
 -- ---- PDUs of the transaction that change nothing of it
 
@@ -133,13 +134,13 @@ unmoved_eof W h eof other e a none =
     let live : not (is_live e.phase) ≡ false = ap (λ (p : Phase). not (is_live p)) a.phase in
     let right : not (other.condition == 0) ≡ false = ap not (eq-eqb other.condition 0 none) in
     let past : not (is_receiving e.phase) ≡ true = ap (λ (p : Phase). not (is_receiving p)) a.phase in
-    let last : World × Reply = if not (is_receiving e.phase) then (W, Reply.Duplicate) else eof_at W k e other in
+    let last : World × Reply = if not (is_receiving e.phase) then (W, Reply.Duplicate) else eof_without_error W k e other in
     let faulted : World × Reply = (ends W k (record e { ended_by_eof = true }) other.condition, Reply.Faulted other.condition) in
     let more : World × Reply = if not (other.condition == 0) then faulted else last in
     let same : (eof_came W k other (Some e)).0 ≡ W =
     ap (λ (b : World × Reply). b.0) (cond-false (not (is_live e.phase)) (W, Reply.Idle) more live)
     ∙ ap (λ (b : World × Reply). b.0) (cond-false (not (other.condition == 0)) faulted last right)
-    ∙ ap (λ (b : World × Reply). b.0) (cond-true (not (is_receiving e.phase)) (W, Reply.Duplicate) (eof_at W k e other) past) in
+    ∙ ap (λ (b : World × Reply). b.0) (cond-true (not (is_receiving e.phase)) (W, Reply.Duplicate) (eof_without_error W k e other) past) in
     cond_both (h.destination == W.config.entity) (eof_came W k other (entry_of W (id_of h))) (W, Reply.NotForUs) (λ (b : World × Reply). b.0 ≡ W)
     (λ q. ap (λ (o : Option Entry). (eof_came W k other o).0) a.here ∙ same) (λ q. refl)
 
@@ -154,13 +155,14 @@ quiet_metadata_stage : (R L : State) (U : World) (rs : List Reply) (h : Header) 
     Quiet R.world (id_of h) s false (run R.world (Handing.metadata_in_stage h m s stage)) (Turning.metadata_stage L U rs h m s stage).sessions
 quiet_metadata_stage R L U rs h m e s (Held eof) here there same k = absurd cc
 quiet_metadata_stage R L U rs h m e s Known here there same k =
-    subst (λ (ss : List SessionFields). Quiet R.world (id_of h) s false (next R.world (MetadataCame h m)).0 (replaced ss (Turning.heard L U s))) (sym same)
+    subst (λ (ss : List SessionFields). Quiet R.world (id_of h) s false (next R.world (MetadataCame h m)).0 (replaced ss (Turning.heard_session L U s)))
+    (sym same)
     (heard_quiet R L U (next R.world (MetadataCame h m)).0 (id_of h) s false here (unmoved_metadata R.world h m e there))
 quiet_metadata_stage R L U rs h m e s (OverStage ending) here there same k = absurd cc
 quiet_metadata_stage R L U rs h m e s Waiting here there same k = absurd cc
 
 quiet_metadata : (R : State) (now : ℕ) (h : Header) (m : MetadataFields) (e : Entry) (eof : Eof) (s : SessionFields) → Before R (id_of h) e eof s →
-    Quiet R.world (id_of h) s false (Turning.after R (MetadataPdu now h m)).world (Turning.after R (MetadataPdu now h m)).sessions
+    Quiet R.world (id_of h) s false (Turning.after_input R (MetadataPdu now h m)).world (Turning.after_input R (MetadataPdu now h m)).sessions
 quiet_metadata R now h m e eof s b =
     let i = MetadataPdu now h m in
     let L = Handing.later now R in
@@ -179,14 +181,15 @@ quiet_eof_stage : (R L : State) (U : World) (rs : List Reply) (h : Header) (othe
     Quiet R.world (id_of h) s false (run R.world (Handing.where_known stage (EofCame h other ∷ []))) (Turning.eof_stage L U rs h other s stage).sessions
 quiet_eof_stage R L U rs h other eof e s (Held held) here a none same k = absurd cc
 quiet_eof_stage R L U rs h other eof e s Known here a none same k =
-    subst (λ (ss : List SessionFields). Quiet R.world (id_of h) s false (next R.world (EofCame h other)).0 (replaced ss (Turning.heard L U s))) (sym same)
+    subst (λ (ss : List SessionFields). Quiet R.world (id_of h) s false (next R.world (EofCame h other)).0 (replaced ss (Turning.heard_session L U s)))
+    (sym same)
     (heard_quiet R L U (next R.world (EofCame h other)).0 (id_of h) s false here (unmoved_eof R.world h eof other e a none))
 quiet_eof_stage R L U rs h other eof e s (OverStage ending) here a none same k = absurd cc
 quiet_eof_stage R L U rs h other eof e s Waiting here a none same k = absurd cc
 
 quiet_eof : (R : State) (now : ℕ) (h : Header) (other : Eof) (e : Entry) (eof : Eof) (s : SessionFields) → Before R (id_of h) e eof s →
     other.condition ≡ 0 →
-    Quiet R.world (id_of h) s false (Turning.after R (EofPdu now h other)).world (Turning.after R (EofPdu now h other)).sessions
+    Quiet R.world (id_of h) s false (Turning.after_input R (EofPdu now h other)).world (Turning.after_input R (EofPdu now h other)).sessions
 quiet_eof R now h other e eof s b none =
     let i = EofPdu now h other in
     let L = Handing.later now R in
@@ -215,7 +218,7 @@ quiet_none_if R id s again true p q hp hq = hp
 quiet_none_if R id s again false p q hp hq = hq
 
 quiet_ack : (R : State) (now : ℕ) (h : Header) (ack : Ack) (s : SessionFields) → session_of R (id_of h) ≡ Some s → s.stage ≡ Known →
-    Quiet R.world (id_of h) s false R.world (Turning.after R (AckPdu now h ack)).sessions
+    Quiet R.world (id_of h) s false R.world (Turning.after_input R (AckPdu now h ack)).sessions
 quiet_ack R now h ack s here known =
     let L = Handing.later now R in
     quiet_none_if R (id_of h) s false (Handing.is_ours L h) (Turning.ack_parts L h ack (session_of L (id_of h)))
@@ -232,13 +235,13 @@ roused_is R s =
     (λ e. (refl, refl, omega arith)) (λ e. (refl, refl, omega arith))
 
 pub quiet_prompt : (R : State) (now : ℕ) (h : Header) (prompt : Prompt) (s : SessionFields) → session_of R (id_of h) ≡ Some s →
-    Quiet R.world (id_of h) s false R.world (Turning.after R (PromptPdu now h prompt)).sessions
+    Quiet R.world (id_of h) s false R.world (Turning.after_input R (PromptPdu now h prompt)).sessions
 quiet_prompt R now h prompt s here =
     let L = Handing.later now R in
     let r = roused_is L s in
     let takes = s.header.acknowledged && Turning.takes_prompts (at_of L.world s) in
-    let put = Turning.puts L (Turning.roused L s) (Turning.prompted L h s prompt) in
-    let idle = Turning.keeps L (Turning.said_of h words.Idle) in
+    let put = Turning.replaces_one L (Turning.roused L s) (Turning.prompted L h s prompt) in
+    let idle = Turning.keeps L (Turning.said_of_header h words.Idle) in
     quiet_none_if R (id_of h) s false (Handing.is_ours L h) (Turning.prompt_parts L h prompt (session_of L (id_of h)))
     (Turning.keeps L (Turning.quiet (Turning.foreign h)))
     (subst (λ (o : Option SessionFields). Quiet R.world (id_of h) s false R.world (Turning.prompt_parts L h prompt o).sessions) (sym here)
@@ -247,7 +250,7 @@ quiet_prompt R now h prompt s here =
     (kept_quiet R (id_of h) s false here)
 
 pub quiet_other : (R : State) (now : ℕ) (h : Header) (s : SessionFields) → session_of R (id_of h) ≡ Some s →
-    Quiet R.world (id_of h) s false R.world (Turning.after R (OtherPdu now h)).sessions
+    Quiet R.world (id_of h) s false R.world (Turning.after_input R (OtherPdu now h)).sessions
 quiet_other R now h s here =
     let L = Handing.later now R in
     quiet_none_if R (id_of h) s false (Handing.is_ours L h) (Turning.keeps L (Turning.quiet became.NotOurs))
@@ -256,10 +259,10 @@ quiet_other R now h s here =
 
 -- ---- its timer
 
-pub at_in : (W : World) (s : SessionFields) (id : TransactionId) (e : Entry) (checks : ℕ) → s.stage ≡ Known → name_of s ≡ id → entry_of W id ≡ Some e →
+pub at_in : (W : World) (s : SessionFields) (id : TransactionId) (e : Entry) (checks : ℕ) → s.stage ≡ Known → session_id s ≡ id → entry_of W id ≡ Some e →
     e.phase ≡ Awaiting checks → at_of W s ≡ At_awaiting checks
 at_in W s id e checks known name here phase =
-    ap (λ (stage : Stage). at_stage stage (entry_of W (name_of s))) known ∙ ap (λ (n : TransactionId). at_entry (entry_of W n)) name ∙ ap at_entry here
+    ap (λ (stage : Stage). at_stage stage (entry_of W (session_id s))) known ∙ ap (λ (n : TransactionId). at_entry (entry_of W n)) name ∙ ap at_entry here
     ∙ ap at_phase phase
 
 pub at_is : (R : State) (id : TransactionId) (e : Entry) (eof : Eof) (s : SessionFields) (b : Before R id e eof s) →
@@ -275,7 +278,7 @@ none_known Waiting = refl
 -- below the limit nothing is handed on
 pub asks_none : (R : State) (s : SessionFields) → s.header.acknowledged ≡ true → Handing.due_events R (Dues.Stage_due s false) ≡ []
 asks_none R s mode =
-    ap (λ (b : Bool). Handing.where_known s.stage (if b then Check (name_of s) ∷ [] else []))
+    ap (λ (b : Bool). Handing.where_known s.stage (if b then Check (session_id s) ∷ [] else []))
     (acknowledged_none s.header.acknowledged (at_of R.world s) mode) ∙ none_known s.stage
 
 pub ignored_by : (h : Handler) → is_ignoring h ≡ true → h ≡ handlers.Ignore
@@ -295,14 +298,14 @@ handler_is R id e eof s b =
 
 quiet_ignored : (R L : State) (id : TransactionId) (s : SessionFields) (again : Bool) (condition : ℕ) (checks : Bool) (at : At) (how : Handler) →
     session_of R id ≡ Some s → L.sessions ≡ R.sessions → how ≡ handlers.Ignore →
-    Quiet R.world id s again (run R.world (Handing.where_known s.stage (Handing.limit_events (name_of s) checks how)))
+    Quiet R.world id s again (run R.world (Handing.where_known s.stage (Handing.limit_events (session_id s) checks how)))
     (Turning.gives_up L s condition how at).sessions
 quiet_ignored R L id s again condition checks at how here same ignored =
     let t : SessionFields = record s { timer = restarted L.now } in
-    let V = run R.world (Handing.where_known s.stage (Handing.limit_events (name_of s) checks handlers.Ignore)) in
+    let V = run R.world (Handing.where_known s.stage (Handing.limit_events (session_id s) checks handlers.Ignore)) in
     let world : V ≡ R.world = ap (run R.world) (none_known s.stage) in
     let put : Quiet R.world id s again V (replaced R.sessions t) = put_quiet R id s t again V here world refl refl (λ q. omega arith) in
-    subst (λ (h : Handler). Quiet R.world id s again (run R.world (Handing.where_known s.stage (Handing.limit_events (name_of s) checks h)))
+    subst (λ (h : Handler). Quiet R.world id s again (run R.world (Handing.where_known s.stage (Handing.limit_events (session_id s) checks h)))
     (Turning.gives_up L s condition h at).sessions) (sym ignored)
     (subst (λ (ss : List SessionFields). Quiet R.world id s again V (replaced ss t)) (sym same) put)
 
@@ -323,17 +326,17 @@ quiet_due R now U id e eof s (Dues.Stage_due t false) d b is same up =
     let L = Handing.later now R in
     let it : s ≡ t = is_it R id s t d b.here (stage_due L R.sessions t false is).0 same in
     let V = run R.world (Handing.due_events L (Dues.Stage_due s false)) in
-    let asks : is_same (name_of s) id ≡ true = ap (λ (y : SessionFields). is_same (name_of y) id) it ∙ same in
+    let asks : is_same (session_id s) id ≡ true = ap (λ (y : SessionFields). is_same (session_id y) id) it ∙ same in
     subst (λ (y : SessionFields). QuietDue R now U id s (Dues.Stage_due y false)) it
-    (put_quiet R id s (record s { timer = passed L.now s.timer Again }) (is_same (name_of s) id) V b.here
+    (put_quiet R id s (record s { timer = passed L.now s.timer Again }) (is_same (session_id s) id) V b.here
     (ap (run R.world) (asks_none L s b.acknowledged)) refl refl
-    (λ q. absurd (both_of (is_same (name_of s) id) q asks)))
+    (λ q. absurd (both_of (is_same (session_id s) id) q asks)))
 quiet_due R now U id e eof s (Dues.Stage_due t true) d b is same up =
     let L = Handing.later now R in
     let it : s ≡ t = is_it R id s t d b.here (stage_due L R.sessions t true is).0 same in
     let at = at_of R.world s in
     let ignored : R.mib.nak.at_limit ≡ handlers.Ignore =
-    ignored_by R.mib.nak.at_limit (is_ignored (is_same (name_of t) id) (is_ignoring R.mib.nak.at_limit) same up) in
+    ignored_by R.mib.nak.at_limit (is_ignored (is_same (session_id t) id) (is_ignoring R.mib.nak.at_limit) same up) in
     subst (λ (y : SessionFields). QuietDue R now U id s (Dues.Stage_due y true)) it
     (quiet_ignored R L id s false (Dues.fault_at s.header.acknowledged at) (Handing.makes_checks s.header.acknowledged at) at
     (Dues.handler_at R.mib s.header.acknowledged at) b.here refl
@@ -355,7 +358,7 @@ quiet_finish R now id e eof s (Some t) d b is same =
 -- ---- a piece of its file
 
 abbrev Pieced : State → Input → TransactionId → Eof → Received → ℕ → Type 0
-Pieced R i id eof received count = Goes (Turning.after R i).world (Turning.after R i).sessions id eof received count false
+Pieced R i id eof received count = Goes (Turning.after_input R i).world (Turning.after_input R i).sessions id eof received count false
 
 is_ours_is : (R : State) (h : Header) → Handing.is_ours R h ≡ true → h.destination ≡ R.world.config.entity
 is_ours_is R h ours = eqb-true h.destination R.world.config.entity (and_parts (not h.toward_sender) (h.destination == R.world.config.entity) ours).1
@@ -376,22 +379,24 @@ data_ours R now h piece e eof s b ours within =
     let id = id_of h in
     let U = run R.world (Handing.handed R i) in
     let rs = replies R.world (Handing.handed R i) in
-    let t = Turning.heard L U s in
+    let t = Turning.heard_session L U s in
     let is = heard_is L U s in
     let es : Handing.handed R i ≡ DataCame h piece ∷ [] =
     cond-true (Handing.is_ours L h) (Handing.of_session (session_of L id) (DataCame h piece ∷ [])) [] ours
     ∙ ap (λ (o : Option SessionFields). Handing.of_session o (DataCame h piece ∷ [])) b.here
     ∙ ap (λ (stage : Stage). Handing.where_known stage (DataCame h piece ∷ [])) b.known in
-    let ss : (Turning.after R i).sessions ≡ replaced R.sessions t =
+    let ss : (Turning.after_input R i).sessions ≡ replaced R.sessions t =
     ap (λ (p : Turning.Parts). p.sessions)
     (cond-true (Handing.is_ours L h) (Turning.data_parts L U rs h piece (session_of L id)) (Turning.keeps L (Turning.quiet (Turning.foreign h))) ours)
     ∙ ap (λ (o : Option SessionFields). (Turning.data_parts L U rs h piece o).sessions) b.here
     ∙ ap (λ (p : Turning.Parts). p.sessions)
-    (cond-true (Turning.is_known s.stage) (Turning.takes_data L U rs h piece s) (Turning.keeps L (Turning.said s words.Idle)) (ap Turning.is_known b.known)) in
-    let name : name_of t ≡ id = heard_name L U s ∙ found_name R.sessions id s b.here in
-    let here : found (Turning.after R i).sessions id ≡ Some t =
+    (cond-true (Turning.is_known s.stage) (Turning.takes_piece L U rs h piece s) (Turning.keeps L (Turning.said_word s words.Idle))
+    (ap Turning.is_known b.known)) in
+    let name : session_id t ≡ id = heard_name L U s ∙ found_name R.sessions id s b.here in
+    let here : found (Turning.after_input R i).sessions id ≡ Some t =
     ap (λ (xs : List SessionFields). found xs id) ss ∙ replaced_self R.sessions t id (s, b.here) name in
-    piece_comes (Turning.after R i).world (Turning.after R i).sessions id eof (keep e.received (piece.offset, piece.octets)) s t here (is.0 ∙ b.known)
+    piece_comes (Turning.after_input R i).world (Turning.after_input R i).sessions id eof (keep e.received (piece.offset, piece.octets)) s t here
+    (is.0 ∙ b.known)
     (ap (λ (x : Header). x.acknowledged) is.1 ∙ b.acknowledged) is.2
     (subst (λ (vs : List Event). Comes (run R.world vs) id eof (keep e.received (piece.offset, piece.octets))) (sym es)
     (comes R.world h eof e piece (is_ours_is R h ours) b.core within))
@@ -407,10 +412,10 @@ data_foreign R now h piece e eof s b foreign =
     let U = run R.world (Handing.handed R i) in
     let rs = replies R.world (Handing.handed R i) in
     let es : Handing.handed R i ≡ [] = cond-false (Handing.is_ours L h) (Handing.of_session (session_of L id) (DataCame h piece ∷ [])) [] foreign in
-    let ss : (Turning.after R i).sessions ≡ R.sessions =
+    let ss : (Turning.after_input R i).sessions ≡ R.sessions =
     ap (λ (p : Turning.Parts). p.sessions)
     (cond-false (Handing.is_ours L h) (Turning.data_parts L U rs h piece (session_of L id)) (Turning.keeps L (Turning.quiet (Turning.foreign h))) foreign) in
-    quiet_goes R id e eof s false (Turning.after R i).world (Turning.after R i).sessions b
+    quiet_goes R id e eof s false (Turning.after_input R i).world (Turning.after_input R i).sessions b
     (record {
       world = ap (run R.world) es;
       session = s;
@@ -440,29 +445,30 @@ runs_not R id e eof s sound b = none_runs R.world id e sound b.core.here (ap is_
 
 other_goes : NextIsSound → NextIsPromised → (R : State) (i : Input) (id : TransactionId) (e : Entry) (eof : Eof) (s : SessionFields) (again : Bool) →
     Sound R.world → Before R id e eof s → is_work i ≡ false → is_same (touched R i) id ≡ false →
-    Goes (Turning.after R i).world (Turning.after R i).sessions id eof e.received s.timer.count again
+    Goes (Turning.after_input R i).world (Turning.after_input R i).sessions id eof e.received s.timer.count again
 other_goes next_sound promised R i id e eof s again sound b w other =
     let entry = others_keep_entries next_sound promised R i id sound w other in
-    Still e (awaits_still R.world (Turning.after R i).world id e eof (run_config R.world (Handing.handed R i)) entry b.core) refl s
+    Still e (awaits_still R.world (Turning.after_input R i).world id e eof (run_config R.world (Handing.handed R i)) entry b.core) refl s
     (others_stay R i id other ∙ b.here) b.known b.acknowledged (λ q. omega arith)
 
 -- ---- each input
 
 abbrev Stepped : State → Input → TransactionId → Entry → Eof → SessionFields → Type 0
-Stepped R i id e eof s = Goes (Turning.after R i).world (Turning.after R i).sessions id eof (keep_all e.received (piece_in R id i)) s.timer.count
+Stepped R i id e eof s = Goes (Turning.after_input R i).world (Turning.after_input R i).sessions id eof (keep_all e.received (piece_in R id i)) s.timer.count
     (asks_again R id i)
 
 -- a PDU of its own, or of another transaction
 pdu_goes : NextIsSound → NextIsPromised → (R : State) (i : Input) (h : Header) (id : TransactionId) (e : Entry) (eof : Eof) (s : SessionFields) →
     Sound R.world → Before R id e eof s → is_work i ≡ false → touched R i ≡ id_of h →
-    (is_same (id_of h) id ≡ true → Before R (id_of h) e eof s → Quiet R.world (id_of h) s false (Turning.after R i).world (Turning.after R i).sessions) →
-    Goes (Turning.after R i).world (Turning.after R i).sessions id eof e.received s.timer.count false
+    (is_same (id_of h) id ≡ true → Before R (id_of h) e eof s → Quiet R.world (id_of h) s false (Turning.after_input R i).world
+    (Turning.after_input R i).sessions) →
+    Goes (Turning.after_input R i).world (Turning.after_input R i).sessions id eof e.received s.timer.count false
 pdu_goes next_sound promised R i h id e eof s sound b w of quiet = elim (cases_Bool (is_same (id_of h) id)) [
   | inl same ↦
       let it = same_is (id_of h) id same in
       let own : Before R (id_of h) e eof s = subst (λ (n : TransactionId). Before R n e eof s) (sym it) b in
-      subst (λ (n : TransactionId). Goes (Turning.after R i).world (Turning.after R i).sessions n eof e.received s.timer.count false) it
-      (quiet_goes R (id_of h) e eof s false (Turning.after R i).world (Turning.after R i).sessions own (quiet same own))
+      subst (λ (n : TransactionId). Goes (Turning.after_input R i).world (Turning.after_input R i).sessions n eof e.received s.timer.count false) it
+      (quiet_goes R (id_of h) e eof s false (Turning.after_input R i).world (Turning.after_input R i).sessions own (quiet same own))
   | inr other ↦ other_goes next_sound promised R i id e eof s false sound b w (ap (λ (n : TransactionId). is_same n id) of ∙ other)
 ]
 
@@ -478,7 +484,8 @@ data_goes : NextIsSound → NextIsPromised →
 data_goes next_sound promised R now h piece id e eof s sound b within =
     let i = DataPdu now h piece in
     let p : Piece = (piece.offset, piece.octets) in
-    let G : List Piece → Type 0 = λ ps. Goes (Turning.after R i).world (Turning.after R i).sessions id eof (keep_all e.received ps) s.timer.count false in
+    let G : List Piece → Type 0 = λ ps. Goes (Turning.after_input R i).world (Turning.after_input R i).sessions id eof
+    (keep_all e.received ps) s.timer.count false in
     let ours = Handing.is_ours R h in
     elim (cases_Bool (is_same (id_of h) id)) [
       | inl same ↦
@@ -489,11 +496,12 @@ data_goes next_sound promised R now h piece id e eof s sound b within =
                 let one : piece_in R id i ≡ p ∷ [] = cond-true (ours && is_same (id_of h) id) (p ∷ []) [] (and_from ours (is_same (id_of h) id) mine same) in
                 let fits = (subst (Within eof.size) one within).0 in
                 subst G (sym one)
-                (subst (λ (n : TransactionId). Goes (Turning.after R i).world (Turning.after R i).sessions n eof (keep e.received p) s.timer.count false) it
+                (subst (λ (n : TransactionId). Goes (Turning.after_input R i).world (Turning.after_input R i).sessions n eof
+                (keep e.received p) s.timer.count false) it
                 (data_ours R now h piece e eof s own mine fits))
             | inr foreign ↦
                 subst G (sym (cond-false (ours && is_same (id_of h) id) (p ∷ []) [] (and_left ours (is_same (id_of h) id) foreign)))
-                (subst (λ (n : TransactionId). Goes (Turning.after R i).world (Turning.after R i).sessions n eof e.received s.timer.count false) it
+                (subst (λ (n : TransactionId). Goes (Turning.after_input R i).world (Turning.after_input R i).sessions n eof e.received s.timer.count false) it
                 (data_foreign R now h piece e eof s own foreign))
           ]
       | inr other ↦
@@ -510,7 +518,7 @@ expire_goes next_sound promised R now id e eof s sound d b on =
     let due = Dues.first_due L L.sessions in
     elim (cases_Bool (is_same (due_name due) id)) [
       | inl same ↦
-          quiet_goes R id e eof s (is_asking id due) (Turning.after R i).world (Turning.after R i).sessions b
+          quiet_goes R id e eof s (is_asking id due) (Turning.after_input R i).world (Turning.after_input R i).sessions b
           (quiet_due R now (run R.world (Handing.handed R i)) id e eof s due d b refl same on)
       | inr other ↦ other_goes next_sound promised R i id e eof s (is_asking id due) sound b refl other
     ]
@@ -521,7 +529,8 @@ finish_goes next_sound promised R now id e eof s sound d b =
     let i = Finish now in
     let o = Dues.first_over R.world R.sessions in
     elim (cases_Bool (is_same (session_name o) id)) [
-      | inl same ↦ quiet_goes R id e eof s false (Turning.after R i).world (Turning.after R i).sessions b (quiet_finish R now id e eof s o d b refl same)
+      | inl same ↦ quiet_goes R id e eof s false (Turning.after_input R i).world (Turning.after_input R i).sessions b
+          (quiet_finish R now id e eof s o d b refl same)
       | inr other ↦ other_goes next_sound promised R i id e eof s false sound b refl other
     ]
 
@@ -542,7 +551,7 @@ step next_sound promised R (OtherPdu now h) id e eof s sound d b on within =
     pdu_goes next_sound promised R (OtherPdu now h) h id e eof s sound b refl refl (λ same own. quiet_other R now h s own.here)
 step next_sound promised R (Expire now) id e eof s sound d b on within = expire_goes next_sound promised R now id e eof s sound d b on
 step next_sound promised R (Work now) id e eof s sound d b on within =
-    let V = (Turning.after R (Work now)).world in
+    let V = (Turning.after_input R (Work now)).world in
     let entry = work_keeps_others next_sound promised R now id sound (runs_not R id e eof s sound b) in
     Still e (awaits_still R.world V id e eof (run_config R.world (Handing.handed R (Work now))) entry b.core) refl s b.here b.known b.acknowledged
     (λ q. omega arith)

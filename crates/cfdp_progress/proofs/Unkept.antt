@@ -16,7 +16,7 @@ use Rattle.cfdp_transactions.specs.Entry.{Entry, id_of, is_live, is_receiving, h
 use Rattle.cfdp_transactions.specs.Entry as Entries
 use Rattle.cfdp_transactions.specs.Next.{next, run}
 use Rattle.cfdp_transactions.specs.Received.{is_whole}
-use Rattle.cfdp_transactions.specs.World.{World, bound, spare, leases_of, entry_of, index_of}
+use Rattle.cfdp_transactions.specs.World.{World, bound, spare_blocks, leases_of, entry_of, index_of}
 use Rattle.cfdp_transactions.specs.declared.event.Event.{Event}
 use Rattle.cfdp_transactions.specs.declared.event.Event.TheVariants.{Metadata as MetadataCame, Eof as EofCame}
 use Rattle.cfdp_transactions.specs.declared.phase.Phase.{Phase}
@@ -26,8 +26,8 @@ use Rattle.cfdp_transactions.proofs.Finding.{found_name as entry_name}
 use Rattle.cfdp_transactions.proofs.Lookups.{append_own}
 use Rattle.cfdp_receiver.specs.State.{State, MetadataPdu, session_of}
 use Rattle.cfdp_receiver.specs.Handing as Handing
-use Rattle.cfdp_receiver.specs.Turning.{after}
-use Rattle.cfdp_receiver.specs.Laws.{is_known, knows, AreKnown}
+use Rattle.cfdp_receiver.specs.Turning.{after_input}
+use Rattle.cfdp_receiver.specs.Laws.{is_known_session, knows, AreKnown}
 use Rattle.cfdp_progress.specs.NakRounds.{MetadataOpens}
 use Rattle.cfdp_progress.proofs.Reached.{replaces}
 
@@ -112,7 +112,7 @@ metadata_nil W h m none =
     (λ z. cond_both (has_file m && not (is_known_checksum m.checksum_type)) (with_new W (refused_entry h m (Ended 11)), Reply.Faulted 11) _
     (NilAfter (id_of h))
     (λ wrong. new_nil W (id_of h) (refused_entry h m (Ended 11)) none refl refl)
-    (λ right. judged_nil W h m (verdict W.config.prefixes W.filestore (leases_of W.table) (spare W) (proposal_of W.config m)) none)))
+    (λ right. judged_nil W h m (verdict W.config.prefixes W.filestore (leases_of W.table) (spare_blocks W) (proposal_of W.config m)) none)))
 
 next_metadata : (W : World) (h : Header) (m : MetadataFields) → entry_of W (id_of h) ≡ None → Nil (next W (MetadataCame h m)).0 (id_of h)
 next_metadata W h m none =
@@ -127,7 +127,7 @@ none_of None h = refl
 none_of (Some e) h = absurd cc
 
 pub nothing_kept : (R : State) (id : TransactionId) (moment : ℕ) (h : Header) (m : MetadataFields) → AreKnown R → MetadataOpens R id h →
-    (e : Entry) → entry_of (after R (MetadataPdu moment h m)).world id ≡ Some e → e.received ≡ []
+    (e : Entry) → entry_of (after_input R (MetadataPdu moment h m)).world id ≡ Some e → e.received ≡ []
 nothing_kept R id moment h m known opens =
     let i = MetadataPdu moment h m in
     let L = Handing.later moment R in
@@ -140,7 +140,7 @@ nothing_kept R id moment h m known opens =
     ∙ ap (Handing.metadata_in_stage h m s) opens.held
     ∙ cond-true h.acknowledged both [] opens.mode in
     let unknown : entry_of R.world id ≡ None =
-    none_of (entry_of R.world id) (known id ∙ ap knows opens.here ∙ ap is_known opens.held) in
+    none_of (entry_of R.world id) (known id ∙ ap knows opens.here ∙ ap is_known_session opens.held) in
     let first : Nil (next R.world (MetadataCame h m)).0 id =
     subst (Nil (next R.world (MetadataCame h m)).0) opens.named (next_metadata R.world h m (ap (entry_of R.world) opens.named ∙ unknown)) in
     let last : Nil (run R.world both) id =

@@ -17,8 +17,8 @@ use Rattle.std.specs.List.{AllByRecursion}
 use Rattle.cfdp_status.specs.declared.transaction.TransactionId.{TransactionId}
 use Rattle.cfdp_leases.specs.Leases.{is_same}
 use Rattle.cfdp_pdus.specs.declared.eof.Eof.{Eof}
-use Rattle.cfdp_retransmission.specs.Coming.{Piece, AreKept, Answers}
-use Rattle.cfdp_sessions.specs.Sessions.{SessionFields, name_of, AreDistinct}
+use Rattle.cfdp_retransmission.specs.Coming.{Piece, AreAllKept, BringsMissing}
+use Rattle.cfdp_sessions.specs.Sessions.{SessionFields, session_id, AreDistinct}
 use Rattle.cfdp_sessions.specs.declared.session.Stage.TheVariants.{Known}
 use Rattle.cfdp_transactions.specs.Entry.{Entry, id_of, is_awaiting}
 use Rattle.cfdp_transactions.specs.Received.{is_whole}
@@ -31,7 +31,7 @@ use Rattle.cfdp_receiver.specs.declared.mib.Mib.{Mib}
 use Rattle.cfdp_receiver.specs.State.{State, begin, Input, DataPdu, EofPdu, Expire, Work, CancelAsked, session_of}
 use Rattle.cfdp_receiver.specs.Due.{Due, Stage_due, first_due}
 use Rattle.cfdp_receiver.specs.Handing.{is_ours, later}
-use Rattle.cfdp_receiver.specs.Turning.{after, after_all}
+use Rattle.cfdp_receiver.specs.Turning.{after_input, after_all}
 use Rattle.cfdp_receiver.specs.Laws.{touched}
 
 abbrev pub is_awaiting_entry : Option Entry → Bool
@@ -64,7 +64,7 @@ is_ignoring handler = false
 
 -- the NAK limit is reached, and not ignored
 abbrev pub is_given_up : Mib → TransactionId → Due → Bool
-is_given_up mib id (Stage_due s true) = is_same (name_of s) id && not (is_ignoring mib.nak.at_limit)
+is_given_up mib id (Stage_due s true) = is_same (session_id s) id && not (is_ignoring mib.nak.at_limit)
 is_given_up mib id due = false
 
 abbrev pub breaks_off : State → TransactionId → Input → Bool
@@ -75,7 +75,7 @@ breaks_off R id i = false
 
 abbrev pub GoesOn : State → TransactionId → List Input → Type 0
 GoesOn R id [] = ⊤
-GoesOn R id (i ∷ is) = (awaits_octets R id ≡ true → breaks_off R id i ≡ false) × GoesOn (after R i) id is
+GoesOn R id (i ∷ is) = (awaits_octets R id ≡ true → breaks_off R id i ≡ false) × GoesOn (after_input R i) id is
 
 abbrev pub piece_in : State → TransactionId → Input → List Piece
 piece_in R id (DataPdu now h piece) =
@@ -84,7 +84,7 @@ piece_in R id i = []
 
 abbrev pub pieces_in : State → TransactionId → List Input → List Piece
 pieces_in R id [] = []
-pieces_in R id (i ∷ is) = piece_in R id i ++ pieces_in (after R i) id is
+pieces_in R id (i ∷ is) = piece_in R id i ++ pieces_in (after_input R i) id is
 
 -- ---- what becomes of it
 
@@ -106,7 +106,7 @@ AnsweredTurns =
     (R : State) (inputs : List Input) (id : TransactionId) (entry : Entry) (eof : Eof) →
     Sound R.world → AreDistinct R.sessions → TransactionAwaits R id entry eof → GoesOn R id inputs →
     AllByRecursion (λ p. p.0 + length p.1 ≤ eof.size) (pieces_in R id inputs) →
-    AreKept entry.received (pieces_in R id inputs) → Answers eof.size entry.received (pieces_in R id inputs) →
+    AreAllKept entry.received (pieces_in R id inputs) → BringsMissing eof.size entry.received (pieces_in R id inputs) →
     WasDelivered R inputs id
 
 abbrev pub is_named : TransactionId → Option TransactionId → Bool
@@ -120,7 +120,7 @@ is_kept_apart R id i = not (is_same (touched R i) id)
 
 abbrev pub AreKeptApart : State → TransactionId → List Input → Type 0
 AreKeptApart R id [] = ⊤
-AreKeptApart R id (i ∷ is) = (is_kept_apart R id i ≡ true) × AreKeptApart (after R i) id is
+AreKeptApart R id (i ∷ is) = (is_kept_apart R id i ≡ true) × AreKeptApart (after_input R i) id is
 
 abbrev pub StaysDelivered : Type 0
 StaysDelivered =

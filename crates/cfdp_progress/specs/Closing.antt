@@ -13,13 +13,13 @@ use Rattle.std.specs.List.{AllByRecursion, flat_map}
 use Rattle.cfdp_status.specs.declared.transaction.TransactionId.{TransactionId}
 use Rattle.cfdp_leases.specs.Leases.{is_same}
 use Rattle.cfdp_retransmission.specs.Coming.{one_if}
-use Rattle.cfdp_sessions.specs.Sessions.{SessionFields, name_of, AreDistinct}
+use Rattle.cfdp_sessions.specs.Sessions.{SessionFields, session_id, AreDistinct}
 use Rattle.cfdp_sessions.specs.declared.session.Stage.TheVariants.{Waiting}
 use Rattle.cfdp_transactions.specs.Entry.{id_of}
 use Rattle.cfdp_receiver.specs.State.{State, Input, AckPdu, Expire, session_of, is_closed}
 use Rattle.cfdp_receiver.specs.Due.{Due, Stage_due, first_due}
 use Rattle.cfdp_receiver.specs.Handing.{is_ours, later}
-use Rattle.cfdp_receiver.specs.Turning.{after, after_all}
+use Rattle.cfdp_receiver.specs.Turning.{after_input, after_all}
 use Rattle.cfdp_receiver.specs.Laws.{waits_in}
 use Rattle.cfdp_progress.specs.NakRounds.{IsServed}
 
@@ -30,10 +30,10 @@ acknowledges R id i = false
 
 abbrev pub is_acknowledged : State → TransactionId → List Input → Bool
 is_acknowledged R id [] = false
-is_acknowledged R id (i ∷ is) = acknowledges R id i || is_acknowledged (after R i) id is
+is_acknowledged R id (i ∷ is) = acknowledges R id i || is_acknowledged (after_input R i) id is
 
 abbrev pub is_timer_of : TransactionId → Due → Bool
-is_timer_of id (Stage_due s is_at_limit) = is_same (name_of s) id
+is_timer_of id (Stage_due s is_at_limit) = is_same (session_id s) id
 is_timer_of id due = false
 
 abbrev pub is_sent_again : State → TransactionId → Input → Bool
@@ -43,7 +43,7 @@ is_sent_again R id i = false
 abbrev pub IsSentOnce : State → TransactionId → List Input → Type 0
 IsSentOnce R id [] = ⊤
 IsSentOnce R id (i ∷ is) =
-    (waits_in (session_of R id) ≡ true → is_sent_again R id i ≡ false) × IsSentOnce (after R i) id is
+    (waits_in (session_of R id) ≡ true → is_sent_again R id i ≡ false) × IsSentOnce (after_input R i) id is
 
 -- R is the state after the input whose answer had the Finished PDU
 pub record IsAcknowledgedUnless (is_lost : Bool) (R : State) (id : TransactionId) (rest : List Input) : Type 0 where
@@ -61,7 +61,7 @@ finished_inputs round = Expire round.moment ∷ round.rest
 
 pub record IsFinishedRound (R : State) (id : TransactionId) (round : FinishedRound) : Type 0 where
   pub served : IsServed R id round.moment round.is_at_limit
-  pub answered : IsAcknowledgedUnless round.is_lost (after R (Expire round.moment)) id round.rest
+  pub answered : IsAcknowledgedUnless round.is_lost (after_input R (Expire round.moment)) id round.rest
 
 abbrev pub AreFinishedRounds : State → TransactionId → List FinishedRound → Type 0
 AreFinishedRounds R id [] = ⊤

@@ -2,15 +2,16 @@
 -- (CCSDS 727.0-B-5, lost segment procedures). File data that comes before the Metadata PDU is not kept.
 --     holds_eof R id            the session of the transaction holds its EOF PDU
 --     EofHolds R id header eof  the EOF PDU comes and begins such a session
---     Begins R id is_at_limit i a round begins: the EOF PDU comes so, or the NAK timer of the session is served
+--     BeginsHeldRound R id is_at_limit i a round begins: the EOF PDU comes so, or the NAK timer of the session is
+--     served
 --     asks_first naks           the first of these NAK PDUs asks for the Metadata PDU
---     joins R id i              the Metadata PDU comes while the EOF PDU is held
+--     joins_held R id i         the Metadata PDU comes while the EOF PDU is held
 --     comes R id inputs         one of the inputs is that
 --     StaysHeld R id inputs     as long as the EOF PDU is held, nothing breaks the transaction off, and its NAK timer
 --                               is not served below the limit
 --     HeldRound, IsHeldRound    a round in which a sender that gets the first NAK PDU answers it with the Metadata PDU
 --     AreHeldRounds R id rounds         each of several is one, until the Metadata PDU comes
---     has_come R id rounds      it comes in one of them
+--     comes_in R id rounds      it comes in one of them
 --     lost_while_held rounds    in how many of them the first NAK PDU or the Metadata PDU is lost
 --     MetadataCame R inputs id  one of the inputs is the Metadata PDU, and the EOF PDU is held until then
 --     MetadataComes             so it is after one round more than are lost
@@ -32,20 +33,20 @@ use Rattle.cfdp_transactions.specs.Entry.{Entry, id_of}
 use Rattle.cfdp_transactions.specs.Sound.{Sound}
 use Rattle.cfdp_receiver.specs.State.{State, Input, MetadataPdu, EofPdu, Expire, session_of, is_closed, is_full}
 use Rattle.cfdp_receiver.specs.Handing.{is_ours}
-use Rattle.cfdp_receiver.specs.Turning.{most_requests, parts, after, after_all}
+use Rattle.cfdp_receiver.specs.Turning.{most_nak_requests, parts, after_input, after_all}
 use Rattle.cfdp_receiver.specs.Laws.{asks_metadata, AreKnown}
 use Rattle.cfdp_progress.specs.Awaiting.{breaks_off}
 use Rattle.cfdp_progress.specs.Closing.{WasClosed}
 use Rattle.cfdp_progress.specs.InAll.{EitherRound, inputs_of, IsWatched, AreEitherRounds, lost_in_all}
 use Rattle.cfdp_progress.specs.NakRounds.{asks_again, IsServed, MetadataOpens, FirstRound, IsFirstRound}
 
-abbrev pub is_held : Stage → Bool
-is_held (Held eof) = true
-is_held stage = false
+abbrev pub is_eof_held : Stage → Bool
+is_eof_held (Held eof) = true
+is_eof_held stage = false
 
 abbrev pub holds_in : Option SessionFields → Bool
 holds_in None = false
-holds_in (Some session) = is_held session.stage
+holds_in (Some session) = is_eof_held session.stage
 
 abbrev pub holds_eof : State → TransactionId → Bool
 holds_eof R id = holds_in (session_of R id)
@@ -61,10 +62,10 @@ pub record EofHolds (R : State) (id : TransactionId) (header : Header) (eof : Eo
   pub not_closed : is_closed R id ≡ false
   pub not_full : is_full R ≡ false
 
-abbrev pub Begins : State → TransactionId → Bool → Input → Type 0
-Begins R id is_at_limit (EofPdu now header eof) = EofHolds R id header eof
-Begins R id is_at_limit (Expire now) = IsServed R id now is_at_limit
-Begins R id is_at_limit i = ⊥
+abbrev pub BeginsHeldRound : State → TransactionId → Bool → Input → Type 0
+BeginsHeldRound R id is_at_limit (EofPdu now header eof) = EofHolds R id header eof
+BeginsHeldRound R id is_at_limit (Expire now) = IsServed R id now is_at_limit
+BeginsHeldRound R id is_at_limit i = ⊥
 
 -- ---- what comes then
 
@@ -72,18 +73,19 @@ abbrev pub asks_first : List NakFields → Bool
 asks_first [] = false
 asks_first (nak ∷ naks) = nat_lt 0 (asks_metadata nak.requests)
 
-abbrev pub joins : State → TransactionId → Input → Bool
-joins R id (MetadataPdu now h m) = is_ours R h && (is_same (id_of h) id && (h.acknowledged && holds_eof R id))
-joins R id i = false
+abbrev pub joins_held : State → TransactionId → Input → Bool
+joins_held R id (MetadataPdu now h m) = is_ours R h && (is_same (id_of h) id && (h.acknowledged && holds_eof R id))
+joins_held R id i = false
 
 abbrev pub comes : State → TransactionId → List Input → Bool
 comes R id [] = false
-comes R id (i ∷ is) = joins R id i || comes (after R i) id is
+comes R id (i ∷ is) = joins_held R id i || comes (after_input R i) id is
 
 abbrev pub StaysHeld : State → TransactionId → List Input → Type 0
 StaysHeld R id [] = ⊤
 StaysHeld R id (i ∷ is) =
-    (holds_eof R id ≡ true → (breaks_off R id i ≡ false) × (asks_again R id i ≡ false)) × StaysHeld (after R i) id is
+    (holds_eof R id ≡ true → (breaks_off R id i ≡ false) × (asks_again R id i ≡ false)) × StaysHeld
+    (after_input R i) id is
 
 -- ---- rounds
 
@@ -97,21 +99,22 @@ abbrev pub held_inputs : HeldRound → List Input
 held_inputs round = round.opening ∷ round.rest
 
 pub record IsHeldRound (R : State) (id : TransactionId) (round : HeldRound) : Type 0 where
-  pub begins : Begins R id round.is_at_limit round.opening
-  pub goes_on : StaysHeld (after R round.opening) id round.rest
+  pub begins : BeginsHeldRound R id round.is_at_limit round.opening
+  pub goes_on : StaysHeld (after_input R round.opening) id round.rest
   pub answered : asks_first (parts R round.opening).answer.naks ≡ true → round.is_lost ≡ false →
-      comes (after R round.opening) id round.rest ≡ true
+      comes (after_input R round.opening) id round.rest ≡ true
 
 abbrev pub AreHeldRounds : State → TransactionId → List HeldRound → Type 0
 AreHeldRounds R id [] = ⊤
 AreHeldRounds R id (round ∷ rounds) =
     IsHeldRound R id round
-    × (comes (after R round.opening) id round.rest ≡ false → AreHeldRounds (after_all R (held_inputs round)) id rounds)
+    × (comes (after_input R round.opening) id round.rest ≡ false → AreHeldRounds
+    (after_all R (held_inputs round)) id rounds)
 
-abbrev pub has_come : State → TransactionId → List HeldRound → Bool
-has_come R id [] = false
-has_come R id (round ∷ rounds) =
-    comes (after R round.opening) id round.rest || has_come (after_all R (held_inputs round)) id rounds
+abbrev pub comes_in : State → TransactionId → List HeldRound → Bool
+comes_in R id [] = false
+comes_in R id (round ∷ rounds) =
+    comes (after_input R round.opening) id round.rest || comes_in (after_all R (held_inputs round)) id rounds
 
 abbrev pub lost_while_held : List HeldRound → ℕ
 lost_while_held [] = 0
@@ -133,7 +136,7 @@ pub record MetadataCame (R : State) (inputs : List Input) (id : TransactionId) :
 abbrev pub MetadataComes : Type 0
 MetadataComes =
     (R : State) (id : TransactionId) (rounds : List HeldRound) →
-    AreDistinct R.sessions → session_of R id ≡ None → 1 ≤ most_requests R.mib → AreHeldRounds R id rounds →
+    AreDistinct R.sessions → session_of R id ≡ None → 1 ≤ most_nak_requests R.mib → AreHeldRounds R id rounds →
     AreHeldBelow rounds ⊎ (lost_while_held rounds < R.mib.nak.limit) → lost_while_held rounds < length rounds →
     MetadataCame R (flat_map held_inputs rounds) id
 
@@ -152,10 +155,10 @@ ClosedFromHeld =
     (R : State) (id : TransactionId) (held : List HeldRound) (before : List Input)
     (moment : ℕ) (header : Header) (metadata : MetadataFields) (first : FirstRound) (is_lost : Bool)
     (rounds : List EitherRound) (entry : Entry) (eof : Eof) →
-    Sound R.world → AreDistinct R.sessions → AreKnown R → session_of R id ≡ None → 1 ≤ most_requests R.mib →
-    AreHeldRounds R id held → has_come R id held ≡ false → first.opening ≡ MetadataPdu moment header metadata →
+    Sound R.world → AreDistinct R.sessions → AreKnown R → session_of R id ≡ None → 1 ≤ most_nak_requests R.mib →
+    AreHeldRounds R id held → comes_in R id held ≡ false → first.opening ≡ MetadataPdu moment header metadata →
     IsFirstRound (at_metadata R held before) id first entry eof →
-    IsWatched is_lost (after (at_metadata R held before) first.opening) id first.rest →
+    IsWatched is_lost (after_input (at_metadata R held before) first.opening) id first.rest →
     AreEitherRounds (after_all (at_metadata R held before) (first.opening ∷ first.rest)) id rounds →
     (AreHeldBelow held × AllByRecursion (λ round. round.is_at_limit ≡ false) rounds)
     ⊎ ((lost_while_held held < R.mib.nak.limit) × (lost_in_all first is_lost rounds < R.mib.nak.limit)

@@ -15,12 +15,12 @@ use Rattle.cfdp_leases.specs.Leases.{is_same}
 use Rattle.cfdp_pdus.specs.declared.eof.Eof.{Eof}
 use Rattle.cfdp_retransmission.specs.Coming.{one_if}
 use Rattle.cfdp_retransmission.specs.Rounds.{Exchange, lost_of, spare_round}
-use Rattle.cfdp_sessions.specs.Sessions.{SessionFields, name_of, AreDistinct}
+use Rattle.cfdp_sessions.specs.Sessions.{SessionFields, session_id, AreDistinct}
 use Rattle.cfdp_transactions.specs.Entry.{Entry}
 use Rattle.cfdp_transactions.specs.Sound.{Sound}
 use Rattle.cfdp_receiver.specs.State.{State, Input, Expire, Finish, session_of}
 use Rattle.cfdp_receiver.specs.Due.{first_over}
-use Rattle.cfdp_receiver.specs.Turning.{most_requests, after, after_all}
+use Rattle.cfdp_receiver.specs.Turning.{most_nak_requests, after_input, after_all}
 use Rattle.cfdp_receiver.specs.Laws.{waits_in, AreKnown}
 use Rattle.cfdp_progress.specs.Awaiting.{awaits_octets}
 use Rattle.cfdp_progress.specs.NakRounds.{NakRound, IsNakRound, FirstRound, IsFirstRound}
@@ -55,7 +55,7 @@ inputs_of round = Expire round.moment ∷ round.rest
 
 abbrev pub is_session_of : TransactionId → Option SessionFields → Bool
 is_session_of id None = false
-is_session_of id (Some session) = is_same (name_of session) id
+is_session_of id (Some session) = is_same (session_id session) id
 
 abbrev pub concludes : State → TransactionId → Input → Bool
 concludes R id (Finish now) = is_session_of id (first_over R.world R.sessions)
@@ -64,8 +64,8 @@ concludes R id i = false
 abbrev pub IsAcknowledgedAfter : Bool → State → TransactionId → List Input → Type 0
 IsAcknowledgedAfter is_lost R id [] = ⊤
 IsAcknowledgedAfter is_lost R id (i ∷ is) =
-    (concludes R id i ≡ true → is_lost ≡ false → is_acknowledged (after R i) id is ≡ true)
-    × IsAcknowledgedAfter is_lost (after R i) id is
+    (concludes R id i ≡ true → is_lost ≡ false → is_acknowledged (after_input R i) id is ≡ true)
+    × IsAcknowledgedAfter is_lost (after_input R i) id is
 
 -- R is the state after the input that begins the round
 pub record IsWatched (is_lost : Bool) (R : State) (id : TransactionId) (rest : List Input) : Type 0 where
@@ -76,7 +76,7 @@ pub record IsWatched (is_lost : Bool) (R : State) (id : TransactionId) (rest : L
 pub record IsEitherRound (R : State) (id : TransactionId) (round : EitherRound) : Type 0 where
   pub asks : awaits_octets R id ≡ true → IsNakRound R id (as_nak round)
   pub closes : waits_in (session_of R id) ≡ true → IsFinishedRound R id (as_finished round)
-  pub watched : IsWatched round.is_lost (after R (Expire round.moment)) id round.rest
+  pub watched : IsWatched round.is_lost (after_input R (Expire round.moment)) id round.rest
 
 abbrev pub AreEitherRounds : State → TransactionId → List EitherRound → Type 0
 AreEitherRounds R id [] = ⊤
@@ -96,8 +96,8 @@ abbrev pub ClosedInAll : Type 0
 ClosedInAll =
     (R : State) (id : TransactionId) (first : FirstRound) (is_lost : Bool) (rounds : List EitherRound)
     (entry : Entry) (eof : Eof) →
-    Sound R.world → AreDistinct R.sessions → AreKnown R → 1 ≤ most_requests R.mib →
-    IsFirstRound R id first entry eof → IsWatched is_lost (after R first.opening) id first.rest →
+    Sound R.world → AreDistinct R.sessions → AreKnown R → 1 ≤ most_nak_requests R.mib →
+    IsFirstRound R id first entry eof → IsWatched is_lost (after_input R first.opening) id first.rest →
     AreEitherRounds (after_all R (first.opening ∷ first.rest)) id rounds →
     AllByRecursion (λ round. round.is_at_limit ≡ false) rounds
     ⊎ ((lost_in_all first is_lost rounds + spare_round entry.received < R.mib.nak.limit)

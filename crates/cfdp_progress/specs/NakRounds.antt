@@ -23,9 +23,9 @@ use Rattle.cfdp_leases.specs.Leases.{is_same}
 use Rattle.cfdp_pdus.specs.declared.eof.Eof.{Eof}
 use Rattle.cfdp_pdus.specs.declared.header.Header.{Header}
 use Rattle.cfdp_directives.specs.Reading.{NakFields}
-use Rattle.cfdp_retransmission.specs.Naks.{Range}
+use Rattle.cfdp_retransmission.specs.Naks.{SegmentRequest}
 use Rattle.cfdp_retransmission.specs.Rounds.{Exchange, IsExchange, arrived, lost_of, spare_round}
-use Rattle.cfdp_sessions.specs.Sessions.{SessionFields, name_of, AreDistinct}
+use Rattle.cfdp_sessions.specs.Sessions.{SessionFields, session_id, AreDistinct}
 use Rattle.cfdp_sessions.specs.declared.session.Stage.TheVariants.{Held, Known}
 use Rattle.cfdp_transactions.specs.Entry.{Entry, id_of}
 use Rattle.cfdp_transactions.specs.Sound.{Sound}
@@ -33,11 +33,11 @@ use Rattle.cfdp_receiver.specs.declared.at.At.TheVariants.{Receiving as At_recei
 use Rattle.cfdp_receiver.specs.State.{State, Input, MetadataPdu, EofPdu, Expire, session_of, at_of}
 use Rattle.cfdp_receiver.specs.Due.{Due, Stage_due, first_due}
 use Rattle.cfdp_receiver.specs.Handing.{is_ours, later}
-use Rattle.cfdp_receiver.specs.Turning.{most_requests, parts, after, after_all}
+use Rattle.cfdp_receiver.specs.Turning.{most_nak_requests, parts, after_input, after_all}
 use Rattle.cfdp_progress.specs.Awaiting.{awaits_octets, TransactionAwaits, GoesOn, pieces_in, WasDelivered}
 
 abbrev pub is_asking : TransactionId → Due → Bool
-is_asking id (Stage_due s false) = is_same (name_of s) id
+is_asking id (Stage_due s false) = is_same (session_id s) id
 is_asking id due = false
 
 -- its NAK timer is served below the limit
@@ -48,9 +48,10 @@ asks_again R id i = false
 -- not before the next round, as long as it waits
 abbrev pub IsAskedOnce : State → TransactionId → List Input → Type 0
 IsAskedOnce R id [] = ⊤
-IsAskedOnce R id (i ∷ is) = (awaits_octets R id ≡ true → asks_again R id i ≡ false) × IsAskedOnce (after R i) id is
+IsAskedOnce R id (i ∷ is) = (awaits_octets R id ≡ true → asks_again R id i ≡ false) × IsAskedOnce
+    (after_input R i) id is
 
-abbrev pub requests_of_each : List NakFields → List (List Range)
+abbrev pub requests_of_each : List NakFields → List (List SegmentRequest)
 requests_of_each naks = map (λ nak. nak.requests) naks
 
 -- R is the state after the input whose answer had the NAK PDUs
@@ -66,7 +67,7 @@ pub record AreAnswered (R : State) (id : TransactionId) (naks : List NakFields) 
 pub record IsServed (R : State) (id : TransactionId) (moment : ℕ) (is_at_limit : Bool) : Type 0 where
   pub session : SessionFields
   pub due : first_due (later moment R) R.sessions ≡ Stage_due session is_at_limit
-  pub named : name_of session ≡ id
+  pub named : session_id session ≡ id
 
 pub record NakRound : Type 0 where
   pub moment : ℕ
@@ -79,7 +80,7 @@ round_inputs round = Expire round.moment ∷ round.rest
 
 pub record IsNakRound (R : State) (id : TransactionId) (round : NakRound) : Type 0 where
   pub served : IsServed R id round.moment round.is_at_limit
-  pub answered : AreAnswered (after R (Expire round.moment)) id
+  pub answered : AreAnswered (after_input R (Expire round.moment)) id
       (parts R (Expire round.moment)).answer.naks round.exchange round.rest
 
 abbrev pub AreNakRounds : State → TransactionId → List NakRound → Type 0
@@ -101,7 +102,7 @@ all_inputs rounds = flat_map round_inputs rounds
 abbrev pub DeliveredAfterRounds : Type 0
 DeliveredAfterRounds =
     (R : State) (id : TransactionId) (rounds : List NakRound) (entry : Entry) (eof : Eof) →
-    Sound R.world → AreDistinct R.sessions → 1 ≤ most_requests R.mib → TransactionAwaits R id entry eof →
+    Sound R.world → AreDistinct R.sessions → 1 ≤ most_nak_requests R.mib → TransactionAwaits R id entry eof →
     AreNakRounds R id rounds → AreBelow rounds → all_lost rounds + spare_round entry.received < length rounds →
     WasDelivered R (all_inputs rounds) id
 
@@ -140,8 +141,8 @@ pub record FirstRound : Type 0 where
 -- `entry` and `eof` are those after the input that opens it
 pub record IsFirstRound (R : State) (id : TransactionId) (round : FirstRound) (entry : Entry) (eof : Eof) : Type 0 where
   pub opens : Opens R id round.opening
-  pub awaits : TransactionAwaits (after R round.opening) id entry eof
-  pub answered : AreAnswered (after R round.opening) id
+  pub awaits : TransactionAwaits (after_input R round.opening) id entry eof
+  pub answered : AreAnswered (after_input R round.opening) id
       (parts R round.opening).answer.naks round.exchange round.rest
 
 -- in all rounds
@@ -152,7 +153,7 @@ lost_from first rounds = lost_of first.exchange + all_lost rounds
 abbrev pub DeliveredAfterLosses : Type 0
 DeliveredAfterLosses =
     (R : State) (id : TransactionId) (first : FirstRound) (rounds : List NakRound) (entry : Entry) (eof : Eof) →
-    Sound R.world → AreDistinct R.sessions → 1 ≤ most_requests R.mib → IsFirstRound R id first entry eof →
+    Sound R.world → AreDistinct R.sessions → 1 ≤ most_nak_requests R.mib → IsFirstRound R id first entry eof →
     AreNakRounds (after_all R (first.opening ∷ first.rest)) id rounds →
     AreBelow rounds ⊎ (lost_from first rounds + spare_round entry.received < R.mib.nak.limit) →
     lost_from first rounds + spare_round entry.received < 1 + length rounds →

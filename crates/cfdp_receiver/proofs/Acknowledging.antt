@@ -5,7 +5,8 @@ use Rattle.cfdp_status.specs.declared.transaction.TransactionId.{TransactionId}
 use Rattle.cfdp_leases.specs.Leases.{is_same}
 use Rattle.cfdp_pdus.specs.declared.header.Header.{Header}
 use Rattle.cfdp_directives.specs.declared.ack.Ack.{Ack}
-use Rattle.cfdp_sessions.specs.Sessions.{SessionFields, name_of, found, without, IsFound}
+use Rattle.cfdp_sessions.specs.Sessions.{SessionFields, session_id, found, without_session}
+use Rattle.cfdp_sessions.specs.code.Sessions.{IsFound}
 use Rattle.cfdp_sessions.proofs.Names.{same_is, same_self, both_of, no_some, found_name, gone, replaced_none, added_other, without_none}
 use Rattle.cfdp_sessions.specs.declared.session.Stage.TheVariants.{Waiting}
 use Rattle.cfdp_transactions.specs.Entry.{id_of}
@@ -24,14 +25,14 @@ none_by : (R : State) (t : TransactionId) (p : Turning.Parts) → Shape R t p �
     found p.sessions id ≡ None
 none_by R t p (Keeps a e) id none closed = ap (λ (q : Turning.Parts). found q.sessions id) e ∙ none
 none_by R t p (Puts s a name e) id none closed = ap (λ (q : Turning.Parts). found q.sessions id) e ∙ replaced_none R.sessions s id none
-none_by R t p (Adds s a name free new e) id none closed = ap (λ (q : Turning.Parts). found q.sessions id) e ∙ elim (cases_Bool (is_same (name_of s) id)) [
-  | inl same ↦ absurd (both_of (is_closed R t) new (ap (is_closed R) (sym name ∙ same_is (name_of s) id same) ∙ closed))
+none_by R t p (Adds s a name free new e) id none closed = ap (λ (q : Turning.Parts). found q.sessions id) e ∙ elim (cases_Bool (is_same (session_id s) id)) [
+  | inl same ↦ absurd (both_of (is_closed R t) new (ap (is_closed R) (sym name ∙ same_is (session_id s) id same) ∙ closed))
   | inr other ↦ added_other R.sessions s id other ∙ none
 ]
 none_by R t p (Closes a was e) id none closed = ap (λ (q : Turning.Parts). found q.sessions id) e ∙ without_none R.sessions t id none
 none_by R t p (Forgets a e) id none closed = ap (λ (q : Turning.Parts). found q.sessions id) e ∙ none
 
-stays_closed : (R : State) (i : Input) (id : TransactionId) → session_of R id ≡ None → is_closed R id ≡ true → session_of (Turning.after R i) id ≡ None
+stays_closed : (R : State) (i : Input) (id : TransactionId) → session_of R id ≡ None → is_closed R id ≡ true → session_of (Turning.after_input R i) id ≡ None
 stays_closed R i id none closed = none_by (Handing.later (now_of i) R) (touched R i) (Turning.parts R i) (shape R i) id none closed
 
 -- ---- nothing is sent without a session
@@ -42,10 +43,10 @@ not_found R id n none same f = no_some f.0 (sym none ∙ ap (found R.sessions) (
 none_in : (R : State) (i : Input) (id : TransactionId) (sent : List (List ℕ)) → session_of R id ≡ None → touched_in R i ≡ id → Sent R i sent → length sent ≡ 0
 none_in R i id sent none same (None_sent e) = ap length e
 none_in R i id sent none same (First_sent now s is over e) =
-    absurd (not_found R id (name_of s) none (sym (ap (touched_in R) is ∙ ap session_name over) ∙ same)
+    absurd (not_found R id (session_id s) none (sym (ap (touched_in R) is ∙ ap session_name over) ∙ same)
     (subst (IsOverOf R.sessions) over (over_is R.world R.sessions)))
 none_in R i id sent none same (Sent_again now s is due waits e) =
-    absurd (not_found R id (name_of s) none (sym (ap (touched_in R) is ∙ ap due_name due) ∙ same) (subst (IsDueOf R.sessions) due (due_is R R.sessions)))
+    absurd (not_found R id (session_id s) none (sym (ap (touched_in R) is ∙ ap due_name due) ∙ same) (subst (IsDueOf R.sessions) due (due_is R R.sessions)))
 
 none_sent : (R : State) (i : Input) (id : TransactionId) → session_of R id ≡ None → sent_for R i id ≡ 0
 none_sent R i id none =
@@ -56,29 +57,31 @@ none_sent R i id none =
 none_closed : (R : State) (inputs : List Input) (id : TransactionId) → session_of R id ≡ None → sent_closed R inputs id ≡ 0
 none_closed R [] id none = refl
 none_closed R (i ∷ is) id none =
-    cond_both (is_closed R id) (sent_for R i id + sent_closed (Turning.after R i) is id) 0 (λ (n : ℕ). n ≡ 0)
-    (λ closed. omega (arith, none_sent R i id none, none_closed (Turning.after R i) is id (stays_closed R i id none closed))) (λ open_now. refl)
+    cond_both (is_closed R id) (sent_for R i id + sent_closed (Turning.after_input R i) is id) 0 (λ (n : ℕ). n ≡ 0)
+    (λ closed. omega (arith, none_sent R i id none, none_closed (Turning.after_input R i) is id (stays_closed R i id none closed))) (λ open_now. refl)
 
 -- ---- the acknowledgement
 
 ack_closes : (R : State) (now : ℕ) (h : Header) (ack : Ack) (s : SessionFields) → Handing.is_ours R h ≡ true → ack.directive ≡ 5 →
     session_of R (id_of h) ≡ Some s →
-    s.stage ≡ Waiting → Turning.parts R (AckPdu now h ack) ≡ Turning.closes (Handing.later now R) (name_of s) (Turning.said_of h words.Acknowledged)
+    s.stage ≡ Waiting → Turning.parts R (AckPdu now h ack) ≡ Turning.closes (Handing.later now R) (session_id s) (Turning.said_of_header h words.Acknowledged)
 ack_closes R now h ack s ours directive here waits =
     let L = Handing.later now R in
     cond-true (Handing.is_ours L h) (Turning.ack_parts L h ack (session_of L (id_of h))) (Turning.keeps L (Turning.quiet (Turning.foreign h))) ours
     ∙ ap (Turning.ack_parts L h ack) here ∙ ap (Turning.ack_stage L h ack s) waits
-    ∙ cond-true (ack.directive == 5) (Turning.closes L (name_of s) (Turning.said_of h words.Acknowledged)) (Turning.keeps L (Turning.said_of h words.Idle))
+    ∙ cond-true (ack.directive == 5) (Turning.closes L (session_id s) (Turning.said_of_header h words.Acknowledged))
+    (Turning.keeps L (Turning.said_of_header h words.Idle))
     (eq-eqb ack.directive 5 directive)
 
 pub none_after_ack : NoneAfterAck
 none_after_ack R now h ack s inputs distinct ours directive here waits =
     let id = id_of h in
-    let name : name_of s ≡ id = found_name R.sessions id s here in
+    let name : session_id s ≡ id = found_name R.sessions id s here in
     let closes = ack_closes R now h ack s ours directive here waits in
-    let none : session_of (Turning.after R (AckPdu now h ack)) id ≡ None =
-    ap (λ (p : Turning.Parts). found p.sessions id) closes ∙ ap (λ (n : TransactionId). found (without R.sessions n) id) name ∙ gone R.sessions id distinct in
-    let closed : is_closed (Turning.after R (AckPdu now h ack)) id ≡ true =
+    let none : session_of (Turning.after_input R (AckPdu now h ack)) id ≡ None =
+    ap (λ (p : Turning.Parts). found p.sessions id) closes ∙ ap (λ (n : TransactionId). found (without_session R.sessions n) id) name
+    ∙ gone R.sessions id distinct in
+    let closed : is_closed (Turning.after_input R (AckPdu now h ack)) id ≡ true =
     ap (λ (p : Turning.Parts). closed_in p.closed.names id) closes
-    ∙ or_left (is_same (name_of s) id) (closed_in (take 255 R.closed.names) id) (ap (λ (n : TransactionId). is_same n id) name ∙ same_self id) in
-    (none, closed, none_closed (Turning.after R (AckPdu now h ack)) inputs id none)
+    ∙ or_left (is_same (session_id s) id) (closed_in (take 255 R.closed.names) id) (ap (λ (n : TransactionId). is_same n id) name ∙ same_self id) in
+    (none, closed, none_closed (Turning.after_input R (AckPdu now h ack)) inputs id none)

@@ -19,8 +19,8 @@ use Rattle.cfdp_transactions.specs.declared.reply.Reply.{Reply}
 use Rattle.cfdp_transactions.specs.declared.reply.Reply.TheVariants as replies
 use Rattle.cfdp_receiver.specs.State.{State, begin, MetadataPdu, session_of, is_closed, is_full}
 use Rattle.cfdp_receiver.specs.Handing.{is_ours, later, metadata_in_stage, metadata_events}
-use Rattle.cfdp_receiver.specs.Turning.{after, after_all}
-use Rattle.cfdp_receiver.specs.Laws.{IsPast, Past_closed, Past_over, Past_waiting, NoneAgain, NotBegunAnew, is_known, knows, AreKnown, is_begun_in, is_begun, RememberedStays, AtMostOnce}
+use Rattle.cfdp_receiver.specs.Turning.{after_input, after_all}
+use Rattle.cfdp_receiver.specs.Laws.{IsPast, Past_closed, Past_over, Past_waiting, NoneAgain, NotBegunAnew, is_known_session, knows, AreKnown, is_begun_in, is_begun, RememberedStays, AtMostOnce}
 use Rattle.cfdp_receiver.proofs.Distinct.{closed_is_over}
 use Rattle.cfdp_receiver.proofs.Knowing.{known_is_entry}
 
@@ -55,7 +55,7 @@ not_begun_anew R now h m s entry here known there =
 -- ---- of what is remembered
 
 abbrev Stays : State → ℕ → Header → MetadataFields → Type 0
-Stays R now h m = (after R (MetadataPdu now h m)).world ≡ R.world
+Stays R now h m = (after_input R (MetadataPdu now h m)).world ≡ R.world
 
 past_stays : (R : State) (now : ℕ) (h : Header) (m : MetadataFields) → IsPast R (id_of h) → Stays R now h m
 past_stays R now h m past = ap (run R.world) (none_again R now h m past)
@@ -70,7 +70,7 @@ stage_stays : (R : State) (now : ℕ) (h : Header) (m : MetadataFields) (s : Ses
     s.stage ≡ stage → is_begun_in stage ≡ true → Stays R now h m
 stage_stays R now h m s (Held eof) known here is begun = absurd cc
 stage_stays R now h m s Known known here is begun =
-    entry_stays R now h m s (entry_of R.world (id_of h)) here is refl (known (id_of h) ∙ ap knows here ∙ ap is_known is)
+    entry_stays R now h m s (entry_of R.world (id_of h)) here is refl (known (id_of h) ∙ ap knows here ∙ ap is_known_session is)
 stage_stays R now h m s (Over ending) known here is begun = past_stays R now h m (Past_over s ending here is)
 stage_stays R now h m s Waiting known here is begun = past_stays R now h m (Past_waiting s here is)
 

@@ -2,7 +2,7 @@
 use Rattle.std.proofs.Common.{◌≡◌, ◌⊎◌, inl, inr, List, [], ◌∷◌, Option, Some, refl, sym, ap, ◌∙◌}
 use Rattle.cfdp_status.specs.declared.transaction.TransactionId.{TransactionId}
 use Rattle.cfdp_pdus.specs.declared.eof.Eof.{Eof}
-use Rattle.cfdp_sessions.specs.Sessions.{SessionFields, name_of, replaced}
+use Rattle.cfdp_sessions.specs.Sessions.{SessionFields, session_id, replaced}
 use Rattle.cfdp_sessions.specs.declared.session.Ending.{Ending}
 use Rattle.cfdp_sessions.specs.declared.session.Stage.{Stage}
 use Rattle.cfdp_sessions.specs.declared.session.Stage.TheVariants.{Held, Known, Over, Waiting}
@@ -16,7 +16,8 @@ use Rattle.cfdp_receiver.specs.declared.answer.Became.TheVariants.{Said, Replied
 use Rattle.cfdp_receiver.specs.declared.answer.Word.TheVariants as words
 use Rattle.cfdp_receiver.specs.State.{State, CancelAsked, session_of}
 use Rattle.cfdp_receiver.specs.Handing.{of_session, where_known}
-use Rattle.cfdp_receiver.specs.Machine.{MachineFields, AnswerParts, Turns, answer_in, in_world, silent}
+use Rattle.cfdp_receiver.specs.Machine.{MachineFields, AnswerParts, answer_in}
+use Rattle.cfdp_receiver.specs.code.Machine.{Turns, in_world, silent}
 use Rattle.cfdp_receiver.specs.Turning as Turning
 use Rattle.cfdp_receiver.proofs.Turned.{turns_by}
 
@@ -39,7 +40,8 @@ pub cancel_held : (M : MachineFields) (a : AnswerParts) (id : TransactionId) (s 
 cancel_held M a id s eof here is said =
     let R = M.state in
     let N = with_sessions M (replaced R.sessions (Turning.over_here R s 15)) in
-    turns_by M N a (CancelAsked R.now id) [] (λ (V : World) (rs : List Reply). Turning.puts R (Turning.over_here R s 15) (Turning.said s words.Cancelled))
+    turns_by M N a (CancelAsked R.now id) [] (λ (V : World) (rs : List Reply). Turning.replaces_one R (Turning.over_here R s 15)
+    (Turning.said_word s words.Cancelled))
     (cancels_in M id s (Held eof) here is) (λ (V : World) (rs : List Reply). becomes_in M id s (Held eof) here is rs)
     refl refl refl refl refl
     (ap (answer_in N) said ∙ ap (λ (n : TransactionId). Turning.quiet (Said n words.Cancelled)) (sym (found_name R.sessions id s here)))
@@ -50,7 +52,7 @@ pub cancel_known : (M : MachineFields) (V : World) (reply : Reply) (a : AnswerPa
 cancel_known M V reply a id s here is told said =
     let R = M.state in
     turns_by M (in_world V M) a (CancelAsked R.now id) (Cancel id ∷ [])
-    (λ (U : World) (rs : List Reply). Turning.keeps R (Turning.quiet (Turning.replied (name_of s) rs)))
+    (λ (U : World) (rs : List Reply). Turning.keeps R (Turning.quiet (Turning.became_reply (session_id s) rs)))
     (cancels_in M id s Known here is) (λ (U : World) (rs : List Reply). becomes_in M id s Known here is rs)
     (sym (ap (λ (x : World × Reply). x.0) told)) refl refl refl refl
     (ap (answer_in (in_world V M)) said ∙ ap (λ (x : World × Reply). Turning.quiet (Replied id x.1)) (sym told)
@@ -64,7 +66,7 @@ idle_events stage es (inl e) = ap (λ (x : Stage). where_known x es) e.1
 idle_events stage es (inr e) = ap (λ (x : Stage). where_known x es) e
 
 idle_parts : (R : State) (rs : List Reply) (s : SessionFields) (stage : Stage) → IsIdle stage →
-    Turning.cancel_stage R rs s stage ≡ Turning.keeps R (Turning.said s words.Idle)
+    Turning.cancel_stage R rs s stage ≡ Turning.keeps R (Turning.said_word s words.Idle)
 idle_parts R rs s stage (inl e) = ap (Turning.cancel_stage R rs s) e.1
 idle_parts R rs s stage (inr e) = ap (Turning.cancel_stage R rs s) e
 
@@ -72,7 +74,7 @@ pub cancel_idle : (M : MachineFields) (a : AnswerParts) (id : TransactionId) (s 
     a ≡ silent (Said id words.Idle) → Turns M M a (CancelAsked M.state.now id)
 cancel_idle M a id s here idle said =
     let R = M.state in
-    turns_by M M a (CancelAsked R.now id) [] (λ (V : World) (rs : List Reply). Turning.keeps R (Turning.said s words.Idle))
+    turns_by M M a (CancelAsked R.now id) [] (λ (V : World) (rs : List Reply). Turning.keeps R (Turning.said_word s words.Idle))
     (cancels_in M id s s.stage here refl ∙ idle_events s.stage (Cancel id ∷ []) idle)
     (λ (V : World) (rs : List Reply). becomes_in M id s s.stage here refl rs ∙ idle_parts R rs s s.stage idle)
     refl refl refl refl refl

@@ -11,20 +11,21 @@ use Rattle.cfdp_directives.specs.Reading.{NakFields}
 use Rattle.cfdp_directives.specs.declared.ack.Ack.{Ack}
 use Rattle.cfdp_directives.specs.declared.prompt.Prompt.{Prompt}
 use Rattle.cfdp_directives.specs.declared.prompt.Prompt.TheVariants as prompts
-use Rattle.cfdp_retransmission.specs.Naks.{Range, Nak, naks}
-use Rattle.cfdp_retransmission.specs.Coming.{continues, covers, one_if}
+use Rattle.cfdp_retransmission.specs.Naks.{SegmentRequest, Nak, naks}
+use Rattle.cfdp_retransmission.specs.Coming.{continues, cover_count, one_if}
 use Rattle.cfdp_retransmission.specs.Timers.{restarted, passed}
 use Rattle.cfdp_retransmission.specs.declared.timer.Expiry.TheVariants.{Again}
 use Rattle.cfdp_retransmission.proofs.Arriving.{asked_once, not_asked}
 use Rattle.cfdp_retransmission.proofs.Sequences.{asks_for_all, few_naks}
-use Rattle.cfdp_sessions.specs.Sessions.{SessionFields, name_of, IsFound}
+use Rattle.cfdp_sessions.specs.Sessions.{SessionFields, session_id}
+use Rattle.cfdp_sessions.specs.code.Sessions.{IsFound}
 use Rattle.cfdp_sessions.proofs.Names.{both_of, found_name, replaced_self}
 use Rattle.cfdp_sessions.specs.declared.session.Stage.{Stage}
 use Rattle.cfdp_sessions.specs.declared.session.Stage.TheVariants.{Held, Known, Over, Waiting}
 use Rattle.cfdp_transactions.specs.Entry.{Entry, id_of, is_live, gaps, gaps_in, reach, reach_in, awaited}
 use Rattle.cfdp_transactions.specs.Received.{Received, gaps_below, pieces}
 use Rattle.cfdp_transactions.specs.ReceivedLaws.{octet_at, IsIn}
-use Rattle.cfdp_transactions.proofs.OctetsAndGaps.{few_gaps, gaps_are_missing}
+use Rattle.cfdp_transactions.proofs.Received.OctetsAndGaps.{few_gaps, gaps_are_missing}
 use Rattle.cfdp_transactions.specs.declared.phase.Phase.{Phase}
 use Rattle.cfdp_transactions.specs.declared.phase.Phase.TheVariants.{Receiving, Awaiting, Executing, Refused, Done, Ended}
 use Rattle.cfdp_transactions.specs.declared.outcome.Outcome.{Outcome}
@@ -36,11 +37,11 @@ use Rattle.cfdp_receiver.specs.declared.answer.Word.TheVariants as words
 use Rattle.cfdp_receiver.specs.declared.mib.Handler.{Handler}
 use Rattle.cfdp_receiver.specs.declared.mib.Handler.TheVariants as handlers
 use Rattle.cfdp_receiver.specs.declared.mib.Mib.{Mib}
-use Rattle.cfdp_receiver.specs.State.{State, AnswerFields, Input, MetadataPdu, DataPdu, EofPdu, AckPdu, PromptPdu, OtherPdu, Expire, Work, Finish, CancelAsked, ForgetAsked, now_of, session_of, is_closed, is_full, At, At_held, At_receiving, At_awaiting, At_executing, At_over, At_waiting, at_of, status_of, turned}
+use Rattle.cfdp_receiver.specs.State.{State, AnswerFields, Input, MetadataPdu, DataPdu, EofPdu, AckPdu, PromptPdu, OtherPdu, Expire, Work, Finish, CancelAsked, ForgetAsked, now_of, session_of, is_closed, is_full, At, At_held, At_receiving, At_awaiting, At_executing, At_over, At_waiting, at_of, status_of, turned_header}
 use Rattle.cfdp_receiver.specs.Due as Due
 use Rattle.cfdp_receiver.specs.Handing as Handing
 use Rattle.cfdp_receiver.specs.Turning as Turning
-use Rattle.cfdp_receiver.specs.Laws.{due_name, session_name, touched_in, Asked, Asks_none, Asks_all, Asks_gaps, Asks_new, is_data, NaksAsk, requests_of, ExactlyMissing, FewNakPdus, FewRequests}
+use Rattle.cfdp_receiver.specs.Laws.{due_name, session_name, touched_in, Asked, Asks_none, Asks_all, Asks_gaps, Asks_new, is_data, NaksAsk, requests_of_naks, ExactlyMissing, FewNakPdus, FewRequests}
 use Rattle.cfdp_receiver.proofs.Knowing.{added_found, heard_stage}
 use Rattle.cfdp_receiver.proofs.Shapes.{IsDueOf, due_is}
 
@@ -50,11 +51,12 @@ use Rattle.cfdp_receiver.proofs.Shapes.{IsDueOf, due_is}
 abbrev with_parts : State → World → Turning.Parts → State
 with_parts R V p = record { world = V; mib = R.mib; now = R.now; sessions = p.sessions; closed = p.closed }
 
-pub from_zero : (xs : List Range) → filter (λ (g : Range). nat_le 0 g.0) xs ≡ xs
+pub from_zero : (xs : List SegmentRequest) → filter (λ (g : SegmentRequest). nat_le 0 g.0) xs ≡ xs
 from_zero [] = refl
 from_zero (x ∷ xs) =
-    cond-true (nat_le 0 x.0) (x ∷ filter (λ (g : Range). nat_le 0 g.0) xs) (filter (λ (g : Range). nat_le 0 g.0) xs) (le-leb 0 x.0 (omega arith))
-    ∙ ap (λ (rest : List Range). x ∷ rest) (from_zero xs)
+    cond-true (nat_le 0 x.0) (x ∷ filter (λ (g : SegmentRequest). nat_le 0 g.0) xs) (filter (λ (g : SegmentRequest). nat_le 0 g.0) xs)
+    (le-leb 0 x.0 (omega arith))
+    ∙ ap (λ (rest : List SegmentRequest). x ∷ rest) (from_zero xs)
 
 asked_entry : (U : World) (N : State) (id : TransactionId) (s : SessionFields) (entry : Option Entry) → session_of N id ≡ Some s →
     s.header.acknowledged ≡ true →
@@ -77,12 +79,12 @@ record Becomes (N : State) (id : TransactionId) (s : SessionFields) : Type 0 whe
   header : t.header ≡ s.header
   stage : t.stage ≡ s.stage
 
-becomes_name : (N : State) (id : TransactionId) (s : SessionFields) (b : Becomes N id s) → id ≡ name_of s
+becomes_name : (N : State) (id : TransactionId) (s : SessionFields) (b : Becomes N id s) → id ≡ session_id s
 becomes_name N id s b = sym (found_name N.sessions id b.t b.here) ∙ ap id_of b.header
 
 -- the same of s as of t
 asks_same : (N : State) (W : World) (id : TransactionId) (s : SessionFields) (low : ℕ) (b : Becomes N id s) →
-    Turning.asks_stage N.mib b.t.header low b.t.stage (entry_of W id) ≡ Turning.asks_stage N.mib s.header low s.stage (entry_of W (name_of s))
+    Turning.asks_stage N.mib b.t.header low b.t.stage (entry_of W id) ≡ Turning.asks_stage N.mib s.header low s.stage (entry_of W (session_id s))
 asks_same N W id s low b =
     ap (λ (h : Header). Turning.asks_stage N.mib h low b.t.stage (entry_of W id)) b.header
     ∙ ap (λ (stage : Stage). Turning.asks_stage N.mib s.header low stage (entry_of W id)) b.stage
@@ -121,28 +123,28 @@ when_parts : (R : State) (V : World) (d : Bool) (id : TransactionId) (b : Bool) 
 when_parts R V d id b p q hp hq = cond_both b p q (AskedIn R V d id) hp hq
 
 -- the session that is put is found
-becomes_put : (R : State) (V : World) (id : TransactionId) (s new : SessionFields) (a : AnswerFields) → IsFound R.sessions id → name_of new ≡ id →
+becomes_put : (R : State) (V : World) (id : TransactionId) (s new : SessionFields) (a : AnswerFields) → IsFound R.sessions id → session_id new ≡ id →
     new.header ≡ s.header → new.stage ≡ s.stage →
-    Becomes (with_parts R V (Turning.puts R new a)) id s
+    Becomes (with_parts R V (Turning.replaces_one R new a)) id s
 becomes_put R V id s new a was name header stage = record { t = new; here = replaced_self R.sessions new id was name; header = header; stage = stage }
 
-heard_header : (R : State) (V : World) (s : SessionFields) → (Turning.heard R V s).header ≡ s.header
+heard_header : (R : State) (V : World) (s : SessionFields) → (Turning.heard_session R V s).header ≡ s.header
 heard_header R V s =
     cond_both (Turning.is_news R.world V s) (record s { timer = restarted R.now }) s (λ (t : SessionFields). t.header ≡ s.header) (λ e. refl) (λ e. refl)
 
 becomes_heard : (R : State) (V : World) (id : TransactionId) (s : SessionFields) (a : AnswerFields) → session_of R id ≡ Some s →
-    Becomes (with_parts R V (Turning.puts R (Turning.heard R V s) a)) id s
+    Becomes (with_parts R V (Turning.replaces_one R (Turning.heard_session R V s) a)) id s
 becomes_heard R V id s a here =
-    becomes_put R V id s (Turning.heard R V s) a (s, here) (ap id_of (heard_header R V s) ∙ found_name R.sessions id s here) (heard_header R V s)
+    becomes_put R V id s (Turning.heard_session R V s) a (s, here) (ap id_of (heard_header R V s) ∙ found_name R.sessions id s here) (heard_header R V s)
     (heard_stage R V s)
 
 asked_metadata_stage : (R : State) (V : World) (rs : List Reply) (h : Header) (m : MetadataFields) (s : SessionFields) (stage : Stage) →
     session_of R (id_of h) ≡ Some s →
     AskedIn R V false (id_of h) (Turning.metadata_stage R V rs h m s stage)
 asked_metadata_stage R V rs h m s (Held eof) here =
-    let new = Turning.begun R h (Turning.stage_in (entry_of V (id_of h)) true h.destination) in
+    let new = Turning.begun_session R h (Turning.stage_in (entry_of V (id_of h)) true h.destination) in
     let joins = Turning.joins R V rs h m in
-    if_parts R V false (id_of h) h.acknowledged joins (Turning.keeps R (Turning.said s words.Idle))
+    if_parts R V false (id_of h) h.acknowledged joins (Turning.keeps R (Turning.said_word s words.Idle))
     (asked_awaiting R.world (with_parts R V joins) (id_of h) new (becomes_put R V (id_of h) new new joins.answer (s, here) refl refl refl)) (Asks_none refl)
 asked_metadata_stage R V rs h m s Known here = Asks_none refl
 asked_metadata_stage R V rs h m s (Over ending) here = Asks_none refl
@@ -164,7 +166,8 @@ some_gaps low e h = elim (cases_lt 0 (length (Turning.gaps_after low e))) [
 asked_new_entry : (U : World) (N : State) (id : TransactionId) (s : SessionFields) (low : ℕ) (entry : Option Entry) → session_of N id ≡ Some s →
     s.header.acknowledged ≡ true →
     s.stage ≡ Known → entry_of N.world id ≡ entry → Turning.is_immediate N.mib.nak_mode ≡ true → low ≡ Turning.progress_at (entry_of U id) →
-    not (length (filter (λ (g : Range). nat_le low g.0) (Turning.gaps_at entry)) == 0) ≡ true → Asked U true N id (Turning.asks_entry N.mib s.header low entry)
+    not (length (filter (λ (g : SegmentRequest). nat_le low g.0) (Turning.gaps_at entry)) == 0) ≡ true → Asked U true N id
+    (Turning.asks_entry N.mib s.header low entry)
 asked_new_entry U N id s low None here mode known there immediate from some = Asks_none refl
 asked_new_entry U N id s low (Some e) here mode known there immediate from some =
     Asks_new s e low here mode known there refl immediate from (some_gaps low e some) refl
@@ -176,9 +179,9 @@ known_stage (Over ending) e = absurd cc
 known_stage Waiting e = absurd cc
 
 asked_new : (U : World) (N : State) (id : TransactionId) (s : SessionFields) (low : ℕ) → Becomes N id s → s.stage ≡ Known → s.header.acknowledged ≡ true →
-    Turning.is_immediate N.mib.nak_mode ≡ true → low ≡ Turning.progress_at (entry_of U (name_of s)) →
-    not (length (filter (λ (g : Range). nat_le low g.0) (Turning.gaps_at (entry_of N.world (name_of s)))) == 0) ≡ true →
-    Asked U true N id (Turning.asks_stage N.mib s.header low s.stage (entry_of N.world (name_of s)))
+    Turning.is_immediate N.mib.nak_mode ≡ true → low ≡ Turning.progress_at (entry_of U (session_id s)) →
+    not (length (filter (λ (g : SegmentRequest). nat_le low g.0) (Turning.gaps_at (entry_of N.world (session_id s)))) == 0) ≡ true →
+    Asked U true N id (Turning.asks_stage N.mib s.header low s.stage (entry_of N.world (session_id s)))
 asked_new U N id s low b known mode immediate from some =
     let name = becomes_name N id s b in
     let is : b.t.stage ≡ Known = b.stage ∙ known in
@@ -186,20 +189,21 @@ asked_new U N id s low b known mode immediate from some =
     (ap (λ (stage : Stage). Turning.asks_stage N.mib b.t.header low stage (entry_of N.world id)) (sym is) ∙ asks_same N N.world id s low b)
     (asked_new_entry U N id b.t low (entry_of N.world id) b.here (ap (λ (h : Header). h.acknowledged) b.header ∙ mode) is refl immediate
     (subst (λ (n : TransactionId). low ≡ Turning.progress_at (entry_of U n)) (sym name) from)
-    (subst (λ (n : TransactionId). not (length (filter (λ (g : Range). nat_le low g.0) (Turning.gaps_at (entry_of N.world n))) == 0) ≡ true) (sym name) some))
+    (subst (λ (n : TransactionId). not (length (filter (λ (g : SegmentRequest). nat_le low g.0) (Turning.gaps_at (entry_of N.world n))) == 0) ≡ true)
+    (sym name) some))
 
 asked_takes : (R : State) (V : World) (rs : List Reply) (h : Header) (piece : FileDataFields) (s : SessionFields) → session_of R (id_of h) ≡ Some s →
     s.stage ≡ Known →
-    AskedIn R V true (id_of h) (Turning.takes_data R V rs h piece s)
+    AskedIn R V true (id_of h) (Turning.takes_piece R V rs h piece s)
 asked_takes R V rs h piece s here known =
-    let p = Turning.takes_data R V rs h piece s in
+    let p = Turning.takes_piece R V rs h piece s in
     let N = with_parts R V p in
-    let low = Turning.progress_at (entry_of R.world (name_of s)) in
-    let some = not (length (filter (λ (g : Range). nat_le low g.0) (Turning.gaps_at (entry_of V (name_of s)))) == 0) in
+    let low = Turning.progress_at (entry_of R.world (session_id s)) in
+    let some = not (length (filter (λ (g : SegmentRequest). nat_le low g.0) (Turning.gaps_at (entry_of V (session_id s)))) == 0) in
     let immediate = Turning.is_immediate R.mib.nak_mode in
     let receives = Due.is_receiving_at (at_of V s) in
     asked_if R.world true N (id_of h) (immediate && s.header.acknowledged && receives && some)
-    (Turning.asks_stage R.mib s.header low s.stage (entry_of V (name_of s))) (λ e.
+    (Turning.asks_stage R.mib s.header low s.stage (entry_of V (session_id s))) (λ e.
     let first = and_parts (immediate && s.header.acknowledged && receives) some e in
     let second = and_parts (immediate && s.header.acknowledged) receives first.0 in
     let third = and_parts immediate s.header.acknowledged second.0 in
@@ -209,7 +213,7 @@ asked_data : (R : State) (V : World) (rs : List Reply) (h : Header) (piece : Fil
     AskedIn R V true (id_of h) (Turning.data_parts R V rs h piece s)
 asked_data R V rs h piece None here = Asks_none refl
 asked_data R V rs h piece (Some s) here =
-    when_parts R V true (id_of h) (Turning.is_known s.stage) (Turning.takes_data R V rs h piece s) (Turning.keeps R (Turning.said s words.Idle))
+    when_parts R V true (id_of h) (Turning.is_known s.stage) (Turning.takes_piece R V rs h piece s) (Turning.keeps R (Turning.said_word s words.Idle))
     (λ e. asked_takes R V rs h piece s here (known_stage s.stage e)) (λ e. Asks_none refl)
 
 -- ---- EOF
@@ -229,19 +233,19 @@ not_false true e = refl
 not_false false e = absurd cc
 
 asked_holds : (R : State) (V : World) (h : Header) (eof : Eof) → session_of R (id_of h) ≡ None → h.acknowledged ≡ true →
-    AskedIn R V false (id_of h) (Turning.holds R h eof)
+    AskedIn R V false (id_of h) (Turning.held_first R h eof)
 asked_holds R V h eof none mode =
-    let new = Turning.begun R h (Held eof) in
+    let new = Turning.begun_session R h (Held eof) in
     Asks_all new eof (added_found R.sessions new (id_of h) refl none) mode refl refl
 
 asked_eof : (R : State) (V : World) (rs : List Reply) (h : Header) (eof : Eof) (s : Option SessionFields) → session_of R (id_of h) ≡ s →
     AskedIn R V false (id_of h) (Turning.eof_parts R V rs h eof s)
 asked_eof R V rs h eof None here =
-    let kept = Turning.keeps R (Turning.acks_only h eof (status_of R (id_of h)) (Turning.absent R (id_of h))) in
-    let full = Turning.keeps R (Turning.said_of h words.TableFull) in
+    let kept = Turning.keeps R (Turning.acks_only h eof (status_of R (id_of h)) (Turning.word_without_session R (id_of h))) in
+    let full = Turning.keeps R (Turning.said_of_header h words.TableFull) in
     let before = is_closed R (id_of h) || not (eof.condition == 0) in
-    when_parts R V false (id_of h) (before || not h.acknowledged) kept (if is_full R then full else Turning.holds R h eof) (λ e. Asks_none refl) (λ e.
-    if_parts R V false (id_of h) (is_full R) full (Turning.holds R h eof) (Asks_none refl)
+    when_parts R V false (id_of h) (before || not h.acknowledged) kept (if is_full R then full else Turning.held_first R h eof) (λ e. Asks_none refl) (λ e.
+    if_parts R V false (id_of h) (is_full R) full (Turning.held_first R h eof) (Asks_none refl)
     (asked_holds R V h eof here (not_false h.acknowledged (or_parts before (not h.acknowledged) e).1)))
 asked_eof R V rs h eof (Some s) here = asked_eof_stage R V rs h eof s s.stage here
 
@@ -264,16 +268,16 @@ roused_is R s =
     (λ (t : SessionFields). (t.header ≡ s.header) × (t.stage ≡ s.stage)) (λ e. (refl, refl)) (λ e. (refl, refl))
 
 becomes_roused : (R : State) (V : World) (id : TransactionId) (s : SessionFields) (a : AnswerFields) → session_of R id ≡ Some s →
-    Becomes (with_parts R V (Turning.puts R (Turning.roused R s) a)) id s
+    Becomes (with_parts R V (Turning.replaces_one R (Turning.roused R s) a)) id s
 becomes_roused R V id s a here =
     let is = roused_is R s in
     becomes_put R V id s (Turning.roused R s) a (s, here) (ap id_of is.0 ∙ found_name R.sessions id s here) is.0 is.1
 
 asked_prompted : (R : State) (V : World) (h : Header) (s : SessionFields) (prompt : Prompt) → V ≡ R.world → session_of R (id_of h) ≡ Some s →
     s.header.acknowledged ≡ true →
-    AskedIn R V false (id_of h) (Turning.puts R (Turning.roused R s) (Turning.prompted R h s prompt))
+    AskedIn R V false (id_of h) (Turning.replaces_one R (Turning.roused R s) (Turning.prompted R h s prompt))
 asked_prompted R V h s prompts.Nak same here mode =
-    let p = Turning.puts R (Turning.roused R s) (Turning.prompted R h s prompts.Nak) in
+    let p = Turning.replaces_one R (Turning.roused R s) (Turning.prompted R h s prompts.Nak) in
     subst (λ (W : World). Asked R.world false (with_parts R V p) (id_of h) (Turning.asks R.mib W s)) same
     (asked_session R.world (with_parts R V p) (id_of h) s (becomes_roused R V (id_of h) s p.answer here) mode)
 asked_prompted R V h s prompts.KeepAlive same here mode = Asks_none refl
@@ -283,8 +287,8 @@ asked_prompt : (R : State) (V : World) (h : Header) (prompt : Prompt) (s : Optio
 asked_prompt R V h prompt None same here = Asks_none refl
 asked_prompt R V h prompt (Some s) same here =
     let takes = Turning.takes_prompts (at_of R.world s) in
-    when_parts R V false (id_of h) (s.header.acknowledged && takes) (Turning.puts R (Turning.roused R s) (Turning.prompted R h s prompt))
-    (Turning.keeps R (Turning.said_of h words.Idle))
+    when_parts R V false (id_of h) (s.header.acknowledged && takes) (Turning.replaces_one R (Turning.roused R s) (Turning.prompted R h s prompt))
+    (Turning.keeps R (Turning.said_of_header h words.Idle))
     (λ e. asked_prompted R V h s prompt same here (and_parts s.header.acknowledged takes e).0) (λ e. Asks_none refl)
 
 -- ---- timers
@@ -293,22 +297,22 @@ if_answer : (U : World) (N : State) (id : TransactionId) (b : Bool) (a c : Answe
     Asked U false N id (if b then a else c).naks
 if_answer U N id b a c ha none = cond_both b a c (λ (x : AnswerFields). Asked U false N id x.naks) ha (λ e. Asks_none none)
 
-asked_again : (R : State) (N : State) (s : SessionFields) → N.mib ≡ R.mib → Becomes N (name_of s) s → s.header.acknowledged ≡ true →
-    Asked R.world false N (name_of s) (Turning.asks R.mib N.world s)
+asked_again : (R : State) (N : State) (s : SessionFields) → N.mib ≡ R.mib → Becomes N (session_id s) s → s.header.acknowledged ≡ true →
+    Asked R.world false N (session_id s) (Turning.asks R.mib N.world s)
 asked_again R N s mib b mode =
-    subst (λ (m : Mib). Asked R.world false N (name_of s) (Turning.asks m N.world s)) mib (asked_session R.world N (name_of s) s b mode)
+    subst (λ (m : Mib). Asked R.world false N (session_id s) (Turning.asks m N.world s)) mib (asked_session R.world N (session_id s) s b mode)
 
-asked_repeats : (R : State) (N : State) (s : SessionFields) (at : At) → N.mib ≡ R.mib → Becomes N (name_of s) s →
-    Asked R.world false N (name_of s) (Turning.repeats R N.world s at).naks
+asked_repeats : (R : State) (N : State) (s : SessionFields) (at : At) → N.mib ≡ R.mib → Becomes N (session_id s) s →
+    Asked R.world false N (session_id s) (Turning.repeats R N.world s at).naks
 asked_repeats R N s At_waiting mib b = Asks_none refl
-asked_repeats R N s At_held mib b = if_answer R.world N (name_of s) s.header.acknowledged _ _ (asked_again R N s mib b) refl
-asked_repeats R N s At_receiving mib b = if_answer R.world N (name_of s) s.header.acknowledged _ _ (asked_again R N s mib b) refl
-asked_repeats R N s (At_awaiting made) mib b = if_answer R.world N (name_of s) s.header.acknowledged _ _ (asked_again R N s mib b) refl
-asked_repeats R N s At_executing mib b = if_answer R.world N (name_of s) s.header.acknowledged _ _ (asked_again R N s mib b) refl
-asked_repeats R N s At_over mib b = if_answer R.world N (name_of s) s.header.acknowledged _ _ (asked_again R N s mib b) refl
+asked_repeats R N s At_held mib b = if_answer R.world N (session_id s) s.header.acknowledged _ _ (asked_again R N s mib b) refl
+asked_repeats R N s At_receiving mib b = if_answer R.world N (session_id s) s.header.acknowledged _ _ (asked_again R N s mib b) refl
+asked_repeats R N s (At_awaiting made) mib b = if_answer R.world N (session_id s) s.header.acknowledged _ _ (asked_again R N s mib b) refl
+asked_repeats R N s At_executing mib b = if_answer R.world N (session_id s) s.header.acknowledged _ _ (asked_again R N s mib b) refl
+asked_repeats R N s At_over mib b = if_answer R.world N (session_id s) s.header.acknowledged _ _ (asked_again R N s mib b) refl
 
 asked_gives_up : (R : State) (V : World) (s : SessionFields) (condition : ℕ) (how : Handler) (at : At) →
-    AskedIn R V false (name_of s) (Turning.gives_up R s condition how at)
+    AskedIn R V false (session_id s) (Turning.gives_up R s condition how at)
 asked_gives_up R V s condition handlers.Ignore at = Asks_none refl
 asked_gives_up R V s condition handlers.Cancel At_waiting = Asks_none refl
 asked_gives_up R V s condition handlers.Cancel At_held = Asks_none refl
@@ -329,20 +333,20 @@ asked_due R V (Due.Alive_due s) d = Asks_none refl
 asked_due R V (Due.Stage_due s false) d =
     let p = Turning.due_parts R V (Due.Stage_due s false) in
     asked_repeats R (with_parts R V p) s (at_of R.world s) refl
-    (becomes_put R V (name_of s) s (record s { timer = passed R.now s.timer Again }) p.answer d refl refl refl)
+    (becomes_put R V (session_id s) s (record s { timer = passed R.now s.timer Again }) p.answer d refl refl refl)
 asked_due R V (Due.Stage_due s true) d = asked_gives_up R V s _ _ _
 
 -- ---- outcomes and the user's requests
 
-asked_session_over : (R : State) (V : World) (s : SessionFields) (o : Outcome) → AskedIn R V false (name_of s) (Turning.finish_session R s o)
+asked_session_over : (R : State) (V : World) (s : SessionFields) (o : Outcome) → AskedIn R V false (session_id s) (Turning.finish_session R s o)
 asked_session_over R V s o =
-    let id = name_of s in
+    let id = session_id s in
     if_parts R V false id s.is_abandoned _ _ (Asks_none refl)
     (if_parts R V false id (not o.send) _ _ (Asks_none refl) (if_parts R V false id (not s.header.acknowledged) _ _ (Asks_none refl) (Asks_none refl)))
 
 asked_finish : (R : State) (V : World) (s : Option SessionFields) → AskedIn R V false (session_name s) (Turning.finish_parts R s)
 asked_finish R V None = Asks_none refl
-asked_finish R V (Some s) = asked_session_over R V s (Turning.outcome_for s (entry_of R.world (name_of s)))
+asked_finish R V (Some s) = asked_session_over R V s (Turning.outcome_for s (entry_of R.world (session_id s)))
 
 asked_cancel_stage : (R : State) (V : World) (rs : List Reply) (id : TransactionId) (s : SessionFields) (stage : Stage) →
     AskedIn R V false id (Turning.cancel_stage R rs s stage)
@@ -386,28 +390,28 @@ naks_ask R i =
 -- ---- exactly what is missing
 
 abbrev with_header : Header → Nak → NakFields
-with_header h nak = record { header = turned h; scope = nak.scope; requests = nak.requests }
+with_header h nak = record { header = turned_header h; scope = nak.scope; requests = nak.requests }
 
-requests_are : (h : Header) (xs : List Nak) → requests_of (map (with_header h) xs) ≡ flat_map (λ (n : Nak). n.requests) xs
+requests_are : (h : Header) (xs : List Nak) → requests_of_naks (map (with_header h) xs) ≡ flat_map (λ (n : Nak). n.requests) xs
 requests_are h [] = refl
-requests_are h (x ∷ xs) = ap (λ (rest : List Range). x.requests ++ rest) (requests_are h xs)
+requests_are h (x ∷ xs) = ap (λ (rest : List SegmentRequest). x.requests ++ rest) (requests_are h xs)
 
 -- the requests of a sequence are those that it was made for
-pub asks_for : (mib : Mib) (h : Header) (low high : ℕ) (requests : List Range) → 1 ≤ Turning.most_requests mib →
-    requests_of (Turning.sequence mib h low high requests) ≡ requests
+pub asks_for : (mib : Mib) (h : Header) (low high : ℕ) (requests : List SegmentRequest) → 1 ≤ Turning.most_nak_requests mib →
+    requests_of_naks (Turning.sequence mib h low high requests) ≡ requests
 asks_for mib h low high requests some =
-    requests_are h (naks (Turning.most_requests mib) low high requests) ∙ asks_for_all (Turning.most_requests mib) low high requests some
+    requests_are h (naks (Turning.most_nak_requests mib) low high requests) ∙ asks_for_all (Turning.most_nak_requests mib) low high requests some
 
-abbrev Exact : ℕ → Received → List Range → ℕ → Type 0
+abbrev Exact : ℕ → Received → List SegmentRequest → ℕ → Type 0
 Exact limit received found i =
-    (i < limit → octet_at received i ≡ None → covers i found ≡ 1) × ((i < limit → octet_at received i ≡ None → ⊥) → covers i found ≡ 0)
+    (i < limit → octet_at received i ≡ None → cover_count i found ≡ 1) × ((i < limit → octet_at received i ≡ None → ⊥) → cover_count i found ≡ 0)
 
 exact_below : (limit : ℕ) (received : Received) (i : ℕ) → Exact limit received (gaps_below limit received) i
 exact_below limit received i =
     let found = gaps_below limit received in
     let all = asks_for_all 1 0 limit found (omega arith) in (
-      λ low missing. ap (covers i) (sym all) ∙ asked_once 1 limit received i (omega arith) low missing,
-      λ other. ap (covers i) (sym all) ∙ not_asked 1 limit received i (omega arith) other,
+      λ low missing. ap (cover_count i) (sym all) ∙ asked_once 1 limit received i (omega arith) low missing,
+      λ other. ap (cover_count i) (sym all) ∙ not_asked 1 limit received i (omega arith) other,
     )
 
 -- where no file data is taken nothing is asked for
@@ -424,17 +428,18 @@ exact_in entry (Ended condition) i = exact_none entry.received i
 
 -- of the gaps that begin at an offset or after it
 
-gap_before : (g : Range) (low i : ℕ) → g.1 ≤ low → low ≤ i → one_if (nat_le g.0 i && nat_lt i g.1) ≡ 0
+gap_before : (g : SegmentRequest) (low i : ℕ) → g.1 ≤ low → low ≤ i → one_if (nat_le g.0 i && nat_lt i g.1) ≡ 0
 gap_before g low i ends from = elim (cases_lt i g.0) [
   | inl early ↦ rw (lt-leb g.0 i early) refl
   | inr there ↦ rw (le-leb g.0 i there, le-ltb i g.1 (omega (arith, ends, from))) refl
 ]
 
 -- no gap has the octet before the offset
-covers_from : (xs : List Range) (at i : ℕ) → (IsIn at xs → ⊥) → suc at ≤ i → covers i (filter (λ (g : Range). nat_le (suc at) g.0) xs) ≡ covers i xs
+covers_from : (xs : List SegmentRequest) (at i : ℕ) → (IsIn at xs → ⊥) → suc at ≤ i → cover_count i (filter (λ (g : SegmentRequest). nat_le (suc at) g.0) xs)
+    ≡ cover_count i xs
 covers_from [] at i out from = refl
 covers_from (g ∷ gs) at i out from =
-    let rest = filter (λ (g : Range). nat_le (suc at) g.0) gs in
+    let rest = filter (λ (g : SegmentRequest). nat_le (suc at) g.0) gs in
     let later = covers_from gs at i (λ h. out (inr h)) from in
     elim (cases_lt g.0 (suc at)) [
       | inl early ↦
@@ -442,21 +447,21 @@ covers_from (g ∷ gs) at i out from =
             | inl inside ↦ absurd (out (inl (omega (arith, early), inside)))
             | inr ends ↦
                 let gone = gap_before g (suc at) i (omega (arith, ends)) from in
-                ap (covers i) (cond-false (nat_le (suc at) g.0) (g ∷ rest) rest (lt-leb (suc at) g.0 early)) ∙ omega (arith, later, gone)
+                ap (cover_count i) (cond-false (nat_le (suc at) g.0) (g ∷ rest) rest (lt-leb (suc at) g.0 early)) ∙ omega (arith, later, gone)
           ]
-      | inr kept ↦ ap (covers i) (cond-true (nat_le (suc at) g.0) (g ∷ rest) rest (le-leb (suc at) g.0 kept)) ∙ omega (arith, later)
+      | inr kept ↦ ap (cover_count i) (cond-true (nat_le (suc at) g.0) (g ∷ rest) rest (le-leb (suc at) g.0 kept)) ∙ omega (arith, later)
     ]
 
-covers_before : (xs : List Range) (low i : ℕ) → i < low → covers i (filter (λ (g : Range). nat_le low g.0) xs) ≡ 0
+covers_before : (xs : List SegmentRequest) (low i : ℕ) → i < low → cover_count i (filter (λ (g : SegmentRequest). nat_le low g.0) xs) ≡ 0
 covers_before [] low i before = refl
 covers_before (g ∷ gs) low i before =
-    let rest = filter (λ (g : Range). nat_le low g.0) gs in
+    let rest = filter (λ (g : SegmentRequest). nat_le low g.0) gs in
     let later = covers_before gs low i before in
     elim (cases_lt g.0 low) [
-      | inl early ↦ ap (covers i) (cond-false (nat_le low g.0) (g ∷ rest) rest (lt-leb low g.0 early)) ∙ later
+      | inl early ↦ ap (cover_count i) (cond-false (nat_le low g.0) (g ∷ rest) rest (lt-leb low g.0 early)) ∙ later
       | inr kept ↦
           let not_yet : one_if (nat_le g.0 i && nat_lt i g.1) ≡ 0 = rw (lt-leb g.0 i (omega (arith, kept, before))) refl in
-          ap (covers i) (cond-true (nat_le low g.0) (g ∷ rest) rest (le-leb low g.0 kept)) ∙ omega (arith, later, not_yet)
+          ap (cover_count i) (cond-true (nat_le low g.0) (g ∷ rest) rest (le-leb low g.0 kept)) ∙ omega (arith, later, not_yet)
     ]
 
 -- what was received is in no gap
@@ -468,8 +473,9 @@ in_gap entry Refused at h = elim h [ ]
 in_gap entry Done at h = elim h [ ]
 in_gap entry (Ended condition) at h = elim h [ ]
 
-covers_after : (entry : Entry) (low i : ℕ) → continues entry.received low ≡ true → low ≤ i → covers i (Turning.gaps_after low entry) ≡ covers i (gaps entry)
-covers_after entry zero i h from = ap (covers i) (from_zero (gaps entry))
+covers_after : (entry : Entry) (low i : ℕ) → continues entry.received low ≡ true → low ≤ i → cover_count i (Turning.gaps_after low entry) ≡ cover_count i
+    (gaps entry)
+covers_after entry zero i h from = ap (cover_count i) (from_zero (gaps entry))
 covers_after entry (suc at) i h from =
     covers_from (gaps entry) at i (λ inside. both_of (is_some (octet_at entry.received at)) (ap is_some (in_gap entry entry.phase at inside)) h) from
 
@@ -477,8 +483,8 @@ pub exactly_missing : ExactlyMissing
 exactly_missing mib h entry low i some joined =
     let all = asks_for mib h low (reach entry) (Turning.gaps_after low entry) some in
     let exact = exact_in entry entry.phase i in (
-      λ from inside missing. ap (covers i) all ∙ covers_after entry low i joined from ∙ exact.0 inside missing,
-      λ other. ap (covers i) all ∙ elim (cases_lt i low) [
+      λ from inside missing. ap (cover_count i) all ∙ covers_after entry low i joined from ∙ exact.0 inside missing,
+      λ other. ap (cover_count i) all ∙ elim (cases_lt i low) [
         | inl before ↦ covers_before (gaps entry) low i before
         | inr from ↦ covers_after entry low i joined from ∙ exact.1 (λ inside missing. other from inside missing)
       ],
@@ -490,16 +496,16 @@ map_len h (x ∷ xs) = omega (arith, map_len h xs)
 
 pub few_nak_pdus : FewNakPdus
 few_nak_pdus mib h low high requests some =
-    let most = Turning.most_requests mib in
+    let most = Turning.most_nak_requests mib in
     subst (λ (n : ℕ). most * n < 1 + most + length requests) (sym (map_len h (naks most low high requests))) (few_naks most low high requests some)
 
 -- ---- few requests
 
-fewer : (low : ℕ) (xs : List Range) → length (filter (λ (g : Range). nat_le low g.0) xs) ≤ length xs
+fewer : (low : ℕ) (xs : List SegmentRequest) → length (filter (λ (g : SegmentRequest). nat_le low g.0) xs) ≤ length xs
 fewer low [] = omega arith
 fewer low (x ∷ xs) =
-    let rest = filter (λ (g : Range). nat_le low g.0) xs in
-    cond_both (nat_le low x.0) (x ∷ rest) rest (λ (ys : List Range). length ys ≤ length (x ∷ xs)) (λ e. omega (arith, fewer low xs))
+    let rest = filter (λ (g : SegmentRequest). nat_le low g.0) xs in
+    cond_both (nat_le low x.0) (x ∷ rest) rest (λ (ys : List SegmentRequest). length ys ≤ length (x ∷ xs)) (λ e. omega (arith, fewer low xs))
     (λ e. omega (arith, fewer low xs))
 
 few_in : (W : World) (entry : Entry) (phase : Phase) → (IsTrue (is_live phase) → pieces entry.received ≤ 32) → length (gaps_in phase entry) ≤ 33

@@ -8,7 +8,8 @@ use Rattle.cfdp_transactions.specs.declared.reply.Reply.{Reply}
 use Rattle.cfdp_receiver.specs.State.{State, Input, now_of}
 use Rattle.cfdp_receiver.specs.Handing.{events_of}
 use Rattle.cfdp_receiver.specs.declared.reading.Dropped.{Dropped}
-use Rattle.cfdp_receiver.specs.Machine.{MachineFields, AnswerParts, IsWhole, Turns, answer_in, at_moment}
+use Rattle.cfdp_receiver.specs.Machine.{MachineFields, AnswerParts, answer_in}
+use Rattle.cfdp_receiver.specs.code.Machine.{IsWholeReceiver, Turns, at_moment}
 use Rattle.cfdp_receiver.specs.Turning as Turning
 use Rattle.cfdp_receiver.proofs.Turned.{turned, turns_by}
 use Rattle.cfdp_receiver.proofs.Whole.{whole_turn}
@@ -39,10 +40,11 @@ pub turned_where_ok : {E : Type 0} (M N : MachineFields) (i : Input) (result : R
 turned_where_ok M N i (Ok a) t = turned M N a i t
 turned_where_ok M N i (Err why) t = tt
 
-pub whole_where_ok : {E : Type 0} (M N : MachineFields) (i : Input) (result : Result AnswerParts E) → IsWhole M.state → IsWhole (Turning.after M.state i) →
-    IfOk result (λ a. Turns (at_moment (now_of i) M) N a i) → OnErr result (N ≡ M) → IsWhole N.state
+pub whole_where_ok : {E : Type 0} (M N : MachineFields) (i : Input) (result : Result AnswerParts E) → IsWholeReceiver M.state → IsWholeReceiver
+    (Turning.after_input M.state i) →
+    IfOk result (λ a. Turns (at_moment (now_of i) M) N a i) → OnErr result (N ≡ M) → IsWholeReceiver N.state
 whole_where_ok M N i (Ok a) before after t same = whole_turn M N a i after t
-whole_where_ok M N i (Err why) before after t same = subst (λ (X : MachineFields). IsWhole X.state) (sym same) before
+whole_where_ok M N i (Err why) before after t same = subst (λ (X : MachineFields). IsWholeReceiver X.state) (sym same) before
 
 -- ---- what is asked
 

@@ -8,7 +8,7 @@ use Rattle.std.proofs.lemmas.Option.{slice_get_within, get_or_from_slice_get}
 use Rattle.cfdp_status.specs.declared.transaction.TransactionId.{TransactionId}
 use Rattle.cfdp_pdus.specs.declared.eof.Eof.{Eof}
 use Rattle.cfdp_sessions.specs.Closed.{with_name}
-use Rattle.cfdp_sessions.specs.Sessions.{SessionFields, AreDistinct, name_of, replaced, without}
+use Rattle.cfdp_sessions.specs.Sessions.{SessionFields, AreDistinct, session_id, replaced, without_session}
 use Rattle.cfdp_sessions.specs.declared.session.Ending.{Ending}
 use Rattle.cfdp_sessions.specs.declared.session.Stage.{Stage}
 use Rattle.cfdp_sessions.specs.declared.session.Stage.TheVariants.{Held, Known, Over, Waiting}
@@ -35,8 +35,9 @@ use Rattle.cfdp_receiver.specs.State.{At, At_held, At_receiving, At_awaiting, At
 use Rattle.cfdp_receiver.specs.State.{State, Finish, at_of, at_stage, at_entry}
 use Rattle.cfdp_receiver.specs.Due.{first_over, is_over}
 use Rattle.cfdp_receiver.specs.Handing.{take_of, where_known}
-use Rattle.cfdp_receiver.specs.Laws.{AreKnown, is_known, knows}
-use Rattle.cfdp_receiver.specs.Machine.{MachineFields, AnswerParts, Concludes, Turns, answer_in, at_moment, finished_by, in_world, silent}
+use Rattle.cfdp_receiver.specs.Laws.{AreKnown, is_known_session, knows}
+use Rattle.cfdp_receiver.specs.Machine.{MachineFields, AnswerParts, answer_in, finished_by}
+use Rattle.cfdp_receiver.specs.code.Machine.{Concludes, Turns, at_moment, in_world, silent}
 use Rattle.cfdp_receiver.specs.Turning as Turning
 use Rattle.cfdp_receiver.proofs.Asked.{with_sessions}
 use Rattle.cfdp_receiver.proofs.Knowing.{phase_over}
@@ -76,12 +77,12 @@ over_outcome (Some e) there over none =
 
 -- a session that is over, and that the core knows, has an outcome there
 pub known_outcome : (R : State) (s : SessionFields) → AreDistinct R.sessions → AreKnown R → first_over R.world R.sessions ≡ Some s →
-    s.stage ≡ Known → outcome_in R.world (name_of s) ≡ None → ⊥
+    s.stage ≡ Known → outcome_in R.world (session_id s) ≡ None → ⊥
 known_outcome R s d known first is none =
     let over = first_over_is R.world R.sessions s first in
-    let entry = entry_of R.world (name_of s) in
+    let entry = entry_of R.world (session_id s) in
     over_outcome entry
-    (known (name_of s) ∙ ap knows (member_found R.sessions s d over.0) ∙ ap is_known is)
+    (known (session_id s) ∙ ap knows (member_found R.sessions s d over.0) ∙ ap is_known_session is)
     (ap (λ (stage : Stage). is_over (at_stage stage entry)) (sym is) ∙ over.1) none
 
 outcome_if : (live : Bool) (a o : Outcome) → (if live then None else Some a) ≡ Some o → a ≡ o
@@ -122,7 +123,7 @@ follows_told W v reply V follows other = follows
 -- a session that is over is not held, and does not wait
 pub over_stage : (R : State) (s : SessionFields) → first_over R.world R.sessions ≡ Some s → ((eof : Eof) × (s.stage ≡ Held eof)) ⊎ (s.stage ≡ Waiting) → ⊥
 over_stage R s first stage =
-    let entry = entry_of R.world (name_of s) in
+    let entry = entry_of R.world (session_id s) in
     let over = (first_over_is R.world R.sessions s first).1 in
     elim stage [
       | inl held ↦ both_of (is_over (at_of R.world s)) (ap (λ (x : Stage). is_over (at_stage x entry)) held.1) over
@@ -139,11 +140,11 @@ finish_none M a now none said =
     (ap take_of none) (λ (V : World) (rs : List Reply). ap (Turning.finish_parts L.state) none) refl refl refl refl refl (ap (answer_in L) said)
 
 taken_in : (W : World) (ss : List SessionFields) (s : SessionFields) (stage : Stage) → first_over W ss ≡ Some s → s.stage ≡ stage →
-    take_of (first_over W ss) ≡ where_known stage (Take (name_of s) ∷ [])
-taken_in W ss s stage first is = ap take_of first ∙ ap (λ (x : Stage). where_known x (Take (name_of s) ∷ [])) is
+    take_of (first_over W ss) ≡ where_known stage (Take (session_id s) ∷ [])
+taken_in W ss s stage first is = ap take_of first ∙ ap (λ (x : Stage). where_known x (Take (session_id s) ∷ [])) is
 
 finished_in : (R : State) (s : SessionFields) (o : Outcome) → first_over R.world R.sessions ≡ Some s →
-    Turning.outcome_for s (entry_of R.world (name_of s)) ≡ o → Turning.finish_parts R (first_over R.world R.sessions) ≡ Turning.finish_session R s o
+    Turning.outcome_for s (entry_of R.world (session_id s)) ≡ o → Turning.finish_parts R (first_over R.world R.sessions) ≡ Turning.finish_session R s o
 finished_in R s o first outcome = ap (Turning.finish_parts R) first ∙ ap (Turning.finish_session R s) outcome
 
 no_entry : (x : Option Entry) → is_some x ≡ false → x ≡ None
@@ -158,9 +159,9 @@ finish_over M N a now s ending d known first is c =
     let L = at_moment now M in
     let W = M.state.world in
     let here = member_found M.state.sessions s d (first_over_is W M.state.sessions s first).0 in
-    let none : entry_of W (name_of s) ≡ None =
-    no_entry (entry_of W (name_of s)) (known (name_of s) ∙ ap knows here ∙ ap is_known is) in
-    let outcome : Turning.outcome_for s (entry_of W (name_of s)) ≡ Turning.stage_outcome s (Over ending) =
+    let none : entry_of W (session_id s) ≡ None =
+    no_entry (entry_of W (session_id s)) (known (session_id s) ∙ ap knows here ∙ ap is_known_session is) in
+    let outcome : Turning.outcome_for s (entry_of W (session_id s)) ≡ Turning.stage_outcome s (Over ending) =
     ap (Turning.outcome_for s) none ∙ ap (Turning.stage_outcome s) is in
     turns_by L N a (Finish now) [] (λ (V : World) (rs : List Reply). Turning.finish_session L.state s (Turning.stage_outcome s (Over ending)))
     (taken_in W M.state.sessions s (Over ending) first is)
@@ -169,16 +170,16 @@ finish_over M N a now s ending d known first is c =
 
 -- of one that the core knows
 pub finish_taken : (M N : MachineFields) (a : AnswerParts) (now : ℕ) (s : SessionFields) (o : Outcome) (V : World) (reply : Reply) →
-    first_over M.state.world M.state.sessions ≡ Some s → s.stage ≡ Known → Some o ≡ outcome_in M.state.world (name_of s) →
-    next M.state.world (Take (name_of s)) ≡ (V, reply) →
+    first_over M.state.world M.state.sessions ≡ Some s → s.stage ≡ Known → Some o ≡ outcome_in M.state.world (session_id s) →
+    next M.state.world (Take (session_id s)) ≡ (V, reply) →
     Concludes (at_moment now (in_world V M)) N a s (caused_outcome s o) → Turns (at_moment now M) N a (Finish now)
 finish_taken M N a now s o V reply first is made told c =
     let L = at_moment now M in
     let W = M.state.world in
-    let kept = kept_outcome (entry_of W (name_of s)) o (sym made) in
-    let outcome : Turning.outcome_for s (entry_of W (name_of s)) ≡ caused_outcome s o =
+    let kept = kept_outcome (entry_of W (session_id s)) o (sym made) in
+    let outcome : Turning.outcome_for s (entry_of W (session_id s)) ≡ caused_outcome s o =
     ap (Turning.outcome_for s) kept.here ∙ ap (caused_outcome s) kept.is in
-    turns_by L N a (Finish now) (Take (name_of s) ∷ []) (λ (U : World) (rs : List Reply). Turning.finish_session L.state s (caused_outcome s o))
+    turns_by L N a (Finish now) (Take (session_id s) ∷ []) (λ (U : World) (rs : List Reply). Turning.finish_session L.state s (caused_outcome s o))
     (taken_in W M.state.sessions s Known first is)
     (λ (U : World) (rs : List Reply). finished_in L.state s (caused_outcome s o) first outcome)
     (c.world ∙ sym (ap (λ (x : World × Reply). x.0) told)) c.mib c.now c.sessions c.closed c.answer
@@ -192,12 +193,12 @@ abbrev pub ended_and_sent : TransactionId → Conclusion → Word → AnswerPart
 ended_and_sent id conclusion word = record (ended id conclusion word) { finished = id ∷ [] }
 
 waits_by : (R : State) (s : SessionFields) (o : Outcome) → s.is_abandoned ≡ false → o.send ≡ true → s.header.acknowledged ≡ true →
-    Turning.finish_session R s o ≡ Turning.puts R (Turning.waits R s o) (Turning.sends_it s o words.Finished)
+    Turning.finish_session R s o ≡ Turning.replaces_one R (Turning.waits_for_ack R s o) (Turning.sends_it s o words.Finished)
 waits_by R s o abandoned sent acked =
     cond-false s.is_abandoned _ _ abandoned ∙ cond-false (not o.send) _ _ (ap not sent) ∙ cond-false (not s.header.acknowledged) _ _ (ap not acked)
 
 closes_by : (R : State) (s : SessionFields) (o : Outcome) → s.is_abandoned ≡ false → o.send ≡ true → s.header.acknowledged ≡ false →
-    Turning.finish_session R s o ≡ Turning.closes R (name_of s) (Turning.sends_it s o words.Closed)
+    Turning.finish_session R s o ≡ Turning.closes R (session_id s) (Turning.sends_it s o words.Closed)
 closes_by R s o abandoned sent acked =
     cond-false s.is_abandoned _ _ abandoned ∙ cond-false (not o.send) _ _ (ap not sent) ∙ cond-true (not s.header.acknowledged) _ _ (ap not acked)
 
@@ -217,27 +218,31 @@ concludes_by M N a s o p parts world mib now sessions closed answer = record {
 
 -- it waits for the acknowledgement
 pub concludes_waiting : (M : MachineFields) (index : ℕ) (a : AnswerParts) (s : SessionFields) (o : Outcome) → slice_get M.state.sessions index ≡ Some s →
-    s.is_abandoned ≡ false → o.send ≡ true → s.header.acknowledged ≡ true → a ≡ ended_and_sent (name_of s) (Turning.conclusion_of o) words.Finished →
-    Concludes M (with_sessions M (replaced M.state.sessions (Turning.waits M.state s o))) a s o
+    s.is_abandoned ≡ false → o.send ≡ true → s.header.acknowledged ≡ true → a ≡ ended_and_sent (session_id s) (Turning.conclusion_of o) words.Finished →
+    Concludes M (with_sessions M (replaced M.state.sessions (Turning.waits_for_ack M.state s o))) a s o
 concludes_waiting M index a s o at abandoned sent acked said =
     let R = M.state in
-    let new = Turning.waits R s o in
+    let new = Turning.waits_for_ack R s o in
     let N = with_sessions M (replaced R.sessions new) in
-    concludes_by M N a s o (Turning.puts R new (Turning.sends_it s o words.Finished)) (waits_by R s o abandoned sent acked) refl refl refl refl refl
+    concludes_by M N a s o (Turning.replaces_one R new (Turning.sends_it s o words.Finished)) (waits_by R s o abandoned sent acked) refl refl refl refl refl
     (ap (answer_in N) said ∙ ap (λ (x : Option SessionFields). record (Turning.concluded s o words.Finished) { finished = finished_by N x ∷ [] })
-    (replaced_self R.sessions new (name_of s) (found_by_name R.sessions index s at) refl))
+    (replaced_self R.sessions new (session_id s) (found_by_name R.sessions index s at) refl))
 
 -- the machine once the transaction is closed whose Finished PDU has these octets
 abbrev pub closed_with : MachineFields → TransactionId → List ℕ → MachineFields
-closed_with M id octets = record { state = record M.state { sessions = without M.state.sessions id; closed = with_name M.state.closed id }; concluded = octets }
+closed_with M id octets = record {
+  state = record M.state { sessions = without_session M.state.sessions id; closed = with_name M.state.closed id };
+  concluded =
+      octets;
+}
 
 -- it is closed, and the Finished PDU is sent once
 pub concludes_closed : (M : MachineFields) (a : AnswerParts) (s : SessionFields) (o : Outcome) → AreDistinct M.state.sessions →
     s.is_abandoned ≡ false → o.send ≡ true → s.header.acknowledged ≡ false →
-    a ≡ ended_and_sent (name_of s) (Turning.conclusion_of o) words.Closed → Concludes M (closed_with M (name_of s) (finished_octets o)) a s o
+    a ≡ ended_and_sent (session_id s) (Turning.conclusion_of o) words.Closed → Concludes M (closed_with M (session_id s) (finished_octets o)) a s o
 concludes_closed M a s o d abandoned sent acked said =
     let R = M.state in
-    let N = closed_with M (name_of s) (finished_octets o) in
-    concludes_by M N a s o (Turning.closes R (name_of s) (Turning.sends_it s o words.Closed)) (closes_by R s o abandoned sent acked) refl refl refl refl refl
+    let N = closed_with M (session_id s) (finished_octets o) in
+    concludes_by M N a s o (Turning.closes R (session_id s) (Turning.sends_it s o words.Closed)) (closes_by R s o abandoned sent acked) refl refl refl refl refl
     (ap (answer_in N) said ∙ ap (λ (x : Option SessionFields). record (Turning.concluded s o words.Closed) { finished = finished_by N x ∷ [] })
-    (gone R.sessions (name_of s) d))
+    (gone R.sessions (session_id s) d))

@@ -6,13 +6,13 @@ use Rattle.std.proofs.lemmas.Bool.{cond_both, cond-true, cond-false, cases_lt, a
 use Rattle.cfdp_pdus.specs.Values.{FileDataFields}
 use Rattle.cfdp_pdus.specs.declared.eof.Eof.{Eof}
 use Rattle.cfdp_pdus.specs.declared.header.Header.{Header}
-use Rattle.cfdp_retransmission.specs.Coming.{Piece, AreKept, Answers, brings}
+use Rattle.cfdp_retransmission.specs.Coming.{Piece, AreAllKept, BringsMissing, brings}
 use Rattle.cfdp_transactions.specs.Delivery.{is_right_checksum, whole, turned, turns, storing, stores, after_eof, stored, limit, data_at, data_came}
 use Rattle.cfdp_transactions.specs.Ending.{ended, ends}
 use Rattle.cfdp_transactions.specs.Entry.{Entry, id_of, takes_data}
 use Rattle.cfdp_transactions.specs.Entry as Entries
 use Rattle.cfdp_transactions.specs.Received.{Received, brought, kept_with, pieces, is_whole}
-use Rattle.cfdp_transactions.specs.ReceivedLaws.{octet_at, or_else}
+use Rattle.cfdp_transactions.specs.ReceivedLaws.{octet_at, or_offset}
 use Rattle.cfdp_transactions.specs.declared.event.Event.TheVariants.{Data as DataCame}
 use Rattle.cfdp_transactions.specs.declared.phase.Phase.{Phase}
 use Rattle.cfdp_transactions.specs.declared.phase.Phase.TheVariants.{Awaiting, Executing, Ended}
@@ -22,8 +22,8 @@ use Rattle.cfdp_transactions.specs.World.{World, bound, place_of, entry_of, inde
 use Rattle.cfdp_transactions.proofs.Finding.{found_name as entry_name}
 use Rattle.cfdp_transactions.proofs.Lookups.{set_own}
 use Rattle.cfdp_transactions.proofs.Places.{set_set_same}
-use Rattle.cfdp_transactions.proofs.OctetsAndGaps.{first_stays, greatest_end}
-use Rattle.cfdp_receiver.specs.Laws.{data_events, AnsweredIsDelivered}
+use Rattle.cfdp_transactions.proofs.Received.OctetsAndGaps.{first_stays, greatest_end}
+use Rattle.cfdp_receiver.specs.Laws.{piece_events, AnsweredIsDelivered}
 
 -- ---- nothing is missing
 
@@ -72,11 +72,11 @@ idle_same W h p d =
     ∙ ap (λ (a : World × Reply). a.0) (cond-false (takes_data d.0.phase) (data_at W k d.0 piece) (W, _) (takes_none d.0.phase d.2)) in
     cond_both (h.destination == W.config.entity) (data_came W k piece (entry_of W (id_of h))) (W, _) (λ (a : World × Reply). a.0 ≡ W) (λ e. idle) (λ e. refl)
 
-idle_rest : (W : World) (h : Header) (ps : List Piece) → Delivered W h → Delivered (run W (data_events h ps)) h
+idle_rest : (W : World) (h : Header) (ps : List Piece) → Delivered W h → Delivered (run W (piece_events h ps)) h
 idle_rest W h [] d = d
 idle_rest W h (p ∷ ps) d =
     let same = idle_same W h p d in
-    subst (λ (V : World). Delivered (run V (data_events h ps)) h) (sym same) (idle_rest W h ps d)
+    subst (λ (V : World). Delivered (run V (piece_events h ps)) h) (sym same) (idle_rest W h ps d)
 
 -- an entry that is put in its place
 pub placed : (W V : World) (h : Header) (e new : Entry) → entry_of W (id_of h) ≡ Some e → Entries.name_of new ≡ id_of h → V.table
@@ -175,7 +175,7 @@ data_comes : (W : World) (h : Header) (eof : Eof) (made : ℕ) (e : Entry) (p : 
     (kept_with e.received p.0 p.1)
 data_comes W h eof made e p a within few = data_by W h eof made e p.0 p.1 a within few
 
-pub neither : (o q : Option ℕ) → or_else o q ≡ None → (o ≡ None) × (q ≡ None)
+pub neither : (o q : Option ℕ) → or_offset o q ≡ None → (o ≡ None) × (q ≡ None)
 neither None q e = (refl, e)
 neither (Some x) q e = absurd cc
 
@@ -204,15 +204,15 @@ comes W h eof made e p a within few =
 abbrev Within : World → Entry → ℕ → List Piece → Type 0
 Within W e size ps = AllByRecursion (λ p. p.0 + length p.1 ≤ min (bound W.config e.metadata) size) ps
 
-answered_later : (size : ℕ) (rs : Received) (p : Piece) (ps : List Piece) → Answers size rs (p ∷ ps) → Answers size (kept_with rs p.0 p.1) ps
+answered_later : (size : ℕ) (rs : Received) (p : Piece) (ps : List Piece) → BringsMissing size rs (p ∷ ps) → BringsMissing size (kept_with rs p.0 p.1) ps
 answered_later size rs p ps answers i low missing =
-    let both : or_else (octet_at rs i) (brought p.0 p.1 i) ≡ None = sym (first_stays rs p.0 p.1 i) ∙ missing in
+    let both : or_offset (octet_at rs i) (brought p.0 p.1 i) ≡ None = sym (first_stays rs p.0 p.1 i) ∙ missing in
     let parts = neither (octet_at rs i) (brought p.0 p.1 i) both in
     sym (cond-false (is_some (brought p.0 p.1 i)) true (brings ps i) (ap is_some parts.1)) ∙ answers i low parts.0
 
 delivers : (W : World) (h : Header) (eof : Eof) (made : ℕ) (e : Entry) (ps : List Piece) → Awaits W h eof made e → Within W e eof.size ps →
-    AreKept e.received ps → Answers eof.size e.received ps →
-    Delivered (run W (data_events h ps)) h
+    AreAllKept e.received ps → BringsMissing eof.size e.received ps →
+    Delivered (run W (piece_events h ps)) h
 delivers W h eof made e [] a within kept answers =
     absurd (never_both (is_whole eof.size e.received)
     (whole_where_all eof.size e.received a.fits (λ i low. there_or_not (octet_at e.received i) (λ none. never_brought (answers i low none)))) a.short)
@@ -220,8 +220,8 @@ delivers W h eof made e (p ∷ ps) a within kept answers = elim (comes W h eof m
   | Waits now awaits received same ↦
       delivers (next W (DataCame h (record { offset = p.0; octets = p.1 }))).0 h eof made now ps awaits
       (subst (λ (n : ℕ). AllByRecursion (λ (q : Piece). q.0 + length q.1 ≤ min n eof.size) ps) (sym same) within.1)
-      (subst (λ (rs : Received). AreKept rs ps) (sym received) kept.1)
-      (subst (λ (rs : Received). Answers eof.size rs ps) (sym received) (answered_later eof.size e.received p ps answers))
+      (subst (λ (rs : Received). AreAllKept rs ps) (sym received) kept.1)
+      (subst (λ (rs : Received). BringsMissing eof.size rs ps) (sym received) (answered_later eof.size e.received p ps answers))
   | Over delivered ↦ idle_rest (next W (DataCame h (record { offset = p.0; octets = p.1 }))).0 h ps delivered
 ]
 

@@ -3,12 +3,12 @@ use Rattle.std.proofs.Common.{◌≡◌, inl, inr, true, false, List, [], ◌∷
 use Rattle.std.proofs.lemmas.Bool.{cases_Bool, or_cases}
 use Rattle.cfdp_status.specs.declared.transaction.TransactionId.{TransactionId}
 use Rattle.cfdp_leases.specs.Leases.{is_same}
-use Rattle.cfdp_sessions.specs.Sessions.{SessionFields, name_of, found, without, AreDistinct}
+use Rattle.cfdp_sessions.specs.Sessions.{SessionFields, session_id, found, without_session, AreDistinct}
 use Rattle.cfdp_sessions.proofs.Names.{same_is, both_of, replaced_none, replaced_distinct, added_other, added_distinct, without_none, without_distinct, gone}
 use Rattle.cfdp_receiver.specs.State.{State, begin, Input, now_of, is_closed}
 use Rattle.cfdp_receiver.specs.Handing as Handing
 use Rattle.cfdp_receiver.specs.Turning as Turning
-use Rattle.cfdp_receiver.specs.Laws.{touched, ClosedIsOver, AreApart}
+use Rattle.cfdp_receiver.specs.Laws.{touched, ClosedIsOver, SessionsAreDistinct}
 use Rattle.cfdp_receiver.proofs.Shapes.{Shape, Keeps, Puts, Adds, Closes, Forgets, shape, closed_in, taken_is}
 
 none_of_none : false ≡ true → ⊥
@@ -27,15 +27,15 @@ apart_by R t p (Puts s a name e) apart = subst (λ (q : Turning.Parts). Apart q.
 })
 apart_by R t p (Adds s a name free new e) apart = subst (λ (q : Turning.Parts). Apart q.sessions q.closed.names) (sym e) (record {
   distinct = added_distinct R.sessions s apart.distinct (ap (found R.sessions) name ∙ free);
-  over = λ id closed. elim (cases_Bool (is_same (name_of s) id)) [
-    | inl same ↦ absurd (both_of (is_closed R t) new (ap (is_closed R) (sym name ∙ same_is (name_of s) id same) ∙ closed))
+  over = λ id closed. elim (cases_Bool (is_same (session_id s) id)) [
+    | inl same ↦ absurd (both_of (is_closed R t) new (ap (is_closed R) (sym name ∙ same_is (session_id s) id same) ∙ closed))
     | inr other ↦ added_other R.sessions s id other ∙ apart.over id closed
   ];
 })
 apart_by R t p (Closes a was e) apart = subst (λ (q : Turning.Parts). Apart q.sessions q.closed.names) (sym e) (record {
   distinct = without_distinct R.sessions t apart.distinct;
   over = λ id closed. elim (or_cases (is_same t id) (closed_in R.closed.names id) (taken_is 256 (t ∷ R.closed.names) id closed)) [
-    | inl same ↦ ap (λ (n : TransactionId). found (without R.sessions t) n) (sym (same_is t id same)) ∙ gone R.sessions t apart.distinct
+    | inl same ↦ ap (λ (n : TransactionId). found (without_session R.sessions t) n) (sym (same_is t id same)) ∙ gone R.sessions t apart.distinct
     | inr before ↦ without_none R.sessions t id (apart.over id before)
   ];
 })
@@ -54,15 +54,15 @@ distinct_by R t p (Forgets a e) d = subst (λ (q : Turning.Parts). AreDistinct q
 apart_all : (R : State) (inputs : List Input) → Apart R.sessions R.closed.names →
     Apart (Turning.after_all R inputs).sessions (Turning.after_all R inputs).closed.names
 apart_all R [] apart = apart
-apart_all R (i ∷ is) apart = apart_all (Turning.after R i) is (apart_by (Handing.later (now_of i) R) (touched R i) (Turning.parts R i) (shape R i) apart)
+apart_all R (i ∷ is) apart = apart_all (Turning.after_input R i) is (apart_by (Handing.later (now_of i) R) (touched R i) (Turning.parts R i) (shape R i) apart)
 
 pub closed_is_over : ClosedIsOver
 closed_is_over mib W inputs id closed =
     (apart_all (begin mib W) inputs (record { distinct = tt; over = λ x h. refl })).over id closed
 
-pub are_apart : AreApart
+pub are_apart : SessionsAreDistinct
 are_apart mib W inputs = (apart_all (begin mib W) inputs (record { distinct = tt; over = λ x h. refl })).distinct
 
 -- one turn keeps names apart
-pub distinct_after : (R : State) (i : Input) → AreDistinct R.sessions → AreDistinct (Turning.after R i).sessions
+pub distinct_after : (R : State) (i : Input) → AreDistinct R.sessions → AreDistinct (Turning.after_input R i).sessions
 distinct_after R i d = distinct_by (Handing.later (now_of i) R) (touched R i) (Turning.parts R i) (shape R i) d

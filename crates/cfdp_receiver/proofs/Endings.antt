@@ -10,7 +10,7 @@ use Rattle.cfdp_pdus.proofs.WriteSteps.{pdu_len}
 use Rattle.cfdp_sessions.specs.Sessions.{SessionFields, IsEnding}
 use Rattle.cfdp_sessions.specs.declared.session.Ending.{Ending}
 use Rattle.cfdp_sessions.specs.declared.session.Stage.TheVariants.{Over}
-use Rattle.cfdp_transactions.proofs.Lengths.{fields_fit, octets_fit}
+use Rattle.cfdp_transactions.proofs.FinishedPdus.Lengths.{fields_fit, octets_fit}
 use Rattle.cfdp_transactions.specs.declared.outcome.Outcome.{Outcome}
 use Rattle.cfdp_transactions.specs.Writable.{IsWritable, finished_octets, longest_finished}
 use Rattle.cfdp_receiver.specs.Turning.{caused, ending_finished, stage_outcome}

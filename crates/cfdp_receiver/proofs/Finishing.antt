@@ -7,7 +7,7 @@ use Rattle.cfdp_pdus.specs.declared.eof.Eof.{Eof}
 use Rattle.cfdp_directives.specs.declared.ack.Ack.{Ack}
 use Rattle.cfdp_directives.specs.declared.prompt.Prompt.{Prompt}
 use Rattle.cfdp_directives.specs.declared.prompt.Prompt.TheVariants as prompts
-use Rattle.cfdp_sessions.specs.Sessions.{SessionFields, name_of}
+use Rattle.cfdp_sessions.specs.Sessions.{SessionFields, session_id}
 use Rattle.cfdp_sessions.specs.declared.session.Stage.{Stage}
 use Rattle.cfdp_sessions.specs.declared.session.Stage.TheVariants.{Held, Known, Over, Waiting}
 use Rattle.cfdp_transactions.specs.Entry.{Entry, id_of}
@@ -133,7 +133,7 @@ asked_quiet true a c ha hc = ha
 asked_quiet false a c ha hc = hc
 
 repeats_at : (R : State) (V : World) (s : SessionFields) (at : At) → at_of R.world s ≡ at → Repeated s (Turning.repeats R V s at).finished
-repeats_at R V s At_waiting e = inr (waits_stage s.stage (entry_of R.world (name_of s)) e, refl)
+repeats_at R V s At_waiting e = inr (waits_stage s.stage (entry_of R.world (session_id s)) e, refl)
 repeats_at R V s At_held e = inl (asked_quiet s.header.acknowledged _ _ refl refl)
 repeats_at R V s At_receiving e = inl (asked_quiet s.header.acknowledged _ _ refl refl)
 repeats_at R V s (At_awaiting made) e = inl (asked_quiet s.header.acknowledged _ _ refl refl)
@@ -165,7 +165,7 @@ of_outcome R s o =
 sent_finish : (R : State) (now : ℕ) (s : Option SessionFields) → Due.first_over R.world R.sessions ≡ s →
     Sent R (Finish now) (Turning.finish_parts R s).answer.finished
 sent_finish R now None e = None_sent refl
-sent_finish R now (Some s) e = elim (of_outcome R s (Turning.outcome_for s (entry_of R.world (name_of s)))) [
+sent_finish R now (Some s) e = elim (of_outcome R s (Turning.outcome_for s (entry_of R.world (session_id s)))) [
   | inl quiet ↦ None_sent quiet
   | inr sent ↦ First_sent now s refl e sent
 ]

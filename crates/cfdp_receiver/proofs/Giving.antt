@@ -2,7 +2,7 @@
 use Rattle.std.proofs.Common.{◌≡◌, ℕ, ◌<◌, Bool, true, false, List, [], ◌∷◌, Option, Some, None, refl, sym, ap, ◌∙◌, arith}
 use Rattle.cfdp_status.specs.declared.transaction.TransactionId.{TransactionId}
 use Rattle.cfdp_sessions.specs.Closed.{ClosedFields}
-use Rattle.cfdp_sessions.specs.Sessions.{SessionFields, name_of}
+use Rattle.cfdp_sessions.specs.Sessions.{SessionFields, session_id}
 use Rattle.cfdp_sessions.specs.declared.session.Stage.{Stage}
 use Rattle.cfdp_sessions.specs.declared.session.Stage.TheVariants.{Held, Known, Over, Waiting}
 use Rattle.cfdp_transactions.specs.declared.event.Event.{Event}
@@ -22,7 +22,8 @@ use Rattle.cfdp_receiver.specs.declared.answer.Word.TheVariants as words
 use Rattle.cfdp_receiver.specs.State.{State, Expire, At, At_held, At_receiving, At_awaiting, At_executing, At_over, At_waiting, at_of, at_stage, at_entry, at_phase}
 use Rattle.cfdp_receiver.specs.Due.{Stage_due, fault_at, first_due, handler_at}
 use Rattle.cfdp_receiver.specs.Handing.{due_events, limit_events, makes_checks, where_known}
-use Rattle.cfdp_receiver.specs.Machine.{MachineFields, AnswerParts, Turns, answer_in, listed, silent}
+use Rattle.cfdp_receiver.specs.Machine.{MachineFields, AnswerParts, answer_in, listed}
+use Rattle.cfdp_receiver.specs.code.Machine.{Turns, silent}
 use Rattle.cfdp_receiver.specs.Turning as Turning
 use Rattle.cfdp_receiver.proofs.Turned.{turns_by}
 
@@ -45,7 +46,7 @@ with_lists M V ss closed = record M { state = record M.state { world = V; sessio
 
 -- what is handed on at the limit of a session's timer
 abbrev pub given_up : SessionFields → At → Handler → List Event
-given_up s at how = where_known s.stage (limit_events (name_of s) (makes_checks s.header.acknowledged at) how)
+given_up s at how = where_known s.stage (limit_events (session_id s) (makes_checks s.header.acknowledged at) how)
 
 pub limit_turns : (M N : MachineFields) (a : AnswerParts) (s : SessionFields) (at : At) (condition : ℕ) (how : Handler)
     (V : World) (ss : List SessionFields) (closed : ClosedFields) →
@@ -120,29 +121,29 @@ known_awaiting Waiting entry made e = absurd cc
 
 -- a session that is not in the core: nothing is handed on
 pub unmoved_waiting : (W : World) (s : SessionFields) (how : Handler) → At_waiting ≡ at_of W s → W ≡ run W (given_up s At_waiting how)
-unmoved_waiting W s how e = ap (run W) (sym (none_waiting s.stage (entry_of W (name_of s)) _ e))
+unmoved_waiting W s how e = ap (run W) (sym (none_waiting s.stage (entry_of W (session_id s)) _ e))
 
 pub unmoved_held : (W : World) (s : SessionFields) (how : Handler) → At_held ≡ at_of W s → W ≡ run W (given_up s At_held how)
-unmoved_held W s how e = ap (run W) (sym (none_held s.stage (entry_of W (name_of s)) _ e))
+unmoved_held W s how e = ap (run W) (sym (none_held s.stage (entry_of W (session_id s)) _ e))
 
 abandon_events : (id : TransactionId) (checks : Bool) → limit_events id checks handlers.Abandon ≡ CancelCame id ∷ []
 abandon_events id true = refl
 abandon_events id false = refl
 
 pub moved_abandoned : (W : World) (s : SessionFields) (at : At) →
-    run W (where_known s.stage (CancelCame (name_of s) ∷ [])) ≡ run W (given_up s at handlers.Abandon)
+    run W (where_known s.stage (CancelCame (session_id s) ∷ [])) ≡ run W (given_up s at handlers.Abandon)
 moved_abandoned W s at =
-    ap (λ (es : List Event). run W (where_known s.stage es)) (sym (abandon_events (name_of s) (makes_checks s.header.acknowledged at)))
+    ap (λ (es : List Event). run W (where_known s.stage es)) (sym (abandon_events (session_id s) (makes_checks s.header.acknowledged at)))
 
 pub moved_cancelled : (W : World) (s : SessionFields) (at : At) → makes_checks s.header.acknowledged at ≡ false →
-    run W (where_known s.stage (CancelCame (name_of s) ∷ [])) ≡ run W (given_up s at handlers.Cancel)
-moved_cancelled W s at none = ap (λ (b : Bool). run W (where_known s.stage (limit_events (name_of s) b handlers.Cancel))) (sym none)
+    run W (where_known s.stage (CancelCame (session_id s) ∷ [])) ≡ run W (given_up s at handlers.Cancel)
+moved_cancelled W s at none = ap (λ (b : Bool). run W (where_known s.stage (limit_events (session_id s) b handlers.Cancel))) (sym none)
 
 pub moved_checked : (W : World) (s : SessionFields) (made : ℕ) → s.header.acknowledged ≡ false → At_awaiting made ≡ at_of W s →
-    (next W (CheckCame (name_of s))).0 ≡ run W (given_up s (At_awaiting made) handlers.Cancel)
+    (next W (CheckCame (session_id s))).0 ≡ run W (given_up s (At_awaiting made) handlers.Cancel)
 moved_checked W s made mode e =
-    ap (λ (stage : Stage). run W (where_known stage (CheckCame (name_of s) ∷ []))) (sym (known_awaiting s.stage (entry_of W (name_of s)) made e))
-    ∙ ap (λ (b : Bool). run W (where_known s.stage (limit_events (name_of s) (makes_checks b (At_awaiting made)) handlers.Cancel))) (sym mode)
+    ap (λ (stage : Stage). run W (where_known stage (CheckCame (session_id s) ∷ []))) (sym (known_awaiting s.stage (entry_of W (session_id s)) made e))
+    ∙ ap (λ (b : Bool). run W (where_known s.stage (limit_events (session_id s) (makes_checks b (At_awaiting made)) handlers.Cancel))) (sym mode)
 
 checks_none : (at : At) → makes_checks true at ≡ false
 checks_none At_held = refl
@@ -176,7 +177,7 @@ awaits at made e = (λ w. awaiting_not_waiting made (sym e ∙ w), λ h. awaitin
 
 -- what becomes of the session
 pub puts_cancelled : (R : State) (s : SessionFields) (condition : ℕ) (at : At) → (at ≡ At_waiting → ⊥) → (at ≡ At_held → ⊥) →
-    Turning.gives_up R s condition handlers.Cancel at ≡ Turning.puts R (record s { cause = Some condition }) (Turning.said s words.Faulted)
+    Turning.gives_up R s condition handlers.Cancel at ≡ Turning.replaces_one R (record s { cause = Some condition }) (Turning.said_word s words.Faulted)
 puts_cancelled R s condition At_held w h = absurd (h refl)
 puts_cancelled R s condition At_receiving w h = refl
 puts_cancelled R s condition (At_awaiting made) w h = refl
@@ -185,7 +186,7 @@ puts_cancelled R s condition At_over w h = refl
 puts_cancelled R s condition At_waiting w h = absurd (w refl)
 
 pub puts_abandoned : (R : State) (s : SessionFields) (condition : ℕ) (at : At) → (at ≡ At_waiting → ⊥) → (at ≡ At_held → ⊥) →
-    Turning.gives_up R s condition handlers.Abandon at ≡ Turning.puts R (record s { is_abandoned = true }) (Turning.abandoned_told s condition)
+    Turning.gives_up R s condition handlers.Abandon at ≡ Turning.replaces_one R (record s { is_abandoned = true }) (Turning.abandoned_told s condition)
 puts_abandoned R s condition At_held w h = absurd (h refl)
 puts_abandoned R s condition At_receiving w h = refl
 puts_abandoned R s condition (At_awaiting made) w h = refl
@@ -195,12 +196,12 @@ puts_abandoned R s condition At_waiting w h = absurd (w refl)
 
 -- ---- what is said
 
-pub told_word : (N : MachineFields) (s : SessionFields) (id : TransactionId) (a : AnswerParts) (word : Word) → id ≡ name_of s → a ≡ silent (Said id word) →
-    answer_in N a ≡ Turning.said s word
+pub told_word : (N : MachineFields) (s : SessionFields) (id : TransactionId) (a : AnswerParts) (word : Word) → id ≡ session_id s → a ≡ silent (Said id word) →
+    answer_in N a ≡ Turning.said_word s word
 told_word N s id a word name e = ap (answer_in N) e ∙ ap (λ (x : TransactionId). Turning.quiet (Said x word)) name
 
 pub told_abandoned : (N : MachineFields) (s : SessionFields) (id : TransactionId) (a b : AnswerParts) (condition : ℕ) →
-    id ≡ name_of s → b ≡ silent (Said id words.Faulted) → a ≡ record b { indications = listed (Some (Abandoned id condition)) } →
+    id ≡ session_id s → b ≡ silent (Said id words.Faulted) → a ≡ record b { indications = listed (Some (Abandoned id condition)) } →
     answer_in N a ≡ Turning.abandoned_told s condition
 told_abandoned N s id a b condition name word e =
     ap (answer_in N) (e ∙ ap (λ (x : AnswerParts). record x { indications = listed (Some (Abandoned id condition)) }) word)

@@ -8,7 +8,7 @@ use Rattle.cfdp_transactions.specs.declared.event.Event.TheVariants.{Metadata as
 use Rattle.cfdp_transactions.specs.Entry.{id_of}
 use Rattle.cfdp_transactions.specs.World.{World, next_runnable}
 use Rattle.cfdp_transactions.specs.Next.{next, run}
-use Rattle.cfdp_sessions.specs.Sessions.{SessionFields, name_of}
+use Rattle.cfdp_sessions.specs.Sessions.{SessionFields, session_id}
 use Rattle.cfdp_sessions.specs.declared.session.Stage.{Stage}
 use Rattle.cfdp_sessions.specs.declared.session.Stage.TheVariants.{Held, Known, Over, Waiting}
 use Rattle.cfdp_receiver.specs.declared.mib.Handler.{Handler}
@@ -16,7 +16,7 @@ use Rattle.cfdp_receiver.specs.declared.mib.Handler.TheVariants as handlers
 use Rattle.cfdp_receiver.specs.State.{State, Input, MetadataPdu, DataPdu, EofPdu, AckPdu, PromptPdu, OtherPdu, Expire, Work, Finish, CancelAsked, ForgetAsked, now_of, session_of, is_closed, is_full, at_of}
 use Rattle.cfdp_receiver.specs.Due.{Due, Nothing_due, Stage_due, Alive_due, first_due, first_over}
 use Rattle.cfdp_receiver.specs.Handing.{later, metadata_in_stage, metadata_events, where_known, of_session, makes_checks, limit_events, due_events, step_of, take_of, events_of, handed}
-use Rattle.cfdp_receiver.specs.Turning.{after, all_handed}
+use Rattle.cfdp_receiver.specs.Turning.{after_input, all_handed}
 use Rattle.cfdp_transactions.specs.Headline.{NextIsSound, NextIsPromised, Promised, AtEach}
 use Rattle.cfdp_transactions.specs.Sound.{Sound}
 use Rattle.cfdp_receiver.specs.Laws.{HandsOn, HeadlineHolds, FewEvents, EntriesStay}
@@ -27,7 +27,7 @@ run_append W (x ∷ xs) ys = run_append (next W x).0 xs ys
 
 pub hands_on : HandsOn
 hands_on R [] = refl
-hands_on R (i ∷ is) = hands_on (after R i) is ∙ sym (run_append R.world (handed R i) (all_handed (after R i) is))
+hands_on R (i ∷ is) = hands_on (after_input R i) is ∙ sym (run_append R.world (handed R i) (all_handed (after_input R i) is))
 
 at_each : NextIsSound → NextIsPromised → (W : World) (events : List Event) → Sound W → AtEach Sound Promised W events
 at_each sound promised W [] s = s
@@ -72,7 +72,7 @@ few_new false h m = omega arith
 few_due : (R : State) (due : Due) → Few (due_events R due)
 few_due R Nothing_due = omega arith
 few_due R (Alive_due s) = omega arith
-few_due R (Stage_due s false) = few_known s.stage _ (few_check (makes_checks s.header.acknowledged (at_of R.world s)) (name_of s))
+few_due R (Stage_due s false) = few_known s.stage _ (few_check (makes_checks s.header.acknowledged (at_of R.world s)) (session_id s))
 few_due R (Stage_due s true) = few_known s.stage _ (few_limit _ _ _)
 
 few_step : (id : Option TransactionId) → Few (step_of id)

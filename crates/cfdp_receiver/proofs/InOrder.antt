@@ -4,7 +4,7 @@ use Rattle.std.proofs.lemmas.Bool.{cond-true}
 use Rattle.cfdp_directives.specs.Reading.{NakFields}
 use Rattle.cfdp_pdus.specs.Values.{FileDataFields}
 use Rattle.cfdp_pdus.specs.declared.header.Header.{Header}
-use Rattle.cfdp_sessions.specs.Sessions.{SessionFields, name_of}
+use Rattle.cfdp_sessions.specs.Sessions.{SessionFields, session_id}
 use Rattle.cfdp_sessions.specs.declared.session.Stage.{Stage}
 use Rattle.cfdp_sessions.specs.declared.session.Stage.TheVariants.{Known}
 use Rattle.cfdp_transactions.specs.Entry.{id_of}
@@ -18,8 +18,9 @@ use Rattle.cfdp_receiver.specs.declared.answer.Indication.TheVariants.{FileSegme
 use Rattle.cfdp_receiver.specs.State.{State, DataPdu, AnswerFields, at_of, session_of}
 use Rattle.cfdp_receiver.specs.Due.{is_receiving_at}
 use Rattle.cfdp_receiver.specs.Handing.{is_ours, of_session, where_known}
-use Rattle.cfdp_receiver.specs.Machine.{MachineFields, AnswerParts, Turns, answer_in, heard_in, in_world, silent}
-use Rattle.cfdp_receiver.specs.Turning.{asks_at_once, asks_stage, progress_at, data_parts, foreign, is_immediate, is_kept_by, is_known, keeps, quiet, takes_data}
+use Rattle.cfdp_receiver.specs.Machine.{MachineFields, AnswerParts, answer_in}
+use Rattle.cfdp_receiver.specs.code.Machine.{Turns, machine_heard, in_world, silent}
+use Rattle.cfdp_receiver.specs.Turning.{asks_at_once, asks_stage, progress_at, data_parts, foreign, is_immediate, is_kept_by, is_known, keeps, quiet, takes_piece}
 use Rattle.cfdp_receiver.proofs.Turned.{turns_by}
 
 -- what the user is notified of
@@ -31,7 +32,7 @@ with_naks a naks = record a { naks = naks }
 
 pub only_kept : (M N : MachineFields) (a : AnswerParts) (h : Header) (p : FileDataFields) (s : SessionFields) →
     is_ours M.state h ≡ true → session_of M.state (id_of h) ≡ Some s → s.stage ≡ Known →
-    N ≡ heard_in M.state.world (in_world (next M.state.world (DataCame h p)).0 M) s →
+    N ≡ machine_heard M.state.world (in_world (next M.state.world (DataCame h p)).0 M) s →
     asks_at_once M.state (next M.state.world (DataCame h p)).0 s ≡ [] →
     a ≡ record (silent (Replied (id_of h) (next M.state.world (DataCame h p)).1)) { indications = told_of (next M.state.world (DataCame h p)).1 h p } →
     Turns M N a (DataPdu M.state.now h p)
@@ -40,7 +41,7 @@ only_kept M N a h p s ours found known hears none answers =
     let V = (next R.world (DataCame h p)).0 in
     let reply = (next R.world (DataCame h p)).1 in
     let last = quiet (Replied (id_of h) reply) in
-    turns_by M N a (DataPdu R.now h p) (DataCame h p ∷ []) (λ (V : World) (rs : List Reply). takes_data R V rs h p s)
+    turns_by M N a (DataPdu R.now h p) (DataCame h p ∷ []) (λ (V : World) (rs : List Reply). takes_piece R V rs h p s)
     (
     cond-true (is_ours R h) (of_session (session_of R (id_of h)) (DataCame h p ∷ [])) [] ours
     ∙ ap (λ (o : Option SessionFields). of_session o (DataCame h p ∷ [])) found
@@ -49,7 +50,7 @@ only_kept M N a h p s ours found known hears none answers =
     (λ V rs.
     cond-true (is_ours R h) (data_parts R V rs h p (session_of R (id_of h))) (keeps R (quiet (foreign h))) ours
     ∙ ap (data_parts R V rs h p) found
-    ∙ cond-true (is_known s.stage) (takes_data R V rs h p s) _ (ap is_known known))
+    ∙ cond-true (is_known s.stage) (takes_piece R V rs h p s) _ (ap is_known known))
     (ap (λ (X : MachineFields). X.state.world) hears)
     (ap (λ (X : MachineFields). X.state.mib) hears)
     (ap (λ (X : MachineFields). X.state.now) hears)
@@ -65,4 +66,4 @@ none_if false acknowledged receiving some naks e = refl
 pub none_deferred : (R : State) (V : World) (s : SessionFields) → is_immediate R.mib.nak_mode ≡ false → asks_at_once R V s ≡ []
 none_deferred R V s deferred =
     none_if (is_immediate R.mib.nak_mode) s.header.acknowledged (is_receiving_at (at_of V s)) _
-    (asks_stage R.mib s.header (progress_at (entry_of R.world (name_of s))) s.stage (entry_of V (name_of s))) deferred
+    (asks_stage R.mib s.header (progress_at (entry_of R.world (session_id s))) s.stage (entry_of V (session_id s))) deferred

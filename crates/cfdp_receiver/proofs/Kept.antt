@@ -4,14 +4,15 @@ use Rattle.std.proofs.Common.{◌≡◌, ℕ, false, List, Option, Some, None, r
 use Rattle.std.proofs.lemmas.Bool.{cond-false}
 use Rattle.cfdp_status.specs.declared.transaction.TransactionId.{TransactionId}
 use Rattle.cfdp_retransmission.specs.Timers.{restarted}
-use Rattle.cfdp_sessions.specs.Sessions.{SessionFields, name_of, found, replaced, AreDistinct}
+use Rattle.cfdp_sessions.specs.Sessions.{SessionFields, session_id, found, replaced, AreDistinct}
 use Rattle.cfdp_sessions.proofs.Names.{found_name}
 use Rattle.cfdp_sessions.proofs.Places.{set_replaced}
 use Rattle.cfdp_transactions.specs.World.{World}
 use Rattle.cfdp_transactions.proofs.Places.{set_get_same}
 use Rattle.cfdp_receiver.specs.State.{at_of}
 use Rattle.cfdp_receiver.specs.Due.{is_receiving_at}
-use Rattle.cfdp_receiver.specs.Machine.{AtIndex, MachineFields, heard_in, with_session}
+use Rattle.cfdp_receiver.specs.Machine.{MachineFields}
+use Rattle.cfdp_receiver.specs.code.Machine.{AtIndex, machine_heard, with_session}
 use Rattle.cfdp_receiver.specs.Turning.{is_news, roused}
 
 pub kept : (ss : List SessionFields) (i : ℕ) (s : SessionFields) → AreDistinct ss → slice_get ss i ≡ Some s → replaced ss s ≡ ss
@@ -22,7 +23,7 @@ put M ss = record M { state = record M.state { sessions = ss } }
 
 -- what is no news to a session leaves it
 pub no_news : (U : World) (M : MachineFields) (i : ℕ) (s : SessionFields) → AreDistinct M.state.sessions → slice_get M.state.sessions i ≡ Some s →
-    is_news U M.state.world s ≡ false → M ≡ heard_in U M s
+    is_news U M.state.world s ≡ false → M ≡ machine_heard U M s
 no_news U M i s distinct at quiet =
     sym (
     ap (λ (t : SessionFields). put M (replaced M.state.sessions t)) (cond-false (is_news U M.state.world s)
@@ -32,7 +33,7 @@ no_news U M i s distinct at quiet =
 
 -- the session that is found by a name has it
 pub named : (ss : List SessionFields) (id : TransactionId) (index : Option ℕ) → IfSome index (λ k. found ss id ≡ slice_get ss k) →
-    IfSome index (λ k. AtIndex ss k (λ s. name_of s ≡ id))
+    IfSome index (λ k. AtIndex ss k (λ s. session_id s ≡ id))
 named ss id None same = tt
 named ss id (Some k) same = λ s at. found_name ss id s (same ∙ at)
 

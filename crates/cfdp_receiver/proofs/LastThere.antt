@@ -23,12 +23,12 @@ use Rattle.cfdp_transactions.specs.declared.reply.Reply.TheVariants as replies
 use Rattle.cfdp_transactions.specs.Execution.{is_install, act_now, entry_after, entry_failed, step_at, step_in, stepped}
 use Rattle.cfdp_transactions.specs.Next.{for_us, next, run}
 use Rattle.cfdp_transactions.specs.Received.{Received, kept_with, pieces, is_whole, brought, staged_of}
-use Rattle.cfdp_transactions.specs.ReceivedLaws.{octet_at, or_else}
+use Rattle.cfdp_transactions.specs.ReceivedLaws.{octet_at, or_offset}
 use Rattle.cfdp_transactions.specs.Sound.{Each}
-use Rattle.cfdp_transactions.specs.World.{World, place_of, spare, leases_of, bound, index_of, entry_of, change_at, free_slot}
+use Rattle.cfdp_transactions.specs.World.{World, place_of, spare_blocks, leases_of, bound, index_of, entry_of, change_at, free_slot}
 use Rattle.cfdp_transactions.proofs.Finding.{found_name}
 use Rattle.cfdp_transactions.proofs.Lookups.{set_own}
-use Rattle.cfdp_transactions.proofs.OctetsAndGaps.{first_stays}
+use Rattle.cfdp_transactions.proofs.Received.OctetsAndGaps.{first_stays}
 use Rattle.cfdp_transactions.proofs.Places.{set_each, append_each, remove_place, before, get_set_same, set_set_same}
 
 -- ---- octets
@@ -63,7 +63,7 @@ kept_last (None ∷ rs) (suc at) (x ∷ xs) last =
 kept_last (Some r ∷ rs) (suc at) (x ∷ xs) last =
     last_cons (Some r) (kept_with rs at (x ∷ xs)) (kept_last rs at (x ∷ xs) (last_tail (Some r) rs last)) (λ e. absurd (not_empty rs at x xs e))
 
-is_some_first : (o later : Option ℕ) → is_some o ≡ true → is_some (or_else o later) ≡ true
+is_some_first : (o later : Option ℕ) → is_some o ≡ true → is_some (or_offset o later) ≡ true
 is_some_first None later h = absurd cc
 is_some_first (Some x) later h = refl
 
@@ -189,7 +189,7 @@ module _ (W : World) (all : Each LastThere W.table) where
       cond_both (nat_le 64 (length W.table)) _ _ Stays (λ _. all)
       (λ _. cond_both (nat_lt 64 (length m.requests)) _ _ Stays (λ _. all)
       (λ _. cond_both (has_file m && not (is_known_checksum m.checksum_type)) _ _ Stays (λ _. added_last (refused_entry h m (Ended 11)) refl)
-      (λ _. judged_last h m (verdict W.config.prefixes W.filestore (leases_of W.table) (spare W) (proposal_of W.config m)))))
+      (λ _. judged_last h m (verdict W.config.prefixes W.filestore (leases_of W.table) (spare_blocks W) (proposal_of W.config m)))))
 
   found_last : (f : Option Entry → World × Reply) (k : ℕ) → Stays (f None) → ((e : Entry) → slice_get W.table k ≡ Some e → Stays (f (Some e))) →
       (o : Option Entry) → slice_get W.table k ≡ o → Stays (f o)

@@ -13,7 +13,7 @@ use Rattle.cfdp_retransmission.specs.declared.timer.Expiry.{Expiry}
 use Rattle.cfdp_retransmission.specs.declared.timer.Expiry.TheVariants.{NotDue, Again, Limit}
 use Rattle.cfdp_retransmission.specs.Timers.{expiry, passed}
 use Rattle.cfdp_retransmission.proofs.Waiting.{Early, Due, Over, why}
-use Rattle.cfdp_sessions.specs.Sessions.{SessionFields, name_of, found, without, AreDistinct}
+use Rattle.cfdp_sessions.specs.Sessions.{SessionFields, session_id, found, without_session, AreDistinct}
 use Rattle.cfdp_sessions.specs.declared.session.Stage.{Stage}
 use Rattle.cfdp_sessions.specs.declared.session.Stage.TheVariants.{Held, Known, Over as OverStage, Waiting}
 use Rattle.cfdp_sessions.proofs.Names.{same_is, both_of, gone, found_name, IsMember, member_found, replaced_self}
@@ -135,7 +135,7 @@ waits_data : (R : State) (V : World) (rs : List Reply) (h : Header) (piece : Fil
     ≡ Waiting →
     Waits R (id_of h) s (Turning.data_parts R V rs h piece (Some s))
 waits_data R V rs h piece s e w =
-    subst (Waits R (id_of h) s) (sym (cond-false (Turning.is_known s.stage) (Turning.takes_data R V rs h piece s) (Turning.keeps R (Turning.said s _))
+    subst (Waits R (id_of h) s) (sym (cond-false (Turning.is_known s.stage) (Turning.takes_piece R V rs h piece s) (Turning.keeps R (Turning.said_word s _))
     (waits_known s.stage w)))
     (Same e refl)
 
@@ -148,22 +148,23 @@ waits_eof R V rs h eof s (OverStage ending) e w = absurd cc
 waits_eof R V rs h eof s Waiting e w = Same e refl
 
 -- it is closed
-closes_it : (R : State) (id : TransactionId) (s : SessionFields) (a : AnswerFields) → AreDistinct R.sessions → name_of s ≡ id → a.finished ≡ [] →
-    Waits R id s (Turning.closes R (name_of s) a)
-closes_it R id s a d name q = Gone (ap (λ (n : TransactionId). found (without R.sessions n) id) name ∙ gone R.sessions id d) q
+closes_it : (R : State) (id : TransactionId) (s : SessionFields) (a : AnswerFields) → AreDistinct R.sessions → session_id s ≡ id → a.finished ≡ [] →
+    Waits R id s (Turning.closes R (session_id s) a)
+closes_it R id s a d name q = Gone (ap (λ (n : TransactionId). found (without_session R.sessions n) id) name ∙ gone R.sessions id d) q
 
-waits_ack : (R : State) (h : Header) (ack : Ack) (s : SessionFields) (stage : Stage) → AreDistinct R.sessions → found R.sessions (id_of h) ≡ Some s → name_of s
+waits_ack : (R : State) (h : Header) (ack : Ack) (s : SessionFields) (stage : Stage) → AreDistinct R.sessions → found R.sessions (id_of h) ≡ Some s →
+    session_id s
     ≡ id_of h → stage ≡ Waiting →
     Waits R (id_of h) s (Turning.ack_stage R h ack s stage)
 waits_ack R h ack s (Held eof) d e name w = absurd cc
 waits_ack R h ack s Known d e name w = absurd cc
 waits_ack R h ack s (OverStage ending) d e name w = absurd cc
 waits_ack R h ack s Waiting d e name w =
-    waits_if R (id_of h) s _ (Turning.closes R (name_of s) (Turning.said_of h _)) (Turning.keeps R (Turning.said_of h _))
+    waits_if R (id_of h) s _ (Turning.closes R (session_id s) (Turning.said_of_header h _)) (Turning.keeps R (Turning.said_of_header h _))
     (closes_it R (id_of h) s _ d name refl) (Same e refl)
 
 pub at_waiting : (W : World) (s : SessionFields) → s.stage ≡ Waiting → at_of W s ≡ At_waiting
-at_waiting W s w = ap (λ (stage : Stage). at_stage stage (entry_of W (name_of s))) w
+at_waiting W s w = ap (λ (stage : Stage). at_stage stage (entry_of W (session_id s))) w
 
 not_both : (b : Bool) → b ≡ true → b ≡ false → ⊥
 not_both b h e = both_of b e h
@@ -178,7 +179,7 @@ waits_prompt R h prompt s e w =
       | inr neither ↦
           subst (Waits R (id_of h) s)
           (sym (cond-false (s.header.acknowledged && Turning.takes_prompts (at_of R.world s))
-          (Turning.puts R (Turning.roused R s) (Turning.prompted R h s prompt)) (Turning.keeps R (Turning.said_of h words.Idle)) neither))
+          (Turning.replaces_one R (Turning.roused R s) (Turning.prompted R h s prompt)) (Turning.keeps R (Turning.said_of_header h words.Idle)) neither))
           (Same e refl)
     ]
 
@@ -212,21 +213,21 @@ room_of R s again = elim (why R.mib.ack.interval R.mib.ack.limit R.now s.timer) 
   | Over e due full ↦ let never : Limit ≡ Again = sym e ∙ again in absurd cc
 ]
 
-waits_again : (R : State) (V : World) (id : TransactionId) (s : SessionFields) → found R.sessions id ≡ Some s → name_of s ≡ id → s.stage ≡ Waiting →
+waits_again : (R : State) (V : World) (id : TransactionId) (s : SessionFields) → found R.sessions id ≡ Some s → session_id s ≡ id → s.stage ≡ Waiting →
     Dues.expiry_of R s ≡ Again → Waits R id s (Turning.due_parts R V (Dues.Stage_due s false))
 waits_again R V id s e name w again =
     let t : SessionFields = record s { timer = passed R.now s.timer Again } in
     Sent t (replaced_self R.sessions t id (s, e) name) w refl (room_of R s (sym (expiry_waiting R s w) ∙ again))
     (ap (λ (at : At). length (Turning.repeats R V s at).finished) (at_waiting R.world s w))
 
-gives_waiting : (R : State) (id : TransactionId) (s : SessionFields) (condition : ℕ) (how : Handler) → AreDistinct R.sessions → name_of s ≡ id → how
+gives_waiting : (R : State) (id : TransactionId) (s : SessionFields) (condition : ℕ) (how : Handler) → AreDistinct R.sessions → session_id s ≡ id → how
     ≢ handlers.Ignore →
     Waits R id s (Turning.gives_up R s condition how At_waiting)
 gives_waiting R id s condition handlers.Ignore d name ne = absurd (ne refl)
 gives_waiting R id s condition handlers.Cancel d name ne = closes_it R id s _ d name refl
 gives_waiting R id s condition handlers.Abandon d name ne = closes_it R id s _ d name refl
 
-waits_limit : (R : State) (V : World) (id : TransactionId) (s : SessionFields) → AreDistinct R.sessions → name_of s ≡ id → s.stage ≡ Waiting →
+waits_limit : (R : State) (V : World) (id : TransactionId) (s : SessionFields) → AreDistinct R.sessions → session_id s ≡ id → s.stage ≡ Waiting →
     R.mib.ack.at_limit ≢ handlers.Ignore →
     Waits R id s (Turning.due_parts R V (Dues.Stage_due s true))
 waits_limit R V id s d name w ne =
@@ -239,12 +240,12 @@ waits_limit R V id s d name w ne =
 
 -- a member of that name is the session
 pub is_it : (R : State) (id : TransactionId) (s t : SessionFields) → AreDistinct R.sessions → found R.sessions id ≡ Some s → IsMember t R.sessions →
-    is_same (name_of t) id ≡ true → s ≡ t
+    is_same (session_id t) id ≡ true → s ≡ t
 is_it R id s t d e member same =
-    ap (of_some s) (sym e ∙ ap (found R.sessions) (sym (same_is (name_of t) id same)) ∙ member_found R.sessions t d member)
+    ap (of_some s) (sym e ∙ ap (found R.sessions) (sym (same_is (session_id t) id same)) ∙ member_found R.sessions t d member)
 
 waits_due : (R : State) (V : World) (id : TransactionId) (s : SessionFields) (due : Dues.Due) → AreDistinct R.sessions → found R.sessions id ≡ Some s →
-    name_of s ≡ id → s.stage ≡ Waiting →
+    session_id s ≡ id → s.stage ≡ Waiting →
     R.mib.ack.at_limit ≢ handlers.Ignore → Dues.first_due R R.sessions ≡ due → is_same (due_name due) id ≡ true → Waits R id s (Turning.due_parts R V due)
 waits_due R V id s Dues.Nothing_due d e name w ne is same = Same e refl
 waits_due R V id s (Dues.Alive_due t) d e name w ne is same =
@@ -322,12 +323,12 @@ waits_of R V rs ForgetAsked id s d e w ne same = Same e refl
 gone_while : (R : State) (inputs : List Input) (id : TransactionId) → session_of R id ≡ None → sent_while R inputs id ≡ 0
 gone_while R [] id e = refl
 gone_while R (i ∷ is) id e =
-    cond-false (waits_in (session_of R id)) (sent_for R i id + sent_while (Turning.after R i) is id) 0 (ap waits_in e)
+    cond-false (waits_in (session_of R id)) (sent_for R i id + sent_while (Turning.after_input R i) is id) 0 (ap waits_in e)
 
 pub sent_at_most : SentAtMost
 sent_at_most R [] id s d e w ne small = omega (arith, small)
 sent_at_most R (i ∷ is) id s d e w ne small =
-    let next = Turning.after R i in
+    let next = Turning.after_input R i in
     let here : sent_while R (i ∷ is) id ≡ sent_for R i id + sent_while next is id =
     cond-true (waits_in (session_of R id)) (sent_for R i id + sent_while next is id) 0 (ap waits_in e ∙ ap is_waiting w) in
     let apart = distinct_after R i d in

@@ -9,7 +9,7 @@ use Rattle.cfdp_retransmission.specs.declared.timer.Expiry.TheVariants.{NotDue, 
 use Rattle.cfdp_retransmission.specs.declared.timer.Timer.{Timer}
 use Rattle.cfdp_retransmission.specs.Timers.{expiry}
 use Rattle.cfdp_retransmission.proofs.Waiting.{Early, Due as DueNow, Over, why}
-use Rattle.cfdp_sessions.specs.Sessions.{SessionFields, name_of}
+use Rattle.cfdp_sessions.specs.Sessions.{SessionFields, session_id}
 use Rattle.cfdp_sessions.specs.declared.session.Stage.{Stage}
 use Rattle.cfdp_sessions.specs.declared.session.Stage.TheVariants as stages
 use Rattle.cfdp_transactions.specs.declared.phase.Phase.{Phase}
@@ -19,7 +19,8 @@ use Rattle.cfdp_transactions.specs.World.{entry_of}
 use Rattle.cfdp_receiver.specs.declared.mib.Mib.{Mib}
 use Rattle.cfdp_receiver.specs.State.{State, At, At_held, At_receiving, At_awaiting, At_executing, At_over, At_waiting, at_of, at_phase, at_stage}
 use Rattle.cfdp_receiver.specs.Due.{IsSet, expiry_by, has_passed, is_receiving_at, terms_at, Due, Nothing_due, due_by, expiry_of, first_due, is_alive_due}
-use Rattle.cfdp_receiver.specs.Machine.{IsTaking, is_any_due, is_expired, timer_of}
+use Rattle.cfdp_receiver.specs.Machine.{is_any_due}
+use Rattle.cfdp_receiver.specs.code.Machine.{IsTaking, is_expired, timer_of}
 
 -- ---- the first that is due
 
@@ -111,11 +112,11 @@ receiving_is_known (stages.Over ending) entry e = absurd cc
 receiving_is_known stages.Waiting entry e = absurd cc
 
 -- a Keep Alive PDU is due while file data is taken
-pub alive_is_taking : (R : State) (s : SessionFields) → is_alive_due R s ≡ true → IsTaking (entry_of R.world (name_of s))
+pub alive_is_taking : (R : State) (s : SessionFields) → is_alive_due R s ≡ true → IsTaking (entry_of R.world (session_id s))
 alive_is_taking R s due =
     let receiving = is_receiving_at (at_of R.world s) in
     let both = (and_parts (s.header.acknowledged && receiving) (has_passed R.mib.keep_alive R.now s.alive_at) due).0 in
-    stage_is_taking s.stage (entry_of R.world (name_of s)) (and_parts s.header.acknowledged receiving both).1
+    stage_is_taking s.stage (entry_of R.world (session_id s)) (and_parts s.header.acknowledged receiving both).1
 
 since_by : (interval limit now : ℕ) (timer : Timer) → 1 ≤ interval → expiry interval limit now timer ≡ Again → timer.since + 1 ≤ now
 since_by interval limit now timer some again = elim (why interval limit now timer) [

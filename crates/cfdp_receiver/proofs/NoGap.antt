@@ -8,7 +8,7 @@ use Rattle.cfdp_actions.specs.Filestore.{Filestore}
 use Rattle.cfdp_directives.specs.Reading.{NakFields}
 use Rattle.cfdp_pdus.specs.Values.{FileDataFields}
 use Rattle.cfdp_pdus.specs.declared.header.Header.{Header}
-use Rattle.cfdp_sessions.specs.Sessions.{SessionFields, name_of}
+use Rattle.cfdp_sessions.specs.Sessions.{SessionFields, session_id}
 use Rattle.cfdp_sessions.specs.declared.session.Stage.{Stage}
 use Rattle.cfdp_sessions.specs.declared.session.Stage.TheVariants.{Known}
 use Rattle.cfdp_transactions.specs.Delivery.{data_at, data_came, limit, stored, stores, storing}
@@ -23,10 +23,10 @@ use Rattle.cfdp_transactions.specs.declared.phase.Phase.{Phase}
 use Rattle.cfdp_transactions.specs.declared.phase.Phase.TheVariants.{Receiving, Awaiting, Executing, Refused, Done, Ended}
 use Rattle.cfdp_transactions.specs.declared.reply.Reply.{Reply}
 use Rattle.cfdp_transactions.specs.declared.reply.Reply.TheVariants.{Dropped, Faulted, Stored}
-use Rattle.cfdp_transactions.proofs.OctetsAndGaps.{first_stays, greatest_end, gaps_are_missing, gaps_are_runs}
+use Rattle.cfdp_transactions.proofs.Received.OctetsAndGaps.{first_stays, greatest_end, gaps_are_missing, gaps_are_runs}
 use Rattle.cfdp_receiver.specs.State.{State, at_of, at_phase, at_stage}
 use Rattle.cfdp_receiver.specs.Due.{is_receiving_at}
-use Rattle.cfdp_receiver.specs.Machine.{begins_no_gap}
+use Rattle.cfdp_receiver.specs.code.Machine.{begins_no_gap}
 use Rattle.cfdp_receiver.specs.Turning.{asks_at_once, asks_stage, gaps_at, is_immediate, progress_at}
 use Rattle.cfdp_receiver.proofs.InOrder.{none_deferred}
 use Rattle.cfdp_receiver.proofs.Delivering.{neither, never_both, own_name, placed}
@@ -140,19 +140,20 @@ none_if true true naks e = refl
 none_if false true naks e = refl
 none_if b false naks e = absurd cc
 
-pub none_from_there : (R : State) (s : SessionFields) (h : Header) (p : FileDataFields) (e : Entry) → name_of s ≡ id_of h → entry_of R.world (id_of h)
+pub none_from_there : (R : State) (s : SessionFields) (h : Header) (p : FileDataFields) (e : Entry) → session_id s ≡ id_of h → entry_of R.world (id_of h)
     ≡ Some e →
     e.phase ≡ Receiving → p.offset ≤ progress e → asks_at_once R (next R.world (DataCame h p)).0 s ≡ []
 none_from_there R s h p e named here phase from =
     let V = (next R.world (DataCame h p)).0 in
-    let low = progress_at (entry_of R.world (name_of s)) in
+    let low = progress_at (entry_of R.world (session_id s)) in
     let same : low ≡ progress e = ap (λ id. progress_at (entry_of R.world id)) named ∙ ap progress_at here in
-    let none : from_on low (gaps_at (entry_of V (name_of s))) ≡ [] =
-    ap (λ (n : ℕ). from_on n (gaps_at (entry_of V (name_of s)))) same
+    let none : from_on low (gaps_at (entry_of V (session_id s))) ≡ [] =
+    ap (λ (n : ℕ). from_on n (gaps_at (entry_of V (session_id s)))) same
     ∙ ap (λ id. from_on (progress e) (gaps_at (entry_of V id))) named
     ∙ came_none R.world h p e here phase from in
-    none_if (is_immediate R.mib.nak_mode && s.header.acknowledged && is_receiving_at (at_of V s)) (length (from_on low (gaps_at (entry_of V (name_of s)))) == 0)
-    (asks_stage R.mib s.header low s.stage (entry_of V (name_of s)))
+    none_if (is_immediate R.mib.nak_mode && s.header.acknowledged && is_receiving_at (at_of V s))
+    (length (from_on low (gaps_at (entry_of V (session_id s)))) == 0)
+    (asks_stage R.mib s.header low s.stage (entry_of V (session_id s)))
     (ap (λ (gs : List (ℕ × ℕ)). length gs == 0) none)
 
 receiving_phase : (phase : Phase) → is_receiving_at (at_phase phase) ≡ true → phase ≡ Receiving
@@ -167,19 +168,20 @@ no_later : (a b : ℕ) → nat_le a b ≡ true → a ≤ b
 no_later a b h = grind (arith, nat_tests)
 
 -- by what the core has of the transaction
-by_entry : (R : State) (s : SessionFields) (h : Header) (p : FileDataFields) (entry : Option Entry) → name_of s ≡ id_of h → entry_of R.world (id_of h) ≡ entry →
+by_entry : (R : State) (s : SessionFields) (h : Header) (p : FileDataFields) (entry : Option Entry) → session_id s ≡ id_of h → entry_of R.world (id_of h)
+    ≡ entry →
     is_receiving_at (at_stage Known entry) ≡ true → p.offset ≤ progress_at entry → asks_at_once R (next R.world (DataCame h p)).0 s ≡ []
 by_entry R s h p None named here receiving from = absurd cc
 by_entry R s h p (Some e) named here receiving from = none_from_there R s h p e named here (receiving_phase e.phase receiving) from
 
-pub none_at_once : (R : State) (s : SessionFields) (h : Header) (p : FileDataFields) → name_of s ≡ id_of h → s.stage ≡ Known →
+pub none_at_once : (R : State) (s : SessionFields) (h : Header) (p : FileDataFields) → session_id s ≡ id_of h → s.stage ≡ Known →
     is_receiving_at (at_of R.world s) ≡ true → begins_no_gap R (id_of h) p ≡ true → asks_at_once R (next R.world (DataCame h p)).0 s ≡ []
 none_at_once R s h p named known receiving no_gap = elim (cases_Bool (is_immediate R.mib.nak_mode)) [
   | inl immediate ↦
       let entry = entry_of R.world (id_of h) in
       let at : is_receiving_at (at_stage Known entry) ≡ true =
       ap (λ id. is_receiving_at (at_stage Known (entry_of R.world id))) (sym named)
-      ∙ ap (λ (stage : Stage). is_receiving_at (at_stage stage (entry_of R.world (name_of s)))) (sym known)
+      ∙ ap (λ (stage : Stage). is_receiving_at (at_stage stage (entry_of R.world (session_id s)))) (sym known)
       ∙ receiving in
       let from : nat_le p.offset (progress_at entry) ≡ true = ap (λ (b : Bool). not b || nat_le p.offset (progress_at entry)) (sym immediate) ∙ no_gap in
       by_entry R s h p entry named refl at (no_later p.offset (progress_at entry) from)

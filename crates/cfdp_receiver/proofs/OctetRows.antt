@@ -3,7 +3,7 @@ use Rattle.std.proofs.Common.{◌≡◌, [], ◌∷◌, refl}
 use Rattle.std.specs.Prelude.{true, Ok, Err}
 use Rattle.cfdp_crc.specs.Seal.{sealed_at, plain_len}
 use Rattle.cfdp_crc.specs.declared.sealing.CrcFault.TheVariants as crc_fault
-use Rattle.cfdp_directives.specs.Reading.{keep_alive_at, prompt_at, ack_at, directive_in, directive_at}
+use Rattle.cfdp_directives.specs.Reading.{keep_alive_at, prompt_at, ack_at, directive_in, directive_spelled}
 use Rattle.cfdp_directives.specs.Spelling.{ack_field, nak_field, ack_pdu, nak_pdu}
 use Rattle.cfdp_directives.specs.Reading.{NakFields}
 use Rattle.cfdp_directives.specs.declared.ack.TransactionStatus.TheVariants.{Active}
@@ -28,19 +28,22 @@ unfolding sealed_at pdu_first.start_at pdu_first.header_at pdu_first.number_at p
 unknown_code = refl
 
 long_prompt : heard 0 (0x20 ∷ 0 ∷ 3 ∷ 0 ∷ 1 ∷ 5 ∷ 2 ∷ 9 ∷ 0 ∷ 0 ∷ []) ≡ Err (dropped.Pdu fault.LengthMismatch)
-unfolding sealed_at pdu_first.start_at pdu_first.header_at pdu_first.number_at pdu_first.field_at pdu_first.directive_at directive_at directive_in prompt_at
+unfolding sealed_at pdu_first.start_at pdu_first.header_at pdu_first.number_at pdu_first.field_at pdu_first.directive_at directive_spelled directive_in
+    prompt_at
 long_prompt = refl
 
 long_ack : heard 0 (0x20 ∷ 0 ∷ 4 ∷ 0 ∷ 1 ∷ 5 ∷ 2 ∷ 6 ∷ 0x51 ∷ 0 ∷ 0 ∷ []) ≡ Err (dropped.Pdu fault.LengthMismatch)
-unfolding sealed_at pdu_first.start_at pdu_first.header_at pdu_first.number_at pdu_first.field_at pdu_first.directive_at directive_at directive_in ack_at
+unfolding sealed_at pdu_first.start_at pdu_first.header_at pdu_first.number_at pdu_first.field_at pdu_first.directive_at directive_spelled directive_in ack_at
 long_ack = refl
 
 short_keep_alive : heard 0 (0x20 ∷ 0 ∷ 4 ∷ 0 ∷ 1 ∷ 5 ∷ 2 ∷ 0xc ∷ 0 ∷ 0 ∷ 0 ∷ []) ≡ Err (dropped.Pdu fault.LengthMismatch)
-unfolding sealed_at pdu_first.start_at pdu_first.header_at pdu_first.number_at pdu_first.field_at pdu_first.directive_at directive_at directive_in keep_alive_at
+unfolding sealed_at pdu_first.start_at pdu_first.header_at pdu_first.number_at pdu_first.field_at pdu_first.directive_at directive_spelled directive_in
+    keep_alive_at
 short_keep_alive = refl
 
 long_keep_alive : heard 0 (0x20 ∷ 0 ∷ 6 ∷ 0 ∷ 1 ∷ 5 ∷ 2 ∷ 0xc ∷ 0 ∷ 0 ∷ 0 ∷ 0 ∷ 0 ∷ []) ≡ Err (dropped.Pdu fault.LengthMismatch)
-unfolding sealed_at pdu_first.start_at pdu_first.header_at pdu_first.number_at pdu_first.field_at pdu_first.directive_at directive_at directive_in keep_alive_at
+unfolding sealed_at pdu_first.start_at pdu_first.header_at pdu_first.number_at pdu_first.field_at pdu_first.directive_at directive_spelled directive_in
+    keep_alive_at
 long_keep_alive = refl
 
 -- ---- PDUs that have a CRC

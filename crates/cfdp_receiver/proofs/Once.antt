@@ -5,15 +5,15 @@ use Rattle.std.proofs.Common.{◌≡◌, ◌⊎◌, inl, inr, ℕ, ◌+◌, ◌<
 use Rattle.std.proofs.lemmas.Bool.{cond_both, cond-false, cases_Bool, le-leb, lt-ltb, le-ltb, eqb-true, ne_eqb}
 use Rattle.cfdp_status.specs.declared.transaction.TransactionId.{TransactionId}
 use Rattle.cfdp_directives.specs.Reading.{NakFields}
-use Rattle.cfdp_retransmission.specs.Coming.{continues, covers, one_if}
-use Rattle.cfdp_retransmission.specs.Naks.{Range}
+use Rattle.cfdp_retransmission.specs.Coming.{continues, cover_count, one_if}
+use Rattle.cfdp_retransmission.specs.Naks.{SegmentRequest}
 use Rattle.cfdp_transactions.specs.Entry.{Entry, id_of, gaps, gaps_in, reach, awaited, progress}
 use Rattle.cfdp_transactions.specs.Received.{gaps_below}
 use Rattle.cfdp_transactions.specs.ReceivedLaws.{AreRuns}
 use Rattle.cfdp_transactions.specs.declared.phase.Phase.{Phase}
 use Rattle.cfdp_transactions.specs.declared.phase.Phase.TheVariants.{Receiving, Awaiting, Executing, Refused, Done, Ended}
 use Rattle.cfdp_transactions.specs.World.{World, entry_of, index_of}
-use Rattle.cfdp_transactions.proofs.OctetsAndGaps.{gaps_are_runs}
+use Rattle.cfdp_transactions.proofs.Received.OctetsAndGaps.{gaps_are_runs}
 use Rattle.cfdp_pdus.specs.Values.{FileDataFields}
 use Rattle.cfdp_pdus.specs.declared.header.Header.{Header}
 use Rattle.cfdp_sessions.specs.Sessions.{SessionFields}
@@ -27,14 +27,14 @@ use Rattle.cfdp_receiver.specs.declared.mib.Mib.{Mib}
 use Rattle.cfdp_receiver.specs.State.{State, begin, Input, MetadataPdu, DataPdu, EofPdu, AckPdu, PromptPdu, OtherPdu, Expire, Work, Finish, CancelAsked, ForgetAsked, session_of}
 use Rattle.cfdp_receiver.specs.Handing as Handing
 use Rattle.cfdp_receiver.specs.Turning as Turning
-use Rattle.cfdp_receiver.specs.Laws.{touched, Asked, Asks_none, Asks_all, Asks_gaps, Asks_new, is_data, requests_of, asks_metadata, AsksOnce, Once_held, Once_known, AsksOnceIn, EndsStayThere, NaksAskOnceIn, NaksAskOnce}
+use Rattle.cfdp_receiver.specs.Laws.{touched, Asked, Asks_none, Asks_all, Asks_gaps, Asks_new, is_data, requests_of_naks, asks_metadata, AsksOnce, Once_held, Once_known, AsksOnceIn, EndsStayThere, NaksAskOnceIn, NaksAskOnce}
 use Rattle.cfdp_receiver.proofs.Asking.{naks_ask, asks_for, exactly_missing, from_zero}
 use Rattle.cfdp_receiver.proofs.Handing.{hands_on}
 use Rattle.cfdp_receiver.proofs.LastThere.{LastThere, Joined, run_last, next_joined}
 
 -- ---- the Metadata PDU
 
-no_metadata : (from : ℕ) (xs : List Range) → AreRuns from xs → asks_metadata xs ≡ 0
+no_metadata : (from : ℕ) (xs : List SegmentRequest) → AreRuns from xs → asks_metadata xs ≡ 0
 no_metadata from [] runs = refl
 no_metadata from (r ∷ rs) runs =
     let other : one_if ((r.0 == 0) && (r.1 == 0)) ≡ 0 = past_zero (r.0 == 0) r.1 (omega (arith, runs.1)) in
@@ -44,12 +44,12 @@ no_metadata from (r ∷ rs) runs =
     past_zero true end h = ap one_if (ne_eqb end 0 (λ e. absurd (omega (arith, e, h))))
     past_zero false end h = refl
 
-fewer_metadata : (low : ℕ) (xs : List Range) → asks_metadata xs ≡ 0 → asks_metadata (filter (λ (g : Range). nat_le low g.0) xs) ≡ 0
+fewer_metadata : (low : ℕ) (xs : List SegmentRequest) → asks_metadata xs ≡ 0 → asks_metadata (filter (λ (g : SegmentRequest). nat_le low g.0) xs) ≡ 0
 fewer_metadata low [] none = refl
 fewer_metadata low (r ∷ rs) none =
-    let rest = filter (λ (g : Range). nat_le low g.0) rs in
+    let rest = filter (λ (g : SegmentRequest). nat_le low g.0) rs in
     let later = fewer_metadata low rs (omega (arith, none)) in
-    cond_both (nat_le low r.0) (r ∷ rest) rest (λ (ys : List Range). asks_metadata ys ≡ 0) (λ e. omega (arith, none, later)) (λ e. later)
+    cond_both (nat_le low r.0) (r ∷ rest) rest (λ (ys : List SegmentRequest). asks_metadata ys ≡ 0) (λ e. omega (arith, none, later)) (λ e. later)
 
 metadata_in : (entry : Entry) (phase : Phase) → asks_metadata (gaps_in phase entry) ≡ 0
 metadata_in entry Receiving = no_metadata 0 (gaps_below (length entry.received) entry.received) (gaps_are_runs (length entry.received) entry.received)
@@ -61,10 +61,10 @@ metadata_in entry (Ended condition) = refl
 
 -- ---- where the EOF PDU is held
 
-record AllOnce (size at : ℕ) (xs : List Range) : Type 0 where
+record AllOnce (size at : ℕ) (xs : List SegmentRequest) : Type 0 where
   metadata : asks_metadata xs ≡ 1
-  inside : at < size → covers at xs ≡ 1
-  outside : size ≤ at → covers at xs ≡ 0
+  inside : at < size → cover_count at xs ≡ 1
+  outside : size ≤ at → cover_count at xs ≡ 0
 
 nothing_once : (at : ℕ) → AllOnce 0 at ((0, 0) ∷ [])
 nothing_once at =
@@ -82,7 +82,7 @@ all_once size at = elim (cases_Bool (size == 0)) [
   | inl none ↦
       subst (λ (n : ℕ). AllOnce n at (Turning.all_of n)) (sym (eqb-true size 0 none)) (nothing_once at)
   | inr some ↦
-      subst (λ (xs : List Range). AllOnce size at ((0, 0) ∷ xs)) (sym (cond-false (size == 0) [] ((0, size) ∷ []) some)) (file_once size at some)
+      subst (λ (xs : List SegmentRequest). AllOnce size at ((0, 0) ∷ xs)) (sym (cond-false (size == 0) [] ((0, size) ∷ []) some)) (file_once size at some)
 ]
 
 -- ---- the answer
@@ -92,38 +92,41 @@ abbrev GoesOn : World → Bool → State → TransactionId → Type 0
 GoesOn U data_came N id = data_came ≡ true → (now : Entry) → entry_of N.world id ≡ Some now → Joined (Turning.progress_at (entry_of U id)) now
 
 once_new : (U : World) (N : State) (id : TransactionId) (at : ℕ) (sent : List NakFields) (s : SessionFields) (entry : Entry) (low : ℕ) →
-    1 ≤ Turning.most_requests N.mib →
+    1 ≤ Turning.most_nak_requests N.mib →
     session_of N id ≡ Some s → s.stage ≡ Known → entry_of N.world id ≡ Some entry → low ≡ Turning.progress_at (entry_of U id) →
     continues entry.received low ≡ true →
-    sent ≡ Turning.sequence N.mib s.header low (reach entry) (Turning.gaps_after low entry) → AsksOnce U true N id at (requests_of sent)
+    sent ≡ Turning.sequence N.mib s.header low (reach entry) (Turning.gaps_after low entry) → AsksOnce U true N id at (requests_of_naks sent)
 once_new U N id at sent s entry low most here known there from joined e =
-    let all = ap requests_of e ∙ asks_for N.mib s.header low (reach entry) (Turning.gaps_after low entry) most in
-    let same = ap requests_of e in
+    let all = ap requests_of_naks e ∙ asks_for N.mib s.header low (reach entry) (Turning.gaps_after low entry) most in
+    let same = ap requests_of_naks e in
     let exact = exactly_missing N.mib s.header entry low at most joined in
     Once_known s entry here known there (ap asks_metadata all ∙ fewer_metadata low (gaps entry) (metadata_in entry entry.phase))
-    (λ h. ap (covers at) same ∙ exact.0 (omega (arith, from, h.0)) h.1 h.2)
-    (λ out. ap (covers at) same ∙ exact.1 (λ above inside missing. out (omega (arith, from, above), inside, missing)))
+    (λ h. ap (cover_count at) same ∙ exact.0 (omega (arith, from, h.0)) h.1 h.2)
+    (λ out. ap (cover_count at) same ∙ exact.1 (λ above inside missing. out (omega (arith, from, above), inside, missing)))
 
 no_gaps : (low : ℕ) (entry : Entry) → gaps entry ≡ [] → 1 ≤ length (Turning.gaps_after low entry) → ⊥
 no_gaps low entry none some =
-    let zero_long : length (Turning.gaps_after low entry) ≡ 0 = ap (λ (xs : List Range). length (filter (λ (g : Range). nat_le low g.0) xs)) none in
+    let zero_long : length (Turning.gaps_after low entry) ≡ 0 = ap (λ (xs : List SegmentRequest). length
+    (filter (λ (g : SegmentRequest). nat_le low g.0) xs)) none in
     absurd (omega (arith, zero_long, some))
 
-once_in : (U : World) (data_came : Bool) (N : State) (id : TransactionId) (at : ℕ) (sent : List NakFields) → 1 ≤ Turning.most_requests N.mib →
+once_in : (U : World) (data_came : Bool) (N : State) (id : TransactionId) (at : ℕ) (sent : List NakFields) → 1 ≤ Turning.most_nak_requests N.mib →
     GoesOn U data_came N id →
-    Asked U data_came N id sent → (sent ≡ []) ⊎ AsksOnce U data_came N id at (requests_of sent)
+    Asked U data_came N id sent → (sent ≡ []) ⊎ AsksOnce U data_came N id at (requests_of_naks sent)
 once_in U data_came N id at sent most on (Asks_none e) = inl e
 once_in U data_came N id at sent most on (Asks_all s eof here mode held e) =
-    let all = ap requests_of e ∙ asks_for N.mib s.header 0 eof.size (Turning.all_of eof.size) most in
+    let all = ap requests_of_naks e ∙ asks_for N.mib s.header 0 eof.size (Turning.all_of eof.size) most in
     let once = all_once eof.size at in
-    inr (Once_held s eof here held (ap asks_metadata all ∙ once.metadata) (λ h. ap (covers at) all ∙ once.inside h) (λ h. ap (covers at) all ∙ once.outside h))
+    inr (Once_held s eof here held (ap asks_metadata all ∙ once.metadata) (λ h. ap (cover_count at) all ∙ once.inside h)
+    (λ h. ap (cover_count at) all ∙ once.outside h))
 once_in U false N id at sent most on (Asks_gaps s entry here mode known there other e) =
-    let all = ap requests_of e ∙ asks_for N.mib s.header 0 (reach entry) (gaps entry) most in
-    let same : requests_of sent ≡ requests_of (Turning.sequence N.mib s.header 0 (reach entry) (Turning.gaps_after 0 entry)) =
-    ap requests_of e ∙ ap (λ (xs : List Range). requests_of (Turning.sequence N.mib s.header 0 (reach entry) xs)) (sym (from_zero (gaps entry))) in
+    let all = ap requests_of_naks e ∙ asks_for N.mib s.header 0 (reach entry) (gaps entry) most in
+    let same : requests_of_naks sent ≡ requests_of_naks (Turning.sequence N.mib s.header 0 (reach entry) (Turning.gaps_after 0 entry)) =
+    ap requests_of_naks e ∙ ap (λ (xs : List SegmentRequest). requests_of_naks (Turning.sequence N.mib s.header 0 (reach entry) xs))
+    (sym (from_zero (gaps entry))) in
     let exact = exactly_missing N.mib s.header entry 0 at most refl in
     inr (Once_known s entry here known there (ap asks_metadata all ∙ metadata_in entry entry.phase)
-    (λ h. ap (covers at) same ∙ exact.0 h.0 h.1 h.2) (λ out. ap (covers at) same ∙ exact.1 (λ low inside missing. out (low, inside, missing))))
+    (λ h. ap (cover_count at) same ∙ exact.0 h.0 h.1 h.2) (λ out. ap (cover_count at) same ∙ exact.1 (λ low inside missing. out (low, inside, missing))))
 once_in U true N id at sent most on (Asks_gaps s entry here mode known there other e) = absurd cc
 once_in U false N id at sent most on (Asks_new s entry low here mode known there came immediate from some e) = absurd cc
 once_in U true N id at sent most on (Asks_new s entry low here mode known there came immediate from some e) = elim (on refl entry there) [
@@ -158,7 +161,7 @@ session_follows : (R : State) (id : TransactionId) (o : Option SessionFields) (e
 session_follows R id None es none some = none
 session_follows R id (Some s) es none some = stage_follows R id s.stage es none some
 
-goes_on : (R : State) (i : Input) → Each LastThere R.world.table → GoesOn R.world (is_data i) (Turning.after R i) (touched R i)
+goes_on : (R : State) (i : Input) → Each LastThere R.world.table → GoesOn R.world (is_data i) (Turning.after_input R i) (touched R i)
 goes_on R (DataPdu now h piece) all d =
     let L = Handing.later now R in
     let none = nothing_follows R (id_of h) all in
@@ -180,11 +183,11 @@ goes_on R ForgetAsked all d = absurd cc
 
 mib_stays : (R : State) (inputs : List Input) → (Turning.after_all R inputs).mib ≡ R.mib
 mib_stays R [] = refl
-mib_stays R (i ∷ is) = mib_stays (Turning.after R i) is
+mib_stays R (i ∷ is) = mib_stays (Turning.after_input R i) is
 
 pub naks_ask_once_in : NaksAskOnceIn
 naks_ask_once_in R i at most all =
-    once_in R.world (is_data i) (Turning.after R i) (touched R i) at (Turning.parts R i).answer.naks most (λ d. goes_on R i (all d) d) (naks_ask R i)
+    once_in R.world (is_data i) (Turning.after_input R i) (touched R i) at (Turning.parts R i).answer.naks most (λ d. goes_on R i (all d) d) (naks_ask R i)
 
 pub ends_stay_there : EndsStayThere
 ends_stay_there R i all = run_last R.world (Handing.handed R i) all
@@ -198,4 +201,4 @@ naks_ask_once mib W inputs i at none most =
     let R = Turning.after_all R0 inputs in
     let all : Each LastThere R.world.table =
     subst (λ (V : World). Each LastThere V.table) (sym (hands_on R0 inputs)) (run_last W (Turning.all_handed R0 inputs) (none_listed W none)) in
-    naks_ask_once_in R i at (subst (λ (m : Mib). 1 ≤ Turning.most_requests m) (sym (mib_stays R0 inputs)) most) (λ d. all)
+    naks_ask_once_in R i at (subst (λ (m : Mib). 1 ≤ Turning.most_nak_requests m) (sym (mib_stays R0 inputs)) most) (λ d. all)

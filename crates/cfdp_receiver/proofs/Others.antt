@@ -14,7 +14,7 @@ use Rattle.cfdp_transactions.specs.Headline.{NextIsSound, NextIsPromised}
 use Rattle.cfdp_transactions.specs.Next.{next, run}
 use Rattle.cfdp_transactions.specs.Sound.{Sound}
 use Rattle.cfdp_transactions.specs.World.{World, next_runnable}
-use Rattle.cfdp_sessions.specs.Sessions.{SessionFields, name_of}
+use Rattle.cfdp_sessions.specs.Sessions.{SessionFields, session_id}
 use Rattle.cfdp_sessions.specs.declared.session.Stage.{Stage}
 use Rattle.cfdp_sessions.specs.declared.session.Stage.TheVariants.{Held, Known, Over as OverStage, Waiting}
 use Rattle.cfdp_sessions.proofs.Names.{same_self, both_of, found_name}
@@ -46,7 +46,7 @@ not_session id (Some s) es h = not_known id s.stage es h
 pub other_than : (n id : TransactionId) → is_same n id ≡ false → id ≢ n
 other_than n id other e = both_of (is_same n id) other (ap (is_same n) e ∙ same_self n)
 
-not_metadata_stage : (id : TransactionId) (h : Header) (m : MetadataFields) (s : SessionFields) (stage : Stage) → id ≢ id_of h → name_of s ≡ id_of h →
+not_metadata_stage : (id : TransactionId) (h : Header) (m : MetadataFields) (s : SessionFields) (stage : Stage) → id ≢ id_of h → session_id s ≡ id_of h →
     NotAbout id (Handing.metadata_in_stage h m s stage)
 not_metadata_stage id h m s (Held eof) ne name = not_if id h.acknowledged (MetadataCame h m ∷ EofCame s.header eof ∷ []) [] (ne, ((λ e. ne (e ∙ name)), tt)) tt
 not_metadata_stage id h m s Known ne name = (ne, tt)
@@ -69,14 +69,14 @@ not_due : (R : State) (id : TransactionId) (due : Dues.Due) → id ≢ due_name 
 not_due R id Dues.Nothing_due ne = tt
 not_due R id (Dues.Alive_due s) ne = tt
 not_due R id (Dues.Stage_due s false) ne =
-    not_known id s.stage _ (not_if id (Handing.makes_checks s.header.acknowledged (at_of R.world s)) (Check (name_of s) ∷ []) [] (ne, tt) tt)
+    not_known id s.stage _ (not_if id (Handing.makes_checks s.header.acknowledged (at_of R.world s)) (Check (session_id s) ∷ []) [] (ne, tt) tt)
 not_due R id (Dues.Stage_due s true) ne =
-    not_known id s.stage _ (not_limit id (name_of s) (Handing.makes_checks s.header.acknowledged (at_of R.world s))
+    not_known id s.stage _ (not_limit id (session_id s) (Handing.makes_checks s.header.acknowledged (at_of R.world s))
     (Dues.handler_at R.mib s.header.acknowledged (at_of R.world s)) ne)
 
 not_take : (id : TransactionId) (o : Option SessionFields) → id ≢ session_name o → NotAbout id (Handing.take_of o)
 not_take id None ne = tt
-not_take id (Some s) ne = not_known id s.stage (Take (name_of s) ∷ []) (ne, tt)
+not_take id (Some s) ne = not_known id s.stage (Take (session_id s) ∷ []) (ne, tt)
 
 not_handed : (R : State) (i : Input) (id : TransactionId) → is_work i ≡ false → id ≢ touched_in R i → NotAbout id (Handing.events_of R i)
 not_handed R (MetadataPdu now h m) id w ne =

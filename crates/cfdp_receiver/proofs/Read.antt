@@ -4,7 +4,7 @@ use Rattle.std.proofs.Common.{◌≡◌, ℕ, Bool, false, ◌==◌, List, [], �
 use Rattle.std.proofs.lemmas.Bool.{cond_both}
 use Rattle.cfdp_tlv.specs.Reading.{◌>>=◌}
 use Rattle.cfdp_pdus.specs.First.{Start, start_at, field_at, directive_at, pdu_at, metadata_at, eof_at, finished_at, file_data_at}
-use Rattle.cfdp_pdus.specs.Receiving.{received_in}
+use Rattle.cfdp_pdus.specs.Receiving.{received_of}
 use Rattle.cfdp_pdus.specs.Sound.{IsSoundMetadata}
 use Rattle.cfdp_pdus.specs.Values.{MetadataFields, FileDataFields, FinishedFields}
 use Rattle.cfdp_pdus.specs.declared.eof.Eof.{Eof}
@@ -15,7 +15,7 @@ use Rattle.cfdp_pdus.specs.declared.fault.PduFault.{PduFault}
 use Rattle.cfdp_pdus.specs.declared.fault.PduFault.TheVariants.{BadDirective}
 use Rattle.cfdp_transactions.specs.declared.event.Event.TheVariants.{Metadata as MetadataCame}
 use Rattle.cfdp_transactions.specs.Writable.{IsReadable}
-use Rattle.cfdp_transactions.proofs.Readable.{read_is_readable}
+use Rattle.cfdp_transactions.proofs.Promises.Readable.{read_is_readable}
 use Rattle.cfdp_receiver.specs.Heard.{pdu_input, input_at}
 use Rattle.cfdp_receiver.specs.State.{OtherPdu}
 
@@ -85,7 +85,7 @@ by_start start =
     (by_directive start.header start.field)
 
 -- what is read of a Finished PDU is its header
-as_other : (h : Header) (read : Result Pdu PduFault) (now : ℕ) (octets : List ℕ) → HasHeader h read → received_in read ≡ Ok None → pdu_input now octets read
+as_other : (h : Header) (read : Result Pdu PduFault) (now : ℕ) (octets : List ℕ) → HasHeader h read → received_of read ≡ Ok None → pdu_input now octets read
     ≡ Ok (OtherPdu now h)
 as_other h (Ok (pdus.Metadata k m)) now octets same none = absurd cc
 as_other h (Ok (pdus.FileData k d)) now octets same none = absurd cc
@@ -94,7 +94,7 @@ as_other h (Ok (pdus.Finished k finished)) now octets same none = ap (λ (x : He
 as_other h (Ok (pdus.NotOurs k code)) now octets same none = absurd cc
 as_other h (Err fault) now octets same none = absurd cc
 
-pub finished_input : (octets : List ℕ) (start : Start) (now : ℕ) → start_at octets ≡ Ok start → received_in (pdu_at octets) ≡ Ok None → input_at now octets
+pub finished_input : (octets : List ℕ) (start : Start) (now : ℕ) → start_at octets ≡ Ok start → received_of (pdu_at octets) ≡ Ok None → input_at now octets
     ≡ Ok (OtherPdu now start.header)
 finished_input octets start now began none =
     as_other start.header (pdu_at octets) now octets

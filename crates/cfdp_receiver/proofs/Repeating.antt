@@ -8,7 +8,7 @@ use Rattle.cfdp_directives.specs.Reading.{NakFields}
 use Rattle.cfdp_retransmission.specs.declared.timer.Timer.{Timer}
 use Rattle.cfdp_retransmission.specs.declared.timer.Expiry.TheVariants.{Again}
 use Rattle.cfdp_retransmission.specs.Timers.{passed}
-use Rattle.cfdp_sessions.specs.Sessions.{SessionFields, name_of, replaced}
+use Rattle.cfdp_sessions.specs.Sessions.{SessionFields, session_id, replaced}
 use Rattle.cfdp_sessions.proofs.Names.{replaced_self}
 use Rattle.cfdp_sessions.proofs.Places.{found_by_name, some_same}
 use Rattle.cfdp_transactions.specs.declared.reply.Reply.{Reply}
@@ -20,7 +20,8 @@ use Rattle.cfdp_receiver.specs.declared.mib.Mib.{Mib}
 use Rattle.cfdp_receiver.specs.State.{State, Expire, At, At_held, At_receiving, At_awaiting, At_executing, At_over, At_waiting, at_of}
 use Rattle.cfdp_receiver.specs.Due.{Stage_due, first_due}
 use Rattle.cfdp_receiver.specs.Handing.{due_events}
-use Rattle.cfdp_receiver.specs.Machine.{MachineFields, AnswerParts, Turns, answer_in, finished_by, silent}
+use Rattle.cfdp_receiver.specs.Machine.{MachineFields, AnswerParts, answer_in, finished_by}
+use Rattle.cfdp_receiver.specs.code.Machine.{Turns, silent}
 use Rattle.cfdp_receiver.specs.Turning as Turning
 use Rattle.cfdp_receiver.proofs.Giving.{with_lists}
 use Rattle.cfdp_receiver.proofs.Turned.{turns_by}
@@ -29,10 +30,10 @@ use Rattle.cfdp_receiver.proofs.Turned.{turns_by}
 
 pub replaced_length : (ss : List SessionFields) (new : SessionFields) → length (replaced ss new) ≡ length ss
 replaced_length [] new = refl
-replaced_length (x ∷ xs) new = elim (cases_Bool (is_same (name_of x) (name_of new))) [
-  | inl here ↦ ap (λ (ys : List SessionFields). length ys) (cond-true (is_same (name_of x) (name_of new)) (new ∷ xs) (x ∷ replaced xs new) here)
+replaced_length (x ∷ xs) new = elim (cases_Bool (is_same (session_id x) (session_id new))) [
+  | inl here ↦ ap (λ (ys : List SessionFields). length ys) (cond-true (is_same (session_id x) (session_id new)) (new ∷ xs) (x ∷ replaced xs new) here)
   | inr there ↦
-      ap (λ (ys : List SessionFields). length ys) (cond-false (is_same (name_of x) (name_of new)) (new ∷ xs) (x ∷ replaced xs new) there)
+      ap (λ (ys : List SessionFields). length ys) (cond-false (is_same (session_id x) (session_id new)) (new ∷ xs) (x ∷ replaced xs new) there)
       ∙ ap suc (replaced_length xs new)
 ]
 
@@ -40,20 +41,20 @@ replaced_length (x ∷ xs) new = elim (cases_Bool (is_same (name_of x) (name_of 
 at_replaced : (ss : List SessionFields) (new s t : SessionFields) (i : ℕ) → slice_get ss i ≡ Some s →
     slice_get (replaced ss new) i ≡ Some t → (new ≡ t) ⊎ (s ≡ t)
 at_replaced [] new s t i e after = absurd cc
-at_replaced (x ∷ xs) new s t zero e after = elim (cases_Bool (is_same (name_of x) (name_of new))) [
+at_replaced (x ∷ xs) new s t zero e after = elim (cases_Bool (is_same (session_id x) (session_id new))) [
   | inl here ↦
-      let put = cond-true (is_same (name_of x) (name_of new)) (new ∷ xs) (x ∷ replaced xs new) here in
+      let put = cond-true (is_same (session_id x) (session_id new)) (new ∷ xs) (x ∷ replaced xs new) here in
       inl (some_same new t (ap (λ (ys : List SessionFields). slice_get ys 0) (sym put) ∙ after))
   | inr there ↦
-      let put = cond-false (is_same (name_of x) (name_of new)) (new ∷ xs) (x ∷ replaced xs new) there in
+      let put = cond-false (is_same (session_id x) (session_id new)) (new ∷ xs) (x ∷ replaced xs new) there in
       inr (some_same s t (sym e ∙ ap (λ (ys : List SessionFields). slice_get ys 0) (sym put) ∙ after))
 ]
-at_replaced (x ∷ xs) new s t (suc i) e after = elim (cases_Bool (is_same (name_of x) (name_of new))) [
+at_replaced (x ∷ xs) new s t (suc i) e after = elim (cases_Bool (is_same (session_id x) (session_id new))) [
   | inl here ↦
-      let put = cond-true (is_same (name_of x) (name_of new)) (new ∷ xs) (x ∷ replaced xs new) here in
+      let put = cond-true (is_same (session_id x) (session_id new)) (new ∷ xs) (x ∷ replaced xs new) here in
       inr (some_same s t (sym e ∙ ap (λ (ys : List SessionFields). slice_get ys (suc i)) (sym put) ∙ after))
   | inr there ↦
-      let put = cond-false (is_same (name_of x) (name_of new)) (new ∷ xs) (x ∷ replaced xs new) there in
+      let put = cond-false (is_same (session_id x) (session_id new)) (new ∷ xs) (x ∷ replaced xs new) there in
       at_replaced xs new s t i e (ap (λ (ys : List SessionFields). slice_get ys (suc i)) (sym put) ∙ after)
 ]
 
@@ -91,18 +92,18 @@ again_turns M N a s due is answer =
 
 -- Finished again
 pub says_finished : (M : MachineFields) (a b : AnswerParts) (s : SessionFields) (id : TransactionId) (i : ℕ) →
-    slice_get M.state.sessions i ≡ Some s → id ≡ name_of s → b ≡ silent (Said id words.Expired) → a ≡ record b { finished = id ∷ [] } →
+    slice_get M.state.sessions i ≡ Some s → id ≡ session_id s → b ≡ silent (Said id words.Expired) → a ≡ record b { finished = id ∷ [] } →
     at_of M.state.world s ≡ At_waiting → answer_in (again_made M s) a ≡ Turning.repeats M.state (again_in M s) s (at_of M.state.world s)
 says_finished M a b s id i e name word is waits =
     let N = again_made M s in
-    let octets = replaced_self M.state.sessions (again_session M s) (name_of s) (found_by_name M.state.sessions i s e) refl in
+    let octets = replaced_self M.state.sessions (again_session M s) (session_id s) (found_by_name M.state.sessions i s e) refl in
     ap (answer_in N) (is ∙ ap (λ (x : AnswerParts). record x { finished = id ∷ [] }) word)
     ∙ ap (λ (x : TransactionId). answer_in N (record (silent (Said x words.Expired)) { finished = x ∷ [] })) name
-    ∙ ap (λ (o : Option SessionFields). record (Turning.said s words.Expired) { finished = finished_by N o ∷ [] }) octets
+    ∙ ap (λ (o : Option SessionFields). record (Turning.said_word s words.Expired) { finished = finished_by N o ∷ [] }) octets
     ∙ ap (Turning.repeats M.state (again_in M s) s) (sym waits)
 
 repeats_asks : (R : State) (V : World) (s : SessionFields) (at : At) → (at ≡ At_waiting → ⊥) → s.header.acknowledged ≡ true →
-    record (Turning.said s words.Expired) { naks = Turning.asks R.mib V s } ≡ Turning.repeats R V s at
+    record (Turning.said_word s words.Expired) { naks = Turning.asks R.mib V s } ≡ Turning.repeats R V s at
 repeats_asks R V s At_held other mode = sym (cond-true s.header.acknowledged _ _ mode)
 repeats_asks R V s At_receiving other mode = sym (cond-true s.header.acknowledged _ _ mode)
 repeats_asks R V s (At_awaiting made) other mode = sym (cond-true s.header.acknowledged _ _ mode)
@@ -111,12 +112,12 @@ repeats_asks R V s At_over other mode = sym (cond-true s.header.acknowledged _ _
 repeats_asks R V s At_waiting other mode = absurd (other refl)
 
 -- what is missing is asked for
-pub says_naks : (M : MachineFields) (a b : AnswerParts) (s : SessionFields) (id : TransactionId) (naks : List NakFields) → id ≡ name_of s →
+pub says_naks : (M : MachineFields) (a b : AnswerParts) (s : SessionFields) (id : TransactionId) (naks : List NakFields) → id ≡ session_id s →
     b ≡ silent (Said id words.Expired) → a ≡ record b { naks = naks } → naks ≡ Turning.asks M.state.mib (again_in M s) s →
     (at_of M.state.world s ≡ At_waiting → ⊥) → s.header.acknowledged ≡ true →
     answer_in (again_made M s) a ≡ Turning.repeats M.state (again_in M s) s (at_of M.state.world s)
 says_naks M a b s id naks name word is asked other mode =
     ap (answer_in (again_made M s)) (is ∙ ap (λ (x : AnswerParts). record x { naks = naks }) word)
     ∙ ap (λ (x : TransactionId). record (Turning.quiet (Said x words.Expired)) { naks = naks }) name
-    ∙ ap (λ (xs : List NakFields). record (Turning.said s words.Expired) { naks = xs }) asked
+    ∙ ap (λ (xs : List NakFields). record (Turning.said_word s words.Expired) { naks = xs }) asked
     ∙ repeats_asks M.state (again_in M s) s (at_of M.state.world s) other mode

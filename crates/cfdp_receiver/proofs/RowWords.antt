@@ -19,7 +19,7 @@ use Rattle.cfdp_directives.specs.declared.ack.TransactionStatus.TheVariants.{Act
 use Rattle.cfdp_directives.specs.declared.keep_alive.KeepAlive.{KeepAlive}
 use Rattle.cfdp_transactions.specs.declared.reply.Reply.{Reply}
 use Rattle.cfdp_transactions.specs.World.{start}
-use Rattle.cfdp_transactions.proofs.ExampleWords.{config}
+use Rattle.cfdp_transactions.proofs.Examples.ExampleWords.{config}
 use Rattle.cfdp_receiver.specs.declared.answer.Became.TheVariants.{Nothing, Said, Replied}
 use Rattle.cfdp_receiver.specs.declared.answer.Indication.{Indication}
 use Rattle.cfdp_receiver.specs.declared.answer.Indication.TheVariants as tells
@@ -27,7 +27,7 @@ use Rattle.cfdp_receiver.specs.declared.answer.Word.{Word}
 use Rattle.cfdp_receiver.specs.declared.mib.Handler.TheVariants as handlers
 use Rattle.cfdp_receiver.specs.declared.mib.Mib.{Mib}
 use Rattle.cfdp_receiver.specs.declared.mib.NakMode.TheVariants as modes
-use Rattle.cfdp_receiver.specs.State.{State, begin, AnswerFields, turned}
+use Rattle.cfdp_receiver.specs.State.{State, begin, AnswerFields, turned_header}
 use Rattle.cfdp_receiver.specs.Turning.{quiet}
 
 abbrev pub mib : Mib
@@ -72,13 +72,13 @@ abbrev pub finished_ack : Ack
 finished_ack = record { directive = 5; condition = 0; status = Active }
 
 abbrev pub ack : ℕ → ℕ → TransactionStatus → Header × Ack
-ack n condition status = (turned (header n), record { directive = 4; condition = condition; status = status })
+ack n condition status = (turned_header (header n), record { directive = 4; condition = condition; status = status })
 
 abbrev pub nak : ℕ → ℕ → ℕ → List (ℕ × ℕ) → NakFields
-nak n low high requests = record { header = turned (header n); scope = (low, high); requests = requests }
+nak n low high requests = record { header = turned_header (header n); scope = (low, high); requests = requests }
 
 abbrev pub alive : ℕ → ℕ → Header × KeepAlive
-alive n progress = (turned (header n), record { progress = progress })
+alive n progress = (turned_header (header n), record { progress = progress })
 
 abbrev pub says : ℕ → Word → AnswerFields
 says n word = quiet (Said (id n) word)

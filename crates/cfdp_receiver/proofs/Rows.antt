@@ -22,16 +22,17 @@ use Rattle.cfdp_transactions.specs.declared.reply.Reply.TheVariants as Reply
 use Rattle.cfdp_transactions.specs.Admission.{new_entry}
 use Rattle.cfdp_transactions.specs.Next.{next, run, replies as replies_of}
 use Rattle.cfdp_transactions.specs.World.{World, start}
-use Rattle.cfdp_transactions.proofs.Computing.{look_ups}
-use Rattle.cfdp_transactions.proofs.ExampleWords.{config, asks}
+use Rattle.cfdp_transactions.proofs.Examples.Computing.{look_ups}
+use Rattle.cfdp_transactions.proofs.Examples.ExampleWords.{config, asks}
 use Rattle.cfdp_receiver.specs.declared.answer.Indication.TheVariants as tells
 use Rattle.cfdp_receiver.specs.declared.answer.Word.TheVariants as words
 use Rattle.cfdp_receiver.specs.declared.mib.Handler.TheVariants as handlers
 use Rattle.cfdp_receiver.specs.declared.mib.Mib.{Mib}
 use Rattle.cfdp_receiver.specs.declared.mib.NakMode.TheVariants as modes
-use Rattle.cfdp_receiver.specs.State.{State, AnswerFields, Input, MetadataPdu, DataPdu, EofPdu, AckPdu, PromptPdu, Expire, Work, Finish, CancelAsked, now_of, turned}
+use Rattle.cfdp_receiver.specs.State.{State, AnswerFields, Input, MetadataPdu, DataPdu, EofPdu, AckPdu, PromptPdu, Expire, Work, Finish, CancelAsked, now_of, turned_header}
 use Rattle.cfdp_receiver.specs.Handing.{later}
-use Rattle.cfdp_receiver.specs.Turning.{Parts, parts_of, after, after_all, all_answers}
+use Rattle.cfdp_receiver.specs.Turning.{Parts, parts_of, after_input, after_all}
+use Rattle.cfdp_receiver.specs.code.Turning.{all_answers}
 use Rattle.cfdp_receiver.proofs.RowWords.{mib, fresh, header, header_un, id, M, octets, D, E, finished_ack, ack, nak, alive, says, replies, described, segment, pdu_of, ended, nothing}
 
 -- ---- an input that hands on an event, and then others: its answer and those to what follows, by what the core makes of the first
@@ -297,7 +298,7 @@ ended_by_its_sender = refl
 -- ---- the Metadata PDU comes after the EOF PDU that is held
 
 abbrev holding : State
-holding = after (fresh mib) (EofPdu 0 (header 5) E)
+holding = after_input (fresh mib) (EofPdu 0 (header 5) E)
 
 abbrev resumed : State
 resumed = after_on holding (MetadataPdu 0 (header 5) M) (EofCame (header 5) E ∷ []) (with_entry (header 5), Reply.Admitted 2 2)
@@ -388,7 +389,7 @@ too_large :
       finished = (0x29 ∷ 0 ∷ 5 ∷ 0 ∷ 1 ∷ 8 ∷ 2 ∷ 5 ∷ 0x64 ∷ 6 ∷ 1 ∷ 2 ∷ []) ∷ [];
       indications = ended 8 6 true 0 ∷ [];
     }
-    ∷ record (says 8 words.Idle) { acks = (turned large_header, record { directive = 4; condition = 0; status = Active }) ∷ [] }
+    ∷ record (says 8 words.Idle) { acks = (turned_header large_header, record { directive = 4; condition = 0; status = Active }) ∷ [] }
     ∷ []
 unfolding blocks_of weighed_from finished_field
 too_large = refl

@@ -12,7 +12,8 @@ use Rattle.cfdp_directives.specs.declared.ack.TransactionStatus.{TransactionStat
 use Rattle.cfdp_directives.specs.declared.ack.TransactionStatus.TheVariants.{Active}
 use Rattle.cfdp_directives.specs.declared.prompt.Prompt.{Prompt}
 use Rattle.cfdp_directives.specs.declared.prompt.Prompt.TheVariants as prompts
-use Rattle.cfdp_sessions.specs.Sessions.{SessionFields, name_of, found, IsFound}
+use Rattle.cfdp_sessions.specs.Sessions.{SessionFields, session_id, found}
+use Rattle.cfdp_sessions.specs.code.Sessions.{IsFound}
 use Rattle.cfdp_sessions.specs.declared.session.Stage.{Stage}
 use Rattle.cfdp_sessions.specs.declared.session.Stage.TheVariants.{Held, Known, Over, Waiting}
 use Rattle.cfdp_sessions.proofs.Names.{same_self, found_put, found_added}
@@ -140,7 +141,7 @@ few_session R s o =
 
 few_finish : (R : State) (s : Option SessionFields) → FewIn (Turning.finish_parts R s)
 few_finish R None = none
-few_finish R (Some s) = few_session R s (Turning.outcome_for s (entry_of R.world (name_of s)))
+few_finish R (Some s) = few_session R s (Turning.outcome_for s (entry_of R.world (session_id s)))
 
 few_cancel_stage : (R : State) (rs : List Reply) (s : SessionFields) (stage : Stage) → FewIn (Turning.cancel_stage R rs s stage)
 few_cancel_stage R rs s (Held eof) = none
@@ -184,8 +185,8 @@ acked_active R h eof p acks f =
     inl (acks ∙ ap (λ (o : Option SessionFields). Turning.acked h eof.condition
     (session_status o (list_any (λ name. is_same name (id_of h)) p.closed.names) p.closed.forgot)) (sym f.1))
 
-pub heard_name : (R : State) (V : World) (s : SessionFields) → name_of (Turning.heard R V s) ≡ name_of s
-heard_name R V s = cond_both (Turning.is_news R.world V s) _ s (λ (t : SessionFields). name_of t ≡ name_of s) (λ e. refl) (λ e. refl)
+pub heard_name : (R : State) (V : World) (s : SessionFields) → session_id (Turning.heard_session R V s) ≡ session_id s
+heard_name R V s = cond_both (Turning.is_news R.world V s) _ s (λ (t : SessionFields). session_id t ≡ session_id s) (λ e. refl) (λ e. refl)
 
 not_false : (b : Bool) → not b ≡ false → b ≡ true
 not_false true e = refl
@@ -204,11 +205,11 @@ acked_stage : (R : State) (V : World) (rs : List Reply) (h : Header) (eof : Eof)
 acked_stage R V rs h eof s (Held kept) e =
     let over = Turning.ended_by h eof s in
     let said = Turning.acks_only h eof Active words.Faulted in
-    acked_if R h eof (eof.condition == 0) (Turning.keeps R (Turning.acks_only h eof Active words.Duplicate)) (Turning.puts R over said)
+    acked_if R h eof (eof.condition == 0) (Turning.keeps R (Turning.acks_only h eof Active words.Duplicate)) (Turning.replaces_one R over said)
     (acked_keeps R h eof s words.Duplicate e)
-    (acked_active R h eof (Turning.puts R over said) refl (found_put R.sessions over s (id_of h) e refl))
+    (acked_active R h eof (Turning.replaces_one R over said) refl (found_put R.sessions over s (id_of h) e refl))
 acked_stage R V rs h eof s Known e =
-    acked_active R h eof (Turning.eof_stage R V rs h eof s Known) refl (found_put R.sessions (Turning.heard R V s) s (id_of h) e (heard_name R V s))
+    acked_active R h eof (Turning.eof_stage R V rs h eof s Known) refl (found_put R.sessions (Turning.heard_session R V s) s (id_of h) e (heard_name R V s))
 acked_stage R V rs h eof s (Over ending) e = acked_keeps R h eof s words.Idle e
 acked_stage R V rs h eof s Waiting e = acked_keeps R h eof s words.Idle e
 
@@ -233,10 +234,10 @@ acked_full R h eof p q none new quiet hq =
 acked_eof : (R : State) (V : World) (rs : List Reply) (h : Header) (eof : Eof) (s : Option SessionFields) → session_of R (id_of h) ≡ s →
     Acked R h eof (Turning.eof_parts R V rs h eof s)
 acked_eof R V rs h eof None e =
-    let new = Turning.begun R h (Held eof) in
-    let full = Turning.keeps R (Turning.said_of h words.TableFull) in
-    let holds = Turning.holds R h eof in
-    let kept = Turning.keeps R (Turning.acks_only h eof (status_of R (id_of h)) (Turning.absent R (id_of h))) in
+    let new = Turning.begun_session R h (Held eof) in
+    let full = Turning.keeps R (Turning.said_of_header h words.TableFull) in
+    let holds = Turning.held_first R h eof in
+    let kept = Turning.keeps R (Turning.acks_only h eof (status_of R (id_of h)) (Turning.word_without_session R (id_of h))) in
     cond_both (is_closed R (id_of h) || not (eof.condition == 0) || not h.acknowledged) kept (if is_full R then full else holds) (Acked R h eof) (λ b. inl refl)
     (λ b.
     acked_full R h eof full holds e (is_first R h eof b) refl (acked_active R h eof holds refl (found_added R.sessions new (id_of h) (same_self (id_of h)))))

@@ -10,7 +10,7 @@ use Rattle.cfdp_retransmission.specs.declared.timer.Expiry.TheVariants.{NotDue, 
 use Rattle.cfdp_retransmission.specs.declared.timer.Timer.{Timer}
 use Rattle.cfdp_retransmission.specs.Timers.{expiry, passed, restarted}
 use Rattle.cfdp_retransmission.proofs.Waiting.{Early, Due, Over, why}
-use Rattle.cfdp_sessions.specs.Sessions.{SessionFields, name_of, found, replaced, without, AreDistinct}
+use Rattle.cfdp_sessions.specs.Sessions.{SessionFields, session_id, found, replaced, without_session, AreDistinct}
 use Rattle.cfdp_sessions.specs.declared.session.Stage.{Stage}
 use Rattle.cfdp_sessions.specs.declared.session.Stage.TheVariants.{Held, Known, Over as OverStage, Waiting}
 use Rattle.cfdp_sessions.proofs.Names.{same_self, same_is, both_of, no_some, IsMember, member_found}
@@ -46,13 +46,14 @@ use Rattle.cfdp_receiver.proofs.Limits.{stage_due, alive_due}
 
 -- of a session of another name
 abbrev AlikeBut : State → State → SessionFields → List SessionFields → Type 0
-AlikeBut N R s ss = (t : SessionFields) → IsMember t ss → is_same (name_of t) (name_of s) ≡ false → due_of N t ≡ due_of R t
+AlikeBut N R s ss = (t : SessionFields) → IsMember t ss → is_same (session_id t) (session_id s) ≡ false → due_of N t ≡ due_of R t
 
 -- none of these has the name
-none_named : (ss : List SessionFields) (t s : SessionFields) → AreDistinct ss → found ss (name_of s) ≡ None → IsMember t ss → is_same (name_of t) (name_of s)
+none_named : (ss : List SessionFields) (t s : SessionFields) → AreDistinct ss → found ss (session_id s) ≡ None → IsMember t ss → is_same (session_id t)
+    (session_id s)
     ≡ false
-none_named ss t s d none member = elim (cases_Bool (is_same (name_of t) (name_of s))) [
-  | inl same ↦ absurd (no_some t (sym none ∙ ap (found ss) (sym (same_is (name_of t) (name_of s) same)) ∙ member_found ss t d member))
+none_named ss t s d none member = elim (cases_Bool (is_same (session_id t) (session_id s))) [
+  | inl same ↦ absurd (no_some t (sym none ∙ ap (found ss) (sym (same_is (session_id t) (session_id s) same)) ∙ member_found ss t d member))
   | inr other ↦ other
 ]
 
@@ -61,53 +62,58 @@ sum_alike N R [] alike = refl
 sum_alike N R (x ∷ xs) alike = omega (arith, alike x (inl refl), sum_alike N R xs (λ t m. alike t (inr m)))
 
 -- the first of that name is the member
-first_is : (x : SessionFields) (xs : List SessionFields) (s : SessionFields) → AreDistinct (x ∷ xs) → IsMember s (x ∷ xs) → is_same (name_of x) (name_of s)
+first_is : (x : SessionFields) (xs : List SessionFields) (s : SessionFields) → AreDistinct (x ∷ xs) → IsMember s (x ∷ xs) → is_same (session_id x)
+    (session_id s)
     ≡ true → x ≡ s
 first_is x xs s d (inl e) same = e
 first_is x xs s d (inr m) same =
-    absurd (no_some s (sym d.0 ∙ ap (found xs) (same_is (name_of x) (name_of s) same) ∙ member_found xs s d.1 m))
+    absurd (no_some s (sym d.0 ∙ ap (found xs) (same_is (session_id x) (session_id s) same) ∙ member_found xs s d.1 m))
 
-later_is : (x : SessionFields) (xs : List SessionFields) (s : SessionFields) → IsMember s (x ∷ xs) → is_same (name_of x) (name_of s) ≡ false → IsMember s xs
-later_is x xs s (inl e) other = absurd (both_of (is_same (name_of x) (name_of s)) other (ap (λ (y : SessionFields). is_same (name_of y) (name_of s)) e
-    ∙ same_self (name_of s)))
+later_is : (x : SessionFields) (xs : List SessionFields) (s : SessionFields) → IsMember s (x ∷ xs) → is_same (session_id x) (session_id s) ≡ false →
+    IsMember s xs
+later_is x xs s (inl e) other = absurd (both_of (is_same (session_id x) (session_id s)) other
+    (ap (λ (y : SessionFields). is_same (session_id y) (session_id s)) e
+    ∙ same_self (session_id s)))
 later_is x xs s (inr m) other = m
 
-rest_alike : (N R : State) (x : SessionFields) (xs : List SessionFields) (s : SessionFields) → AreDistinct (x ∷ xs) → is_same (name_of x) (name_of s) ≡ true →
+rest_alike : (N R : State) (x : SessionFields) (xs : List SessionFields) (s : SessionFields) → AreDistinct (x ∷ xs) → is_same (session_id x) (session_id s)
+    ≡ true →
     AlikeBut N R s (x ∷ xs) →
     timers_due N xs ≡ timers_due R xs
 rest_alike N R x xs s d same alike =
-    let none : found xs (name_of s) ≡ None = ap (found xs) (sym (same_is (name_of x) (name_of s) same)) ∙ d.0 in
+    let none : found xs (session_id s) ≡ None = ap (found xs) (sym (same_is (session_id x) (session_id s) same)) ∙ d.0 in
     sum_alike N R xs (λ t m. alike t (inr m) (none_named xs t s d.1 none m))
 
-sum_replaced : (N R : State) (ss : List SessionFields) (s new : SessionFields) → AreDistinct ss → IsMember s ss → name_of new ≡ name_of s → AlikeBut N R s ss →
+sum_replaced : (N R : State) (ss : List SessionFields) (s new : SessionFields) → AreDistinct ss → IsMember s ss → session_id new ≡ session_id s →
+    AlikeBut N R s ss →
     timers_due N (replaced ss new) + due_of R s ≡ timers_due R ss + due_of N new
 sum_replaced N R [] s new d m name alike = elim m [ ]
-sum_replaced N R (x ∷ xs) s new d m name alike = elim (cases_Bool (is_same (name_of x) (name_of new))) [
+sum_replaced N R (x ∷ xs) s new d m name alike = elim (cases_Bool (is_same (session_id x) (session_id new))) [
   | inl here ↦
-      let same : is_same (name_of x) (name_of s) ≡ true = ap (is_same (name_of x)) (sym name) ∙ here in
+      let same : is_same (session_id x) (session_id s) ≡ true = ap (is_same (session_id x)) (sym name) ∙ here in
       let it : due_of R x ≡ due_of R s = ap (due_of R) (first_is x xs s d m same) in
       let now : timers_due N (replaced (x ∷ xs) new) ≡ due_of N new + timers_due N xs =
-      ap (timers_due N) (cond-true (is_same (name_of x) (name_of new)) (new ∷ xs) (x ∷ replaced xs new) here) in
+      ap (timers_due N) (cond-true (is_same (session_id x) (session_id new)) (new ∷ xs) (x ∷ replaced xs new) here) in
       omega (arith, now, it, rest_alike N R x xs s d same alike)
   | inr there ↦
-      let other : is_same (name_of x) (name_of s) ≡ false = ap (is_same (name_of x)) (sym name) ∙ there in
+      let other : is_same (session_id x) (session_id s) ≡ false = ap (is_same (session_id x)) (sym name) ∙ there in
       let now : timers_due N (replaced (x ∷ xs) new) ≡ due_of N x + timers_due N (replaced xs new) =
-      ap (timers_due N) (cond-false (is_same (name_of x) (name_of new)) (new ∷ xs) (x ∷ replaced xs new) there) in
+      ap (timers_due N) (cond-false (is_same (session_id x) (session_id new)) (new ∷ xs) (x ∷ replaced xs new) there) in
       omega (arith, now, alike x (inl refl) other, sum_replaced N R xs s new d.1 (later_is x xs s m other) name (λ t n. alike t (inr n)))
 ]
 
 sum_without : (N R : State) (ss : List SessionFields) (s : SessionFields) → AreDistinct ss → IsMember s ss → AlikeBut N R s ss →
-    timers_due N (without ss (name_of s)) + due_of R s ≡ timers_due R ss
+    timers_due N (without_session ss (session_id s)) + due_of R s ≡ timers_due R ss
 sum_without N R [] s d m alike = elim m [ ]
-sum_without N R (x ∷ xs) s d m alike = elim (cases_Bool (is_same (name_of x) (name_of s))) [
+sum_without N R (x ∷ xs) s d m alike = elim (cases_Bool (is_same (session_id x) (session_id s))) [
   | inl here ↦
       let it : due_of R x ≡ due_of R s = ap (due_of R) (first_is x xs s d m here) in
-      let now : timers_due N (without (x ∷ xs) (name_of s)) ≡ timers_due N xs =
-      ap (timers_due N) (cond-true (is_same (name_of x) (name_of s)) xs (x ∷ without xs (name_of s)) here) in
+      let now : timers_due N (without_session (x ∷ xs) (session_id s)) ≡ timers_due N xs =
+      ap (timers_due N) (cond-true (is_same (session_id x) (session_id s)) xs (x ∷ without_session xs (session_id s)) here) in
       omega (arith, now, it, rest_alike N R x xs s d here alike)
   | inr there ↦
-      let now : timers_due N (without (x ∷ xs) (name_of s)) ≡ due_of N x + timers_due N (without xs (name_of s)) =
-      ap (timers_due N) (cond-false (is_same (name_of x) (name_of s)) xs (x ∷ without xs (name_of s)) there) in
+      let now : timers_due N (without_session (x ∷ xs) (session_id s)) ≡ due_of N x + timers_due N (without_session xs (session_id s)) =
+      ap (timers_due N) (cond-false (is_same (session_id x) (session_id s)) xs (x ∷ without_session xs (session_id s)) there) in
       omega (arith, now, alike x (inl refl) there, sum_without N R xs s d.1 (later_is x xs s m there) (λ t n. alike t (inr n)))
 ]
 
@@ -214,53 +220,55 @@ due_at R t checks at =
     is_due (Dues.expiry_by R.now t.timer (Dues.terms_at R.mib checks t.header.acknowledged t.timer at))
     + one_if (t.header.acknowledged && Dues.is_receiving_at at && Dues.has_passed R.mib.keep_alive R.now t.alive_at)
 
-alike_by : (R : State) (V : World) (t : SessionFields) → V.config ≡ R.world.config → entry_of V (name_of t) ≡ entry_of R.world (name_of t) →
+alike_by : (R : State) (V : World) (t : SessionFields) → V.config ≡ R.world.config → entry_of V (session_id t) ≡ entry_of R.world (session_id t) →
     due_of (in_world R V) t ≡ due_of R t
 alike_by R V t config entry =
     ap (λ (c : Config). due_at R t c.checks (at_of V t)) config ∙ ap (λ (o : Option Entry). due_at R t R.world.config.checks (at_stage t.stage o)) entry
 
-other_name : (t s : SessionFields) → is_same (name_of t) (name_of s) ≡ false → name_of t ≢ name_of s
-other_name t s other e = both_of (is_same (name_of t) (name_of s)) other (ap (λ (n : TransactionId). is_same n (name_of s)) e ∙ same_self (name_of s))
+other_name : (t s : SessionFields) → is_same (session_id t) (session_id s) ≡ false → session_id t ≢ session_id s
+other_name t s other e = both_of (is_same (session_id t) (session_id s)) other (ap (λ (n : TransactionId). is_same n (session_id s)) e ∙ same_self
+    (session_id s))
 
-alike_own : NextIsPromised → (R : State) (s : SessionFields) (es : List Event) → Sound R.world → Own es (name_of s) →
+alike_own : NextIsPromised → (R : State) (s : SessionFields) (es : List Event) → Sound R.world → Own es (session_id s) →
     AlikeBut (in_world R (run R.world es)) R s R.sessions
 alike_own promised R s es sound (None_own e) t m other = alike_by R (run R.world es) t (ap (λ (vs : List Event). (run R.world vs).config) e)
-    (ap (λ (vs : List Event). entry_of (run R.world vs) (name_of t)) e)
+    (ap (λ (vs : List Event). entry_of (run R.world vs) (session_id t)) e)
 alike_own promised R s es sound (Cancel_own e) t m other =
     alike_by R (run R.world es) t
-    (ap (λ (vs : List Event). (run R.world vs).config) e ∙ config_cancelled R.world (index_of R.world (name_of s)) (entry_of R.world (name_of s)))
-    (ap (λ (vs : List Event). entry_of (run R.world vs) (name_of t)) e ∙ (promised R.world (Cancel (name_of s)) sound).others (name_of t)
+    (ap (λ (vs : List Event). (run R.world vs).config) e ∙ config_cancelled R.world (index_of R.world (session_id s)) (entry_of R.world (session_id s)))
+    (ap (λ (vs : List Event). entry_of (run R.world vs) (session_id t)) e ∙ (promised R.world (Cancel (session_id s)) sound).others (session_id t)
     (other_name t s other))
 alike_own promised R s es sound (Check_own e) t m other =
     alike_by R (run R.world es) t
-    (ap (λ (vs : List Event). (run R.world vs).config) e ∙ config_checked R.world (index_of R.world (name_of s)) (entry_of R.world (name_of s)))
-    (ap (λ (vs : List Event). entry_of (run R.world vs) (name_of t)) e ∙ (promised R.world (Check (name_of s)) sound).others (name_of t) (other_name t s other))
+    (ap (λ (vs : List Event). (run R.world vs).config) e ∙ config_checked R.world (index_of R.world (session_id s)) (entry_of R.world (session_id s)))
+    (ap (λ (vs : List Event). entry_of (run R.world vs) (session_id t)) e ∙ (promised R.world (Check (session_id s)) sound).others (session_id t)
+    (other_name t s other))
 
 -- ---- the session itself, at its limit
 
 -- a transaction that ended is over
-over_ended : (W : World) (s : SessionFields) (e : Entry) (condition : ℕ) → s.stage ≡ Known → entry_of W (name_of s) ≡ Some e →
-    at_of (ends W (index_of W (name_of s)) e condition) s ≡ At_over
+over_ended : (W : World) (s : SessionFields) (e : Entry) (condition : ℕ) → s.stage ≡ Known → entry_of W (session_id s) ≡ Some e →
+    at_of (ends W (index_of W (session_id s)) e condition) s ≡ At_over
 over_ended W s e condition known here =
-    let id = name_of s in
+    let id = session_id s in
     let new = ended W.filestore e condition in
     let name : Entries.name_of new ≡ id = found_name W.table id e here in
     ap (λ (stage : Stage). at_stage stage (entry_of (ends W (index_of W id) e condition) id)) known
     ∙ ap at_entry (set_own W.table id e new name here)
 
-over_cancelled : (W : World) (s : SessionFields) (e : Entry) → s.stage ≡ Known → entry_of W (name_of s) ≡ Some e → is_live e.phase ≡ true →
-    at_of (next W (Cancel (name_of s))).0 s ≡ At_over
+over_cancelled : (W : World) (s : SessionFields) (e : Entry) → s.stage ≡ Known → entry_of W (session_id s) ≡ Some e → is_live e.phase ≡ true →
+    at_of (next W (Cancel (session_id s))).0 s ≡ At_over
 over_cancelled W s e known here live =
-    let k = index_of W (name_of s) in
+    let k = index_of W (session_id s) in
     ap (λ (o : Option Entry). at_of (cancelled W k o).0 s) here
     ∙ ap (λ (a : World × Reply). at_of a.0 s) (cond-true (is_live e.phase) (ends W k e 15, _) (W, _) live)
     ∙ over_ended W s e 15 known here
 
-over_checked : (W : World) (s : SessionFields) (e : Entry) (made : ℕ) → s.stage ≡ Known → entry_of W (name_of s) ≡ Some e → e.phase ≡ Awaiting made →
+over_checked : (W : World) (s : SessionFields) (e : Entry) (made : ℕ) → s.stage ≡ Known → entry_of W (session_id s) ≡ Some e → e.phase ≡ Awaiting made →
     nat_le W.config.checks (made + 1) ≡ true →
-    at_of (next W (Check (name_of s))).0 s ≡ At_over
+    at_of (next W (Check (session_id s))).0 s ≡ At_over
 over_checked W s e made known here phase all =
-    let k = index_of W (name_of s) in
+    let k = index_of W (session_id s) in
     ap (λ (o : Option Entry). at_of (checked W k o).0 s) here
     ∙ ap (λ (p : Phase). at_of (check_at p W k e).0 s) phase
     ∙ ap (λ (a : World × Reply). at_of a.0 s) (cond-true (nat_le W.config.checks (made + 1)) (ends W k e 10, _) _ all)
@@ -270,7 +278,7 @@ over_checked W s e made known here phase all =
 record Takes (W : World) (s : SessionFields) (phase : Phase) : Type 0 where
   known : s.stage ≡ Known
   entry : Entry
-  here : entry_of W (name_of s) ≡ Some entry
+  here : entry_of W (session_id s) ≡ Some entry
   is : entry.phase ≡ phase
 
 phase_receiving : (phase : Phase) → at_phase phase ≡ At_receiving → phase ≡ Receiving
@@ -293,7 +301,7 @@ phase_awaiting Refused made e = absurd cc
 phase_awaiting Done made e = absurd cc
 phase_awaiting (Ended condition) made e = absurd cc
 
-takes_receiving : (W : World) (s : SessionFields) (stage : Stage) (o : Option Entry) → s.stage ≡ stage → entry_of W (name_of s) ≡ o → at_stage stage o
+takes_receiving : (W : World) (s : SessionFields) (stage : Stage) (o : Option Entry) → s.stage ≡ stage → entry_of W (session_id s) ≡ o → at_stage stage o
     ≡ At_receiving → Takes W s Receiving
 takes_receiving W s (Held eof) o known here at = absurd cc
 takes_receiving W s Known None known here at = absurd cc
@@ -301,7 +309,8 @@ takes_receiving W s Known (Some e) known here at = record { known = known; entry
 takes_receiving W s (OverStage ending) o known here at = absurd cc
 takes_receiving W s Waiting o known here at = absurd cc
 
-takes_awaiting : (W : World) (s : SessionFields) (stage : Stage) (o : Option Entry) (made : ℕ) → s.stage ≡ stage → entry_of W (name_of s) ≡ o → at_stage stage o
+takes_awaiting : (W : World) (s : SessionFields) (stage : Stage) (o : Option Entry) (made : ℕ) → s.stage ≡ stage → entry_of W (session_id s) ≡ o →
+    at_stage stage o
     ≡ At_awaiting made → Takes W s (Awaiting made)
 takes_awaiting W s (Held eof) o made known here at = absurd cc
 takes_awaiting W s Known None made known here at = absurd cc
@@ -335,14 +344,15 @@ expiry_at R s acknowledged at mode is =
 abbrev Fewer : State → World → Turning.Parts → Type 0
 Fewer R V p = timers_due (in_world R V) p.sessions + 1 ≤ timers_due R R.sessions
 
-fewer_put : (R : State) (V : World) (s new : SessionFields) (a : AnswerFields) → AreDistinct R.sessions → IsMember s R.sessions → name_of new ≡ name_of s →
+fewer_put : (R : State) (V : World) (s new : SessionFields) (a : AnswerFields) → AreDistinct R.sessions → IsMember s R.sessions → session_id new ≡ session_id s
+    →
     AlikeBut (in_world R V) R s R.sessions →
-    due_of (in_world R V) new + 1 ≤ due_of R s → Fewer R V (Turning.puts R new a)
+    due_of (in_world R V) new + 1 ≤ due_of R s → Fewer R V (Turning.replaces_one R new a)
 fewer_put R V s new a d m name alike less = omega (arith, sum_replaced (in_world R V) R R.sessions s new d m name alike, less)
 
 fewer_closed : (R : State) (V : World) (s : SessionFields) (a : AnswerFields) → AreDistinct R.sessions → IsMember s R.sessions →
     AlikeBut (in_world R V) R s R.sessions →
-    1 ≤ due_of R s → Fewer R V (Turning.closes R (name_of s) a)
+    1 ≤ due_of R s → Fewer R V (Turning.closes R (session_id s) a)
 fewer_closed R V s a d m alike some = omega (arith, sum_without (in_world R V) R R.sessions s d m alike, some)
 
 abbrev alive_part : State → SessionFields → ℕ
@@ -383,7 +393,7 @@ serves_again promised R s true set sound d m mode due =
     let es = Handing.due_events R (Dues.Stage_due s false) in
     let new : SessionFields = record s { timer = passed R.now s.timer Again } in
     let none : es ≡ [] =
-    ap (λ (b : Bool). Handing.where_known s.stage (if Handing.makes_checks b (at_of R.world s) then Check (name_of s) ∷ [] else [])) mode
+    ap (λ (b : Bool). Handing.where_known s.stage (if Handing.makes_checks b (at_of R.world s) then Check (session_id s) ∷ [] else [])) mode
     ∙ none_known s.stage in
     let alike = alike_own promised R s es sound (None_own none) in
     let same : alive_part (in_world R (run R.world es)) new ≡ alive_part R s = ap (λ (vs : List Event). alive_part (in_world R (run R.world vs)) new) none in
@@ -392,13 +402,14 @@ serves_again promised R s true set sound d m mode due =
 serves_again promised R s false set sound d m mode due =
     let es = Handing.due_events R (Dues.Stage_due s false) in
     let new : SessionFields = record s { timer = passed R.now s.timer Again } in
-    let own : Own es (name_of s) = own_known s.stage _ (name_of s) (own_check (Handing.makes_checks s.header.acknowledged (at_of R.world s)) (name_of s)) in
+    let own : Own es (session_id s) = own_known s.stage _ (session_id s) (own_check (Handing.makes_checks s.header.acknowledged (at_of R.world s))
+    (session_id s)) in
     fewer_put R (run R.world es) s new (Turning.repeats R (run R.world es) s (at_of R.world s)) d m refl (alike_own promised R s es sound own)
     (renewed R (run R.world es) s new set refl (omega (arith, alive_un (in_world R (run R.world es)) new mode)) due)
 
 -- at the limit
 abbrev limit_events_of : State → SessionFields → Bool → At → Handler → List Event
-limit_events_of R s acknowledged at how = Handing.where_known s.stage (Handing.limit_events (name_of s) (Handing.makes_checks acknowledged at) how)
+limit_events_of R s acknowledged at how = Handing.where_known s.stage (Handing.limit_events (session_id s) (Handing.makes_checks acknowledged at) how)
 
 abbrev Gives : State → SessionFields → Bool → At → Handler → Type 0
 Gives R s acknowledged at how =
@@ -408,25 +419,25 @@ Gives R s acknowledged at how =
 -- a change of the session after which it is over
 over_put : NextIsPromised → (R : State) (s new : SessionFields) (acknowledged : Bool) (at : At) (how : Handler) (a : AnswerFields) → Sound R.world →
     AreDistinct R.sessions → IsMember s R.sessions →
-    name_of new ≡ name_of s → at_of (run R.world (limit_events_of R s acknowledged at how)) new ≡ At_over → 1 ≤ is_due (Dues.expiry_of R s) →
-    Fewer R (run R.world (limit_events_of R s acknowledged at how)) (Turning.puts R new a)
+    session_id new ≡ session_id s → at_of (run R.world (limit_events_of R s acknowledged at how)) new ≡ At_over → 1 ≤ is_due (Dues.expiry_of R s) →
+    Fewer R (run R.world (limit_events_of R s acknowledged at how)) (Turning.replaces_one R new a)
 over_put promised R s new acknowledged at how a sound d m name over due =
     let es = limit_events_of R s acknowledged at how in
-    let own : Own es (name_of s) = own_known s.stage _ (name_of s) (own_limit (name_of s) (Handing.makes_checks acknowledged at) how) in
+    let own : Own es (session_id s) = own_known s.stage _ (session_id s) (own_limit (session_id s) (Handing.makes_checks acknowledged at) how) in
     fewer_put R (run R.world es) s new a d m name (alike_own promised R s es sound own) (omega (arith, over_none (in_world R (run R.world es)) new over, due))
 
 gives_closed : NextIsPromised → (R : State) (s : SessionFields) (acknowledged : Bool) (at : At) (how : Handler) (a : AnswerFields) → Sound R.world →
     AreDistinct R.sessions → IsMember s R.sessions →
-    1 ≤ is_due (Dues.expiry_of R s) → Fewer R (run R.world (limit_events_of R s acknowledged at how)) (Turning.closes R (name_of s) a)
+    1 ≤ is_due (Dues.expiry_of R s) → Fewer R (run R.world (limit_events_of R s acknowledged at how)) (Turning.closes R (session_id s) a)
 gives_closed promised R s acknowledged at how a sound d m due =
     let es = limit_events_of R s acknowledged at how in
-    let own : Own es (name_of s) = own_known s.stage _ (name_of s) (own_limit (name_of s) (Handing.makes_checks acknowledged at) how) in
+    let own : Own es (session_id s) = own_known s.stage _ (session_id s) (own_limit (session_id s) (Handing.makes_checks acknowledged at) how) in
     fewer_closed R (run R.world es) s a d m (alike_own promised R s es sound own) (omega (arith, due))
 
 gives_ignored : NextIsPromised → (R : State) (s : SessionFields) (acknowledged : Bool) (at : At) (a : AnswerFields) → IsSet R.mib → Sound R.world →
     AreDistinct R.sessions → IsMember s R.sessions →
     1 ≤ is_due (Dues.expiry_of R s) → Fewer R (run R.world (limit_events_of R s acknowledged at handlers.Ignore))
-    (Turning.puts R (record s { timer = restarted R.now }) a)
+    (Turning.replaces_one R (record s { timer = restarted R.now }) a)
 gives_ignored promised R s acknowledged at a set sound d m due =
     let es = limit_events_of R s acknowledged at handlers.Ignore in
     let new : SessionFields = record s { timer = restarted R.now } in
@@ -437,15 +448,15 @@ gives_ignored promised R s acknowledged at a set sound d m due =
 
 -- the event that ends it, where the session is known
 ended_by_cancel : (R : State) (s : SessionFields) (phase : Phase) → Takes R.world s phase → is_live phase ≡ true →
-    at_of (run R.world (Handing.where_known s.stage (Cancel (name_of s) ∷ []))) s ≡ At_over
+    at_of (run R.world (Handing.where_known s.stage (Cancel (session_id s) ∷ []))) s ≡ At_over
 ended_by_cancel R s phase takes live =
-    ap (λ (stage : Stage). at_of (run R.world (Handing.where_known stage (Cancel (name_of s) ∷ []))) s) takes.known
+    ap (λ (stage : Stage). at_of (run R.world (Handing.where_known stage (Cancel (session_id s) ∷ []))) s) takes.known
     ∙ over_cancelled R.world s takes.entry takes.known takes.here (ap is_live takes.is ∙ live)
 
 ended_by_check : (R : State) (s : SessionFields) (made : ℕ) → Takes R.world s (Awaiting made) → nat_le R.world.config.checks (made + 1) ≡ true →
-    at_of (run R.world (Handing.where_known s.stage (Check (name_of s) ∷ []))) s ≡ At_over
+    at_of (run R.world (Handing.where_known s.stage (Check (session_id s) ∷ []))) s ≡ At_over
 ended_by_check R s made takes all =
-    ap (λ (stage : Stage). at_of (run R.world (Handing.where_known stage (Check (name_of s) ∷ []))) s) takes.known
+    ap (λ (stage : Stage). at_of (run R.world (Handing.where_known stage (Check (session_id s) ∷ []))) s) takes.known
     ∙ over_checked R.world s takes.entry made takes.known takes.here takes.is all
 
 -- what is answered does not matter
@@ -469,31 +480,31 @@ gives promised R s acknowledged At_held handlers.Abandon set sound d m mode is l
     gives_closed promised R s acknowledged At_held handlers.Abandon silent sound d m due
 gives promised R s true At_receiving handlers.Cancel set sound d m mode is limited due =
     over_put promised R s (record s { cause = Some (Dues.fault_at true At_receiving) }) true At_receiving handlers.Cancel silent sound d m refl
-    (ended_by_cancel R s Receiving (takes_receiving R.world s s.stage (entry_of R.world (name_of s)) refl refl is) refl) due
+    (ended_by_cancel R s Receiving (takes_receiving R.world s s.stage (entry_of R.world (session_id s)) refl refl is) refl) due
 gives promised R s false At_receiving handlers.Cancel set sound d m mode is limited due =
     over_put promised R s (record s { cause = Some (Dues.fault_at false At_receiving) }) false At_receiving handlers.Cancel silent sound d m refl
-    (ended_by_cancel R s Receiving (takes_receiving R.world s s.stage (entry_of R.world (name_of s)) refl refl is) refl) due
+    (ended_by_cancel R s Receiving (takes_receiving R.world s s.stage (entry_of R.world (session_id s)) refl refl is) refl) due
 gives promised R s true At_receiving handlers.Abandon set sound d m mode is limited due =
     over_put promised R s (record s { is_abandoned = true }) true At_receiving handlers.Abandon silent sound d m refl
-    (ended_by_cancel R s Receiving (takes_receiving R.world s s.stage (entry_of R.world (name_of s)) refl refl is) refl) due
+    (ended_by_cancel R s Receiving (takes_receiving R.world s s.stage (entry_of R.world (session_id s)) refl refl is) refl) due
 gives promised R s false At_receiving handlers.Abandon set sound d m mode is limited due =
     over_put promised R s (record s { is_abandoned = true }) false At_receiving handlers.Abandon silent sound d m refl
-    (ended_by_cancel R s Receiving (takes_receiving R.world s s.stage (entry_of R.world (name_of s)) refl refl is) refl) due
+    (ended_by_cancel R s Receiving (takes_receiving R.world s s.stage (entry_of R.world (session_id s)) refl refl is) refl) due
 gives promised R s true (At_awaiting made) handlers.Cancel set sound d m mode is limited due =
     over_put promised R s (record s { cause = Some (Dues.fault_at true (At_awaiting made)) }) true (At_awaiting made) handlers.Cancel silent sound d m refl
-    (ended_by_cancel R s (Awaiting made) (takes_awaiting R.world s s.stage (entry_of R.world (name_of s)) made refl refl is) refl) due
+    (ended_by_cancel R s (Awaiting made) (takes_awaiting R.world s s.stage (entry_of R.world (session_id s)) made refl refl is) refl) due
 gives promised R s true (At_awaiting made) handlers.Abandon set sound d m mode is limited due =
     over_put promised R s (record s { is_abandoned = true }) true (At_awaiting made) handlers.Abandon silent sound d m refl
-    (ended_by_cancel R s (Awaiting made) (takes_awaiting R.world s s.stage (entry_of R.world (name_of s)) made refl refl is) refl) due
+    (ended_by_cancel R s (Awaiting made) (takes_awaiting R.world s s.stage (entry_of R.world (session_id s)) made refl refl is) refl) due
 gives promised R s false (At_awaiting made) handlers.Abandon set sound d m mode is limited due =
     over_put promised R s (record s { is_abandoned = true }) false (At_awaiting made) handlers.Abandon silent sound d m refl
-    (ended_by_cancel R s (Awaiting made) (takes_awaiting R.world s s.stage (entry_of R.world (name_of s)) made refl refl is) refl) due
+    (ended_by_cancel R s (Awaiting made) (takes_awaiting R.world s s.stage (entry_of R.world (session_id s)) made refl refl is) refl) due
 gives promised R s false (At_awaiting made) handlers.Cancel set sound d m mode is limited due =
     let told = sym (expiry_at R s false (At_awaiting made) mode is) ∙ limited in
     let all = all_checks R.world.config.checks made s.timer (full_of R.mib.check.interval
     (Dues.check_limit R.world.config.checks made s.timer) R.now s.timer told) in
     over_put promised R s (record s { cause = Some (Dues.fault_at false (At_awaiting made)) }) false (At_awaiting made) handlers.Cancel silent sound d m refl
-    (ended_by_check R s made (takes_awaiting R.world s s.stage (entry_of R.world (name_of s)) made refl refl is) all) due
+    (ended_by_check R s made (takes_awaiting R.world s s.stage (entry_of R.world (session_id s)) made refl refl is) all) due
 gives promised R s true At_executing how set sound d m mode is limited due =
     absurd (never_due (Dues.expiry_of R s) (expiry_at R s true At_executing mode is) due)
 gives promised R s false At_executing how set sound d m mode is limited due =

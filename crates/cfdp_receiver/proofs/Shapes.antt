@@ -15,7 +15,8 @@ use Rattle.cfdp_directives.specs.declared.prompt.Prompt.{Prompt}
 use Rattle.cfdp_retransmission.specs.Timers.{restarted}
 use Rattle.cfdp_retransmission.specs.declared.timer.Expiry.{Expiry}
 use Rattle.cfdp_retransmission.specs.declared.timer.Expiry.TheVariants.{NotDue, Again, Limit}
-use Rattle.cfdp_sessions.specs.Sessions.{SessionFields, name_of, found, IsFound}
+use Rattle.cfdp_sessions.specs.Sessions.{SessionFields, session_id, found}
+use Rattle.cfdp_sessions.specs.code.Sessions.{IsFound}
 use Rattle.cfdp_sessions.specs.declared.session.Stage.{Stage}
 use Rattle.cfdp_sessions.specs.declared.session.Stage.TheVariants.{Held, Known, Over, Waiting}
 use Rattle.cfdp_sessions.proofs.Names.{same_self, same_is, no_some, found_name, found_first, found_either, found_replaced, found_more, replaced_other, without_other, added_other}
@@ -39,8 +40,8 @@ use Rattle.cfdp_receiver.proofs.Sending.{heard_name}
 -- one of five, with the name that it is about
 pub data Shape (R : State) (t : TransactionId) (p : Turning.Parts) : Type 0 where
   Keeps : (a : AnswerFields) → (e : p ≡ Turning.keeps R a) → Shape R t p
-  Puts : (s : SessionFields) → (a : AnswerFields) → (name : name_of s ≡ t) → (e : p ≡ Turning.puts R s a) → Shape R t p
-  Adds : (s : SessionFields) → (a : AnswerFields) → (name : name_of s ≡ t) → (free : found R.sessions t ≡ None) → (new : is_closed R t ≡ false) →
+  Puts : (s : SessionFields) → (a : AnswerFields) → (name : session_id s ≡ t) → (e : p ≡ Turning.replaces_one R s a) → Shape R t p
+  Adds : (s : SessionFields) → (a : AnswerFields) → (name : session_id s ≡ t) → (free : found R.sessions t ≡ None) → (new : is_closed R t ≡ false) →
       (e : p ≡ Turning.adds R s a) → Shape R t p
   Closes : (a : AnswerFields) → (was : IsFound R.sessions t) → (e : p ≡ Turning.closes R t a) → Shape R t p
   Forgets : (a : AnswerFields) → (e : p ≡ Turning.forgets R a) → Shape R t p
@@ -49,82 +50,85 @@ shape_if : (R : State) (t : TransactionId) (b : Bool) (p q : Turning.Parts) → 
 shape_if R t true p q hp hq = hp
 shape_if R t false p q hp hq = hq
 
-said_keeps : (R : State) (t : TransactionId) (h : Header) (word : Word) → Shape R t (Turning.keeps R (Turning.said_of h word))
-said_keeps R t h word = Keeps (Turning.said_of h word) refl
+said_keeps : (R : State) (t : TransactionId) (h : Header) (word : Word) → Shape R t (Turning.keeps R (Turning.said_of_header h word))
+said_keeps R t h word = Keeps (Turning.said_of_header h word) refl
 
-own_keeps : (R : State) (t : TransactionId) (s : SessionFields) (word : Word) → Shape R t (Turning.keeps R (Turning.said s word))
-own_keeps R t s word = Keeps (Turning.said s word) refl
+own_keeps : (R : State) (t : TransactionId) (s : SessionFields) (word : Word) → Shape R t (Turning.keeps R (Turning.said_word s word))
+own_keeps R t s word = Keeps (Turning.said_word s word) refl
 
-shape_metadata_stage : (R : State) (V : World) (rs : List Reply) (h : Header) (m : MetadataFields) (s : SessionFields) (stage : Stage) → name_of s ≡ id_of h →
+shape_metadata_stage : (R : State) (V : World) (rs : List Reply) (h : Header) (m : MetadataFields) (s : SessionFields) (stage : Stage) → session_id s ≡ id_of h
+    →
     Shape R (id_of h) (Turning.metadata_stage R V rs h m s stage)
 shape_metadata_stage R V rs h m s (Held eof) name =
-    shape_if R (id_of h) h.acknowledged (Turning.joins R V rs h m) (Turning.keeps R (Turning.said s words.Idle)) (Puts _ _ refl refl)
+    shape_if R (id_of h) h.acknowledged (Turning.joins R V rs h m) (Turning.keeps R (Turning.said_word s words.Idle)) (Puts _ _ refl refl)
     (own_keeps R (id_of h) s words.Idle)
-shape_metadata_stage R V rs h m s Known name = Puts (Turning.heard R V s) (Turning.quiet (Turning.replied (id_of h) rs)) (heard_name R V s ∙ name) refl
+shape_metadata_stage R V rs h m s Known name = Puts (Turning.heard_session R V s) (Turning.quiet (Turning.became_reply (id_of h) rs))
+    (heard_name R V s ∙ name) refl
 shape_metadata_stage R V rs h m s (Over ending) name = own_keeps R (id_of h) s words.Duplicate
 shape_metadata_stage R V rs h m s Waiting name = own_keeps R (id_of h) s words.Duplicate
 
 shape_metadata : (R : State) (V : World) (rs : List Reply) (h : Header) (m : MetadataFields) (s : Option SessionFields) → session_of R (id_of h) ≡ s →
     Shape R (id_of h) (Turning.metadata_parts R V rs h m s)
 shape_metadata R V rs h m None e =
-    let away = Turning.said_of h (Turning.turned_away R h) in
+    let away = Turning.said_of_header h (Turning.turned_away R h) in
     cond_both (is_closed R (id_of h) || is_full R) (Turning.keeps R away) (Turning.begins R V rs h m) (Shape R (id_of h)) (λ b. Keeps away refl)
     (λ b. Adds _ _ refl e (or_parts (is_closed R (id_of h)) (is_full R) b).0 refl)
 shape_metadata R V rs h m (Some s) e = shape_metadata_stage R V rs h m s s.stage (found_name R.sessions (id_of h) s e)
 
 shape_data : (R : State) (V : World) (rs : List Reply) (h : Header) (piece : FileDataFields) (s : Option SessionFields) → session_of R (id_of h) ≡ s →
     Shape R (id_of h) (Turning.data_parts R V rs h piece s)
-shape_data R V rs h piece None e = said_keeps R (id_of h) h (Turning.absent R (id_of h))
+shape_data R V rs h piece None e = said_keeps R (id_of h) h (Turning.word_without_session R (id_of h))
 shape_data R V rs h piece (Some s) e =
-    shape_if R (id_of h) (Turning.is_known s.stage) (Turning.takes_data R V rs h piece s) (Turning.keeps R (Turning.said s words.Idle))
-    (Puts (Turning.heard R V s) _ (heard_name R V s ∙ found_name R.sessions (id_of h) s e) refl) (own_keeps R (id_of h) s words.Idle)
+    shape_if R (id_of h) (Turning.is_known s.stage) (Turning.takes_piece R V rs h piece s) (Turning.keeps R (Turning.said_word s words.Idle))
+    (Puts (Turning.heard_session R V s) _ (heard_name R V s ∙ found_name R.sessions (id_of h) s e) refl) (own_keeps R (id_of h) s words.Idle)
 
-shape_eof_stage : (R : State) (V : World) (rs : List Reply) (h : Header) (eof : Eof) (s : SessionFields) (stage : Stage) → name_of s ≡ id_of h →
+shape_eof_stage : (R : State) (V : World) (rs : List Reply) (h : Header) (eof : Eof) (s : SessionFields) (stage : Stage) → session_id s ≡ id_of h →
     Shape R (id_of h) (Turning.eof_stage R V rs h eof s stage)
 shape_eof_stage R V rs h eof s (Held kept) name =
     let again = Turning.acks_only h eof Active words.Duplicate in
     let over = Turning.acks_only h eof Active words.Faulted in
-    shape_if R (id_of h) (eof.condition == 0) (Turning.keeps R again) (Turning.puts R (Turning.ended_by h eof s) over) (Keeps again refl)
+    shape_if R (id_of h) (eof.condition == 0) (Turning.keeps R again) (Turning.replaces_one R (Turning.ended_by h eof s) over) (Keeps again refl)
     (Puts (Turning.ended_by h eof s) over name refl)
-shape_eof_stage R V rs h eof s Known name = Puts (Turning.heard R V s) _ (heard_name R V s ∙ name) refl
+shape_eof_stage R V rs h eof s Known name = Puts (Turning.heard_session R V s) _ (heard_name R V s ∙ name) refl
 shape_eof_stage R V rs h eof s (Over ending) name = Keeps (Turning.acks_only h eof Active words.Idle) refl
 shape_eof_stage R V rs h eof s Waiting name = Keeps (Turning.acks_only h eof Active words.Idle) refl
 
 shape_eof : (R : State) (V : World) (rs : List Reply) (h : Header) (eof : Eof) (s : Option SessionFields) → session_of R (id_of h) ≡ s →
     Shape R (id_of h) (Turning.eof_parts R V rs h eof s)
 shape_eof R V rs h eof None e =
-    let kept = Turning.acks_only h eof (status_of R (id_of h)) (Turning.absent R (id_of h)) in
-    let full = Turning.keeps R (Turning.said_of h words.TableFull) in
-    let holds = Turning.holds R h eof in
+    let kept = Turning.acks_only h eof (status_of R (id_of h)) (Turning.word_without_session R (id_of h)) in
+    let full = Turning.keeps R (Turning.said_of_header h words.TableFull) in
+    let holds = Turning.held_first R h eof in
     cond_both (is_closed R (id_of h) || not (eof.condition == 0) || not h.acknowledged) (Turning.keeps R kept) (if is_full R then full else holds)
     (Shape R (id_of h)) (λ b. Keeps kept refl)
     (λ b.
     let both = or_parts (is_closed R (id_of h) || not (eof.condition == 0)) (not h.acknowledged) b in
     let unclosed = (or_parts (is_closed R (id_of h)) (not (eof.condition == 0)) both.0).0 in
-    shape_if R (id_of h) (is_full R) full holds (said_keeps R (id_of h) h words.TableFull) (Adds (Turning.begun R h (Held eof)) _ refl e unclosed refl))
+    shape_if R (id_of h) (is_full R) full holds (said_keeps R (id_of h) h words.TableFull) (Adds (Turning.begun_session R h (Held eof)) _ refl e unclosed refl))
 shape_eof R V rs h eof (Some s) e = shape_eof_stage R V rs h eof s s.stage (found_name R.sessions (id_of h) s e)
 
 -- what closes a session of that name
-closes_name : (R : State) (s : SessionFields) (t : TransactionId) (a : AnswerFields) → name_of s ≡ t → IsFound R.sessions t →
-    Shape R t (Turning.closes R (name_of s) a)
+closes_name : (R : State) (s : SessionFields) (t : TransactionId) (a : AnswerFields) → session_id s ≡ t → IsFound R.sessions t →
+    Shape R t (Turning.closes R (session_id s) a)
 closes_name R s t a name was = Closes a was (ap (λ (id : TransactionId). Turning.closes R id a) name)
 
-shape_ack_stage : (R : State) (h : Header) (ack : Ack) (s : SessionFields) (stage : Stage) → name_of s ≡ id_of h → IsFound R.sessions (id_of h) →
+shape_ack_stage : (R : State) (h : Header) (ack : Ack) (s : SessionFields) (stage : Stage) → session_id s ≡ id_of h → IsFound R.sessions (id_of h) →
     Shape R (id_of h) (Turning.ack_stage R h ack s stage)
 shape_ack_stage R h ack s (Held eof) name was = said_keeps R (id_of h) h words.Idle
 shape_ack_stage R h ack s Known name was = said_keeps R (id_of h) h words.Idle
 shape_ack_stage R h ack s (Over ending) name was = said_keeps R (id_of h) h words.Idle
 shape_ack_stage R h ack s Waiting name was =
-    let over = Turning.said_of h words.Acknowledged in
-    shape_if R (id_of h) (ack.directive == 5) (Turning.closes R (name_of s) over) (Turning.keeps R (Turning.said_of h words.Idle))
+    let over = Turning.said_of_header h words.Acknowledged in
+    shape_if R (id_of h) (ack.directive == 5) (Turning.closes R (session_id s) over) (Turning.keeps R (Turning.said_of_header h words.Idle))
     (closes_name R s (id_of h) over name was) (said_keeps R (id_of h) h words.Idle)
 
 shape_ack : (R : State) (h : Header) (ack : Ack) (s : Option SessionFields) → session_of R (id_of h) ≡ s → Shape R (id_of h) (Turning.ack_parts R h ack s)
 shape_ack R h ack None e = said_keeps R (id_of h) h words.Idle
 shape_ack R h ack (Some s) e = shape_ack_stage R h ack s s.stage (found_name R.sessions (id_of h) s e) (s, e)
 
-roused_name : (R : State) (s : SessionFields) → name_of (Turning.roused R s) ≡ name_of s
-roused_name R s = cond_both (Due.is_receiving_at (at_of R.world s)) (record s { timer = restarted R.now }) s (λ (t : SessionFields). name_of t ≡ name_of s)
+roused_name : (R : State) (s : SessionFields) → session_id (Turning.roused R s) ≡ session_id s
+roused_name R s = cond_both (Due.is_receiving_at (at_of R.world s)) (record s { timer = restarted R.now }) s
+    (λ (t : SessionFields). session_id t ≡ session_id s)
     (λ e. refl) (λ e. refl)
 
 shape_prompt : (R : State) (h : Header) (prompt : Prompt) (s : Option SessionFields) → session_of R (id_of h) ≡ s →
@@ -132,12 +136,12 @@ shape_prompt : (R : State) (h : Header) (prompt : Prompt) (s : Option SessionFie
 shape_prompt R h prompt None e = said_keeps R (id_of h) h words.Idle
 shape_prompt R h prompt (Some s) e =
     shape_if R (id_of h) (s.header.acknowledged && Turning.takes_prompts (at_of R.world s))
-    (Turning.puts R (Turning.roused R s) (Turning.prompted R h s prompt)) (Turning.keeps R (Turning.said_of h words.Idle))
+    (Turning.replaces_one R (Turning.roused R s) (Turning.prompted R h s prompt)) (Turning.keeps R (Turning.said_of_header h words.Idle))
     (Puts (Turning.roused R s) (Turning.prompted R h s prompt) (roused_name R s ∙ found_name R.sessions (id_of h) s e) refl)
     (said_keeps R (id_of h) h words.Idle)
 
-shape_gives_up : (R : State) (s : SessionFields) (condition : ℕ) (how : Handler) (at : At) → IsFound R.sessions (name_of s) →
-    Shape R (name_of s) (Turning.gives_up R s condition how at)
+shape_gives_up : (R : State) (s : SessionFields) (condition : ℕ) (how : Handler) (at : At) → IsFound R.sessions (session_id s) →
+    Shape R (session_id s) (Turning.gives_up R s condition how at)
 shape_gives_up R s condition handlers.Ignore at was = Puts _ _ refl refl
 shape_gives_up R s condition handlers.Cancel At_waiting was = Closes _ was refl
 shape_gives_up R s condition handlers.Cancel At_held was = Puts _ _ refl refl
@@ -155,16 +159,16 @@ shape_gives_up R s condition handlers.Abandon At_over was = Puts _ _ refl refl
 -- whose timer is due is a session that is found by its name
 abbrev pub IsDueOf : List SessionFields → Due.Due → Type 0
 IsDueOf ss Due.Nothing_due = ⊤
-IsDueOf ss (Due.Alive_due s) = IsFound ss (name_of s)
-IsDueOf ss (Due.Stage_due s limit) = IsFound ss (name_of s)
+IsDueOf ss (Due.Alive_due s) = IsFound ss (session_id s)
+IsDueOf ss (Due.Stage_due s limit) = IsFound ss (session_id s)
 
-found_self : (x : SessionFields) (xs : List SessionFields) → IsFound (x ∷ xs) (name_of x)
-found_self x xs = found_first x xs (name_of x) (same_self (name_of x))
+found_self : (x : SessionFields) (xs : List SessionFields) → IsFound (x ∷ xs) (session_id x)
+found_self x xs = found_first x xs (session_id x) (same_self (session_id x))
 
 due_later : (x : SessionFields) (xs : List SessionFields) (due : Due.Due) → IsDueOf xs due → IsDueOf (x ∷ xs) due
 due_later x xs Due.Nothing_due d = tt
-due_later x xs (Due.Alive_due s) d = found_either x xs (name_of s) d
-due_later x xs (Due.Stage_due s limit) d = found_either x xs (name_of s) d
+due_later x xs (Due.Alive_due s) d = found_either x xs (session_id s) d
+due_later x xs (Due.Stage_due s limit) d = found_either x xs (session_id s) d
 
 due_by_is : (expiry : Expiry) (alive : Bool) (x : SessionFields) (xs : List SessionFields) (later : Due.Due) → IsDueOf xs later →
     IsDueOf (x ∷ xs) (Due.due_by expiry alive x later)
@@ -180,11 +184,11 @@ due_is R (x ∷ xs) = due_by_is (Due.expiry_of R x) (Due.is_alive_due R x) x xs 
 -- and so is what is over
 abbrev pub IsOverOf : List SessionFields → Option SessionFields → Type 0
 IsOverOf ss None = ⊤
-IsOverOf ss (Some s) = IsFound ss (name_of s)
+IsOverOf ss (Some s) = IsFound ss (session_id s)
 
 over_later : (x : SessionFields) (xs : List SessionFields) (o : Option SessionFields) → IsOverOf xs o → IsOverOf (x ∷ xs) o
 over_later x xs None d = tt
-over_later x xs (Some s) d = found_either x xs (name_of s) d
+over_later x xs (Some s) d = found_either x xs (session_id s) d
 
 pub over_is : (W : World) (ss : List SessionFields) → IsOverOf ss (Due.first_over W ss)
 over_is W [] = tt
@@ -198,29 +202,29 @@ shape_due R V (Due.Alive_due s) d = Puts _ _ refl refl
 shape_due R V (Due.Stage_due s false) d = Puts _ _ refl refl
 shape_due R V (Due.Stage_due s true) d = shape_gives_up R s _ _ _ d
 
-shape_session : (R : State) (s : SessionFields) (o : Outcome) → IsFound R.sessions (name_of s) → Shape R (name_of s) (Turning.finish_session R s o)
+shape_session : (R : State) (s : SessionFields) (o : Outcome) → IsFound R.sessions (session_id s) → Shape R (session_id s) (Turning.finish_session R s o)
 shape_session R s o was =
-    let here = Turning.puts R (Turning.waits R s o) (Turning.sends_it s o words.Finished) in
-    let sent = Turning.closes R (name_of s) (Turning.sends_it s o words.Closed) in
-    let unsent = Turning.closes R (name_of s) (Turning.concluded s o words.Closed) in
-    let gone = Turning.closes R (name_of s) (Turning.said s words.Closed) in
+    let here = Turning.replaces_one R (Turning.waits_for_ack R s o) (Turning.sends_it s o words.Finished) in
+    let sent = Turning.closes R (session_id s) (Turning.sends_it s o words.Closed) in
+    let unsent = Turning.closes R (session_id s) (Turning.concluded s o words.Closed) in
+    let gone = Turning.closes R (session_id s) (Turning.said_word s words.Closed) in
     let third = if not s.header.acknowledged then sent else here in
     let second = if not o.send then unsent else third in
-    shape_if R (name_of s) s.is_abandoned gone second (Closes (Turning.said s words.Closed) was refl) (
-    shape_if R (name_of s) (not o.send) unsent third (Closes (Turning.concluded s o words.Closed) was refl) (
-    shape_if R (name_of s) (not s.header.acknowledged) sent here (Closes (Turning.sends_it s o words.Closed) was refl)
-    (Puts (Turning.waits R s o) (Turning.sends_it s o words.Finished) refl refl)
+    shape_if R (session_id s) s.is_abandoned gone second (Closes (Turning.said_word s words.Closed) was refl) (
+    shape_if R (session_id s) (not o.send) unsent third (Closes (Turning.concluded s o words.Closed) was refl) (
+    shape_if R (session_id s) (not s.header.acknowledged) sent here (Closes (Turning.sends_it s o words.Closed) was refl)
+    (Puts (Turning.waits_for_ack R s o) (Turning.sends_it s o words.Finished) refl refl)
     )
     )
 
 shape_finish : (R : State) (s : Option SessionFields) → IsOverOf R.sessions s → Shape R (session_name s) (Turning.finish_parts R s)
 shape_finish R None d = Keeps (Turning.quiet Became.Nothing) refl
-shape_finish R (Some s) d = shape_session R s (Turning.outcome_for s (entry_of R.world (name_of s))) d
+shape_finish R (Some s) d = shape_session R s (Turning.outcome_for s (entry_of R.world (session_id s))) d
 
-shape_cancel_stage : (R : State) (rs : List Reply) (t : TransactionId) (s : SessionFields) (stage : Stage) → name_of s ≡ t →
+shape_cancel_stage : (R : State) (rs : List Reply) (t : TransactionId) (s : SessionFields) (stage : Stage) → session_id s ≡ t →
     Shape R t (Turning.cancel_stage R rs s stage)
-shape_cancel_stage R rs t s (Held eof) name = Puts (Turning.over_here R s 15) (Turning.said s words.Cancelled) name refl
-shape_cancel_stage R rs t s Known name = Keeps (Turning.quiet (Turning.replied (name_of s) rs)) refl
+shape_cancel_stage R rs t s (Held eof) name = Puts (Turning.over_here R s 15) (Turning.said_word s words.Cancelled) name refl
+shape_cancel_stage R rs t s Known name = Keeps (Turning.quiet (Turning.became_reply (session_id s) rs)) refl
 shape_cancel_stage R rs t s (Over ending) name = own_keeps R t s words.Idle
 shape_cancel_stage R rs t s Waiting name = own_keeps R t s words.Idle
 
@@ -323,7 +327,7 @@ tracked_all : (R : State) (id : TransactionId) (inputs : List Input) → Tracked
     Tracked (Turning.after_all R inputs).sessions (Turning.after_all R inputs).closed.names (Turning.after_all R inputs).closed.forgot id
 tracked_all R id [] tracked = tracked
 tracked_all R id (i ∷ is) tracked =
-    tracked_all (Turning.after R i) id is (tracked_by (Handing.later (now_of i) R) (touched R i) (Turning.parts R i) (shape R i) id tracked)
+    tracked_all (Turning.after_input R i) id is (tracked_by (Handing.later (now_of i) R) (touched R i) (Turning.parts R i) (shape R i) id tracked)
 
 -- the status of what is tracked
 not_unrecognized : (o : Option SessionFields) (closed forgot : Bool) → ((t : SessionFields) × (o ≡ Some t)) ⊎ ((closed ≡ true) ⊎ (forgot ≡ true)) →
@@ -346,9 +350,9 @@ unrecognized_is_true R s id inputs e told =
 abbrev Had : State → List Input → List TransactionId → Type 0
 Had R inputs names = (id : TransactionId) → closed_in names id ≡ true → HadSession R inputs id
 
-after_append : (R : State) (xs : List Input) (i : Input) → Turning.after_all R (xs ++ i ∷ []) ≡ Turning.after (Turning.after_all R xs) i
+after_append : (R : State) (xs : List Input) (i : Input) → Turning.after_all R (xs ++ i ∷ []) ≡ Turning.after_input (Turning.after_all R xs) i
 after_append R [] i = refl
-after_append R (x ∷ xs) i = after_append (Turning.after R x) xs i
+after_append R (x ∷ xs) i = after_append (Turning.after_input R x) xs i
 
 had_more : (R : State) (inputs : List Input) (i : Input) (id : TransactionId) → HadSession R inputs id → HadSession R (inputs ++ i ∷ []) id
 had_more R inputs i id h = record {

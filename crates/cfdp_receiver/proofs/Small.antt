@@ -10,7 +10,7 @@ use Rattle.cfdp_status.specs.declared.transaction.TransactionId.{TransactionId}
 use Rattle.cfdp_actions.specs.Filestore.{blocks_of}
 use Rattle.cfdp_pdus.specs.Bits.{fss}
 use Rattle.cfdp_directives.specs.Spelling.{IsSizedRange}
-use Rattle.cfdp_retransmission.specs.Naks.{Range}
+use Rattle.cfdp_retransmission.specs.Naks.{SegmentRequest}
 use Rattle.cfdp_states.specs.Alone.{stage}
 use Rattle.cfdp_states.proofs.NextItem.{blocks-le-peak}
 use Rattle.cfdp_actions.proofs.Weights.{blocks-stages}
@@ -19,10 +19,10 @@ use Rattle.cfdp_transactions.specs.declared.phase.Phase.TheVariants.{Receiving, 
 use Rattle.cfdp_transactions.specs.Entry.{Entry, is_live, takes_data, rest, gaps, gaps_in, reach, reach_in, progress, awaited}
 use Rattle.cfdp_transactions.specs.Received.{Received, gaps_below}
 use Rattle.cfdp_transactions.specs.ReceivedLaws.{AreRuns, IsIn}
-use Rattle.cfdp_transactions.proofs.OctetsAndGaps.{gaps_are_missing, gaps_are_runs}
+use Rattle.cfdp_transactions.proofs.Received.OctetsAndGaps.{gaps_are_missing, gaps_are_runs}
 use Rattle.cfdp_transactions.specs.World.{World, index_of, entry_of}
 use Rattle.cfdp_transactions.specs.Sound.{Sound, IsKept, longest, longest_in}
-use Rattle.cfdp_receiver.specs.Machine.{IsTaking}
+use Rattle.cfdp_receiver.specs.code.Machine.{IsTaking}
 use Rattle.cfdp_receiver.specs.Turning.{progress_at, gaps_after}
 
 blocks_fit : (n : ℕ) → n ≤ 120 * blocks_of n
@@ -73,7 +73,7 @@ fits_any true n h = omega (arith, h)
 fits_any false n h = h
 
 -- each run that ends at the limit or before fits
-sized_runs : (large : Bool) (limit from : ℕ) (rs : List Range) → limit < 2 ^ 32 → AreRuns from rs → ((i : ℕ) → IsIn i rs → i < limit) →
+sized_runs : (large : Bool) (limit from : ℕ) (rs : List SegmentRequest) → limit < 2 ^ 32 → AreRuns from rs → ((i : ℕ) → IsIn i rs → i < limit) →
     All (IsSizedRange large) rs
 sized_runs large limit from [] small runs below = All-nil (IsSizedRange large)
 sized_runs large limit from (r ∷ rs) small runs below =
@@ -121,13 +121,14 @@ read_progress (Some e) = refl
 some_same : {X : Type 0} (x y : X) → Some x ≡ Some y → x ≡ y
 some_same x y e = ap (λ o. unwrap_or o x) e
 
-pub missing_fit : (W : World) (id : TransactionId) (low : ℕ) (entry : Option Entry) (rs : List Range) → Sound W → W.config.blocks ≤ 65536 → entry_of W id
+pub missing_fit : (W : World) (id : TransactionId) (low : ℕ) (entry : Option Entry) (rs : List SegmentRequest) → Sound W → W.config.blocks ≤ 65536 →
+    entry_of W id
     ≡ entry →
     Some rs ≡ option_map (gaps_after low) entry → (large : Bool) → All (IsSizedRange large) rs
 missing_fit W id low None rs sound few here made large = absurd cc
 missing_fit W id low (Some e) rs sound few here made large =
     subst (All (IsSizedRange large)) (sym (some_same rs (gaps_after low e) made))
-    (All-filter (λ (g : Range). nat_le low g.0) (IsSizedRange large) (gaps e) (sized_gaps W id e sound few here large).0)
+    (All-filter (λ (g : SegmentRequest). nat_le low g.0) (IsSizedRange large) (gaps e) (sized_gaps W id e sound few here large).0)
 
 pub reach_fits : (W : World) (id : TransactionId) (entry : Option Entry) (high : ℕ) → Sound W → W.config.blocks ≤ 65536 → entry_of W id ≡ entry →
     Some high ≡ option_map reach entry → (large : Bool) → high < 256 ^ fss large
@@ -135,7 +136,8 @@ reach_fits W id None high sound few here made large = absurd cc
 reach_fits W id (Some e) high sound few here made large =
     subst (λ (n : ℕ). n < 256 ^ fss large) (sym (some_same high (reach e) made)) (sized_gaps W id e sound few here large).1
 
-low_at : (low : ℕ) (g : Range) (gs rs : List Range) (large kept : Bool) → nat_le low g.0 ≡ kept → rs ≡ (if kept then g ∷ gs else gs) → 0 < length rs →
+low_at : (low : ℕ) (g : SegmentRequest) (gs rs : List SegmentRequest) (large kept : Bool) → nat_le low g.0 ≡ kept → rs ≡ (if kept then g ∷ gs else gs) →
+    0 < length rs →
     All (IsSizedRange large) rs →
     (rs ≡ gs → low < 256 ^ fss large) → low < 256 ^ fss large
 low_at low g gs rs large true is same some sized later =
@@ -143,14 +145,16 @@ low_at low g gs rs large true is same some sized later =
     omega (arith, leb-true low g.0 is, first.start)
 low_at low g gs rs large false is same some sized later = later same
 
-low_in : (low : ℕ) (gs rs : List Range) (large : Bool) → rs ≡ filter (λ (g : Range). nat_le low g.0) gs → 0 < length rs → All (IsSizedRange large) rs →
+low_in : (low : ℕ) (gs rs : List SegmentRequest) (large : Bool) → rs ≡ filter (λ (g : SegmentRequest). nat_le low g.0) gs → 0 < length rs → All
+    (IsSizedRange large) rs →
     low < 256 ^ fss large
 low_in low [] rs large same some sized = absurd (omega (arith, some, ap length same))
 low_in low (g ∷ gs) rs large same some sized =
-    low_at low g (filter (λ (g : Range). nat_le low g.0) gs) rs large (nat_le low g.0) refl same some sized (λ e. low_in low gs rs large e some sized)
+    low_at low g (filter (λ (g : SegmentRequest). nat_le low g.0) gs) rs large (nat_le low g.0) refl same some sized (λ e. low_in low gs rs large e some sized)
 
 -- an offset at which or after which a gap begins
-pub low_fits : (W : World) (id : TransactionId) (low : ℕ) (entry : Option Entry) (rs : List Range) → Sound W → W.config.blocks ≤ 65536 → entry_of W id ≡ entry →
+pub low_fits : (W : World) (id : TransactionId) (low : ℕ) (entry : Option Entry) (rs : List SegmentRequest) → Sound W → W.config.blocks ≤ 65536 → entry_of W id
+    ≡ entry →
     Some rs ≡ option_map (gaps_after low) entry → 0 < length rs → (large : Bool) → low < 256 ^ fss large
 low_fits W id low None rs sound few here made some large = absurd cc
 low_fits W id low (Some e) rs sound few here made some large =

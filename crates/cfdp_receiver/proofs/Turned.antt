@@ -9,7 +9,8 @@ use Rattle.cfdp_transactions.specs.Next.{run, replies}
 use Rattle.cfdp_receiver.specs.declared.mib.Mib.{Mib}
 use Rattle.cfdp_receiver.specs.State.{State, Input, AnswerFields, now_of}
 use Rattle.cfdp_receiver.specs.Handing.{events_of}
-use Rattle.cfdp_receiver.specs.Machine.{MachineFields, AnswerParts, Turns, answer_in, at_moment}
+use Rattle.cfdp_receiver.specs.Machine.{MachineFields, AnswerParts, answer_in}
+use Rattle.cfdp_receiver.specs.code.Machine.{Turns, at_moment}
 use Rattle.cfdp_receiver.specs.Turning as Turning
 
 abbrev state_of : World → Mib → ℕ → List SessionFields → ClosedFields → State
@@ -29,7 +30,7 @@ pair_of S a = (S, a)
 
 pub turned : (M N : MachineFields) (a : AnswerParts) (i : Input) → Turns (at_moment (now_of i) M) N a i → Turning.turn M.state i ≡ (N.state, answer_in N a)
 turned M N a i t =
-    let after = Turning.after M.state i in
+    let after = Turning.after_input M.state i in
     let same = same_state N.state after.world after.mib after.now after.sessions after.closed t.world t.mib t.now t.sessions t.closed in
     sym (ap (λ (S : State). pair_of S (answer_in N a)) same ∙ ap (λ (x : AnswerFields). pair_of after x) t.answer)
 

@@ -10,7 +10,8 @@ use Rattle.cfdp_receiver.specs.declared.mib.Mib.{Mib}
 use Rattle.cfdp_receiver.specs.State.{State, AnswerFields, Input, begin, now_of}
 use Rattle.cfdp_receiver.specs.Handing as Handing
 use Rattle.cfdp_receiver.specs.Laws.{touched}
-use Rattle.cfdp_receiver.specs.Machine.{MachineFields, AnswerParts, IsWhole, Turns, at_moment}
+use Rattle.cfdp_receiver.specs.Machine.{MachineFields, AnswerParts}
+use Rattle.cfdp_receiver.specs.code.Machine.{IsWholeReceiver, Turns, at_moment}
 use Rattle.cfdp_receiver.specs.Turning as Turning
 use Rattle.cfdp_receiver.proofs.Distinct.{Apart, apart_by}
 use Rattle.cfdp_receiver.proofs.Knowing.{Laws, known_after}
@@ -18,15 +19,15 @@ use Rattle.cfdp_receiver.proofs.Once.{ends_stay_there, none_listed}
 use Rattle.cfdp_receiver.proofs.Shapes.{shape}
 use Rattle.cfdp_receiver.proofs.Turned.{turned}
 
-pub whole_begin : (mib : Mib) (W : World) → W.table ≡ [] → IsWhole (begin mib W)
+pub whole_begin : (mib : Mib) (W : World) → W.table ≡ [] → IsWholeReceiver (begin mib W)
 whole_begin mib W none = record {
   known = λ id. ap (λ (t : List Entry). is_some (slice_get t (place_of id t))) none;
   over = λ id closed. refl;
   ends = none_listed W none;
 }
 
-pub whole_after : Laws → NextIsSound → NextIsPromised → (R : State) (i : Input) → Sound R.world → AreDistinct R.sessions → IsWhole R →
-    IsWhole (Turning.after R i)
+pub whole_after : Laws → NextIsSound → NextIsPromised → (R : State) (i : Input) → Sound R.world → AreDistinct R.sessions → IsWholeReceiver R →
+    IsWholeReceiver (Turning.after_input R i)
 whole_after laws next_sound promised R i sound distinct whole =
     let apart : Apart R.sessions R.closed.names = record { distinct = distinct; over = whole.over } in
     record {
@@ -35,6 +36,6 @@ whole_after laws next_sound promised R i sound distinct whole =
       ends = ends_stay_there R i whole.ends;
     }
 
-pub whole_turn : (M N : MachineFields) (a : AnswerParts) (i : Input) → IsWhole (Turning.after M.state i) →
-    Turns (at_moment (now_of i) M) N a i → IsWhole N.state
-whole_turn M N a i whole t = subst (λ (x : State × AnswerFields). IsWhole x.0) (turned M N a i t) whole
+pub whole_turn : (M N : MachineFields) (a : AnswerParts) (i : Input) → IsWholeReceiver (Turning.after_input M.state i) →
+    Turns (at_moment (now_of i) M) N a i → IsWholeReceiver N.state
+whole_turn M N a i whole t = subst (λ (x : State × AnswerFields). IsWholeReceiver x.0) (turned M N a i t) whole

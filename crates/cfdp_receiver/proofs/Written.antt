@@ -26,29 +26,32 @@ use Rattle.cfdp_directives.specs.Reading.{NakFields, pair_len}
 use Rattle.cfdp_directives.specs.Spelling.{IsSizedRange, ack_field, ack_pdu, keep_alive_field, keep_alive_pdu, nak_field, nak_pdu}
 use Rattle.cfdp_directives.specs.declared.ack.Ack.{Ack}
 use Rattle.cfdp_directives.specs.declared.keep_alive.KeepAlive.{KeepAlive}
-use Rattle.cfdp_retransmission.specs.Naks.{Range, Nak, front_end, scope_of, naks_in, naks}
+use Rattle.cfdp_retransmission.specs.Naks.{SegmentRequest, Nak, front_end, scope_of, naks_in, naks}
 use Rattle.cfdp_receiver.specs.declared.receiver.NotWritten.{NotWritten}
 use Rattle.cfdp_receiver.specs.declared.receiver.NotWritten.TheVariants.{NoMore, TooShort}
 use Rattle.cfdp_receiver.specs.declared.mib.Mib.{Mib}
-use Rattle.cfdp_receiver.specs.Machine.{AnswerParts, MachineFields, finished_for, listed, sequence_of}
-use Rattle.cfdp_receiver.specs.Sent.{IsNotWritten, after_ack, as_sent, nak_octets, pdus_of, sealed_or}
+use Rattle.cfdp_receiver.specs.Machine.{AnswerParts, MachineFields, finished_for, listed}
+use Rattle.cfdp_receiver.specs.code.Machine.{sequence_of}
+use Rattle.cfdp_receiver.specs.Sent.{IsNotWritten, as_sent, pdus_of, sealed_or}
+use Rattle.cfdp_receiver.specs.code.Sent.{after_ack, nak_octets}
 
 -- ---- a sequence of NAK PDUs
 
-last_one : (more most low high : ℕ) (rs : List Range) → length rs ≤ most →
+last_one : (more most low high : ℕ) (rs : List SegmentRequest) → length rs ≤ most →
     naks_in (suc more) most low high rs ≡ record { scope = (low, high); requests = rs } ∷ []
 last_one more most low high rs h = rw (le-leb (length rs) most h, take_all most rs h) refl
 
-next_one : (more most low high : ℕ) (rs : List Range) → most < length rs →
+next_one : (more most low high : ℕ) (rs : List SegmentRequest) → most < length rs →
     naks_in (suc more) most low high rs
     ≡ record { scope = (low, front_end most rs); requests = take most rs } ∷ naks_in more most (front_end most rs) high (drop most rs)
 next_one more most low high rs h = rw (lt-leb (length rs) most h) refl
 
-less : (more most : ℕ) (rs : List Range) → 1 ≤ most → length rs < suc more → most < length rs → length (drop most rs) < more
+less : (more most : ℕ) (rs : List SegmentRequest) → 1 ≤ most → length rs < suc more → most < length rs → length (drop most rs) < more
 less more most rs some fuel long = omega (arith, length-drop most rs, some, fuel, long)
 
 -- whatever the fuel is, where it is enough
-same_fuel : (a b most low high : ℕ) (rs : List Range) → 1 ≤ most → length rs < a → length rs < b → naks_in a most low high rs ≡ naks_in b most low high rs
+same_fuel : (a b most low high : ℕ) (rs : List SegmentRequest) → 1 ≤ most → length rs < a → length rs < b → naks_in a most low high rs
+    ≡ naks_in b most low high rs
 same_fuel zero b most low high rs some ha hb = absurd (omega arith)
 same_fuel (suc a) zero most low high rs some ha hb = absurd (omega arith)
 same_fuel (suc a) (suc b) most low high rs some ha hb = elim (cases_lt most (length rs)) [
@@ -60,13 +63,13 @@ same_fuel (suc a) (suc b) most low high rs some ha hb = elim (cases_lt most (len
   | inr short ↦ last_one a most low high rs short ∙ sym (last_one b most low high rs short)
 ]
 
-fueled : (most low high : ℕ) (rs : List Range) → naks most low high rs ≡ naks_in (suc (length rs)) most low high rs
+fueled : (most low high : ℕ) (rs : List SegmentRequest) → naks most low high rs ≡ naks_in (suc (length rs)) most low high rs
 fueled most low high rs =
     let one_more : 1 + length rs ≡ suc (length rs) = omega arith in
     ap (λ (fuel : ℕ). naks_in fuel most low high rs) one_more
 
 -- the first PDU, and then those of what is left
-naks_next : (most low high : ℕ) (rs : List Range) → 1 ≤ most → most < length rs →
+naks_next : (most low high : ℕ) (rs : List SegmentRequest) → 1 ≤ most → most < length rs →
     naks most low high rs ≡ record { scope = (low, front_end most rs); requests = take most rs } ∷ naks most (front_end most rs) high (drop most rs)
 naks_next most low high rs some long =
     fueled most low high rs
@@ -74,11 +77,12 @@ naks_next most low high rs some long =
     ∙ ap (λ (tail : List Nak). record { scope = (low, front_end most rs); requests = take most rs } ∷ tail)
     (same_fuel (length rs) (1 + length (drop most rs)) most (front_end most rs) high (drop most rs) some (omega (arith, length-drop most rs)) (omega arith))
 
-pub part_first : (most low high : ℕ) (rs requests : List Range) (scope : Range) → scope ≡ scope_of most low high rs → requests ≡ take most rs →
+pub part_first : (most low high : ℕ) (rs requests : List SegmentRequest) (scope : SegmentRequest) → scope ≡ scope_of most low high rs → requests ≡ take most rs
+    →
     slice_get (naks most low high rs) 0 ≡ Some (record { scope = scope; requests = requests })
 part_first most low high rs requests scope s r = rw (s, r, fueled most low high rs) refl
 
-pub part_past : (most low high number : ℕ) (rs : List Range) → 1 ≤ number → length rs ≤ most → slice_get (naks most low high rs) number ≡ None
+pub part_past : (most low high number : ℕ) (rs : List SegmentRequest) → 1 ≤ number → length rs ≤ most → slice_get (naks most low high rs) number ≡ None
 part_past most low high number rs later short =
     ap (λ (xs : List Nak). slice_get xs number) (fueled most low high rs ∙ last_one (length rs) most low high rs short)
     ∙ slice_get_past (record { scope = (low, high); requests = rs } ∷ []) number (omega arith)
@@ -87,24 +91,25 @@ get_next : {X : Type 0} (x : X) (xs : List X) (n : ℕ) → 1 ≤ n → slice_ge
 get_next x xs zero h = absurd (omega arith)
 get_next x xs (suc n) h = let e : suc n - 1 ≡ n = omega arith in rw e refl
 
-pub part_next : (most low high number : ℕ) (rs rest : List Range) (scope : Range) → 1 ≤ most → 1 ≤ number →
+pub part_next : (most low high number : ℕ) (rs rest : List SegmentRequest) (scope : SegmentRequest) → 1 ≤ most → 1 ≤ number →
     scope ≡ scope_of most low high rs → rest ≡ drop most rs → 1 ≤ length rest →
     slice_get (naks most low high rs) number ≡ slice_get (naks most scope.1 high rest) (number - 1)
 part_next most low high number rs rest scope some later s r more =
-    let long : most < length rs = omega (arith, length-drop most rs, ap (λ (xs : List Range). length xs) r) in
+    let long : most < length rs = omega (arith, length-drop most rs, ap (λ (xs : List SegmentRequest). length xs) r) in
     let is : scope_of most low high rs ≡ (low, front_end most rs) = rw (lt-leb (length rs) most long) refl in
-    let end : scope.1 ≡ front_end most rs = ap (λ (x : Range). x.1) (s ∙ is) in
+    let end : scope.1 ≡ front_end most rs = ap (λ (x : SegmentRequest). x.1) (s ∙ is) in
     ap (λ (xs : List Nak). slice_get xs number) (naks_next most low high rs some long)
     ∙ get_next _ (naks most (front_end most rs) high (drop most rs)) number later
     ∙ ap (λ (end : ℕ). slice_get (naks most end high (drop most rs)) (number - 1)) (sym end)
-    ∙ ap (λ (xs : List Range). slice_get (naks most scope.1 high xs) (number - 1)) (sym r)
+    ∙ ap (λ (xs : List SegmentRequest). slice_get (naks most scope.1 high xs) (number - 1)) (sym r)
 
-pub not_empty : (rs : List Range) → false ≡ (length rs == 0) → 1 ≤ length rs
+pub not_empty : (rs : List SegmentRequest) → false ≡ (length rs == 0) → 1 ≤ length rs
 not_empty [] e = absurd (false≢true e)
 not_empty (r ∷ rs) e = omega arith
 
 -- how many there are
-counted_in : (more most low high : ℕ) (rs : List Range) → 1 ≤ most → length rs < more → length (naks_in more most low high rs) ≡ 1 + (length rs - 1) / most
+counted_in : (more most low high : ℕ) (rs : List SegmentRequest) → 1 ≤ most → length rs < more → length (naks_in more most low high rs) ≡ 1 +
+    (length rs - 1) / most
 counted_in zero most low high rs some fuel = absurd (omega arith)
 counted_in (suc more) most low high rs some fuel = elim (cases_lt most (length rs)) [
   | inl long ↦
@@ -120,7 +125,7 @@ counted_in (suc more) most low high rs some fuel = elim (cases_lt most (length r
       ap (λ (xs : List Nak). length xs) (last_one more most low high rs short) ∙ omega (arith, none)
 ]
 
-pub counted : (h : Header) (most low high : ℕ) (rs : List Range) → 1 ≤ most → length (sequence_of h most low high rs) ≡ 1 + (length rs - 1) / most
+pub counted : (h : Header) (most low high : ℕ) (rs : List SegmentRequest) → 1 ≤ most → length (sequence_of h most low high rs) ≡ 1 + (length rs - 1) / most
 counted h most low high rs some = length-map (naks most low high rs) _ ∙ counted_in (1 + length rs) most low high rs some (omega arith)
 
 -- each fits a PDU
@@ -129,7 +134,7 @@ pub record FitsPdu (large : Bool) (n : ℕ) (nak : Nak) : Type 0 where
   pub sized : All (IsSizedRange large) nak.requests
   pub few : length nak.requests ≤ n
 
-fits_in : (large : Bool) (n more most low high : ℕ) (rs : List Range) → low < 256 ^ fss large → high < 256 ^ fss large → All (IsSizedRange large) rs →
+fits_in : (large : Bool) (n more most low high : ℕ) (rs : List SegmentRequest) → low < 256 ^ fss large → high < 256 ^ fss large → All (IsSizedRange large) rs →
     length rs ≤ n → AllByRecursion (FitsPdu large n) (naks_in more most low high rs)
 fits_in large n zero most low high rs is_low is_high sized few = tt
 fits_in large n (suc more) most low high rs is_low is_high sized few = elim (cases_lt most (length rs)) [
@@ -156,7 +161,8 @@ by_number P [] i x all e = absurd (cc)
 by_number P (y ∷ ys) zero x all e = subst P (cc) all.0
 by_number P (y ∷ ys) (suc i) x all e = by_number P ys i x all.1 e
 
-pub fits_pdu : (h : Header) (most low high number : ℕ) (rs requests : List Range) (scope : Range) → low < 256 ^ fss h.large → high < 256 ^ fss h.large →
+pub fits_pdu : (h : Header) (most low high number : ℕ) (rs requests : List SegmentRequest) (scope : SegmentRequest) → low < 256 ^ fss h.large →
+    high < 256 ^ fss h.large →
     All (IsSizedRange h.large) rs → slice_get (naks most low high rs) number ≡ Some (record { scope = scope; requests = requests }) →
     FitsPdu h.large (length rs) (record { scope = scope; requests = requests })
 fits_pdu h most low high number rs requests scope is_low is_high sized e =
@@ -171,7 +177,8 @@ octets_at h [] number = refl
 octets_at h (x ∷ xs) zero = refl
 octets_at h (x ∷ xs) (suc number) = octets_at h xs number
 
-pub sequence_at : (h : Header) (most low high number : ℕ) (rs : List Range) (now : List NakFields) (nak : Option Nak) → now ≡ sequence_of h most low high rs →
+pub sequence_at : (h : Header) (most low high number : ℕ) (rs : List SegmentRequest) (now : List NakFields) (nak : Option Nak) → now
+    ≡ sequence_of h most low high rs →
     slice_get (naks most low high rs) number ≡ nak → slice_get (map nak_octets now) number ≡ option_map (λ (nak : Nak). nak_pdu h nak.scope nak.requests) nak
 sequence_at h most low high number rs now nak view here =
     ap (λ (xs : List NakFields). slice_get (map nak_octets xs) number) view
@@ -352,7 +359,7 @@ field_short : (large : Bool) (n : ℕ) → n ≤ 33 → 1 + pair_len large * (1 
 field_short true n few = omega arith
 field_short false n few = omega arith
 
-pub nak_short : (h : Header) (scope : Range) (rs : List Range) → IsHeader h → length rs ≤ 33 → length (nak_pdu h scope rs) ≤ longest_finished
+pub nak_short : (h : Header) (scope : SegmentRequest) (rs : List SegmentRequest) → IsHeader h → length rs ≤ 33 → length (nak_pdu h scope rs) ≤ longest_finished
 nak_short h scope rs is few =
     omega (arith, pdu_len false h (nak_field h.large scope rs), nak_len h.large scope rs, field_short h.large (length rs) few, is.id_high, is.number_high)
 

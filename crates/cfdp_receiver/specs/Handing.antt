@@ -6,7 +6,7 @@ use Rattle.std.specs.Prelude.{ℕ, max, Bool, true, false, not, ◌&&◌, ◌||�
 use Rattle.cfdp_status.specs.declared.transaction.TransactionId.{TransactionId}
 use Rattle.cfdp_pdus.specs.Values.{MetadataFields}
 use Rattle.cfdp_pdus.specs.declared.header.Header.{Header}
-use Rattle.cfdp_sessions.specs.Sessions.{SessionFields, name_of}
+use Rattle.cfdp_sessions.specs.Sessions.{SessionFields, session_id}
 use Rattle.cfdp_sessions.specs.declared.session.Stage.{Stage}
 use Rattle.cfdp_sessions.specs.declared.session.Stage.TheVariants.{Held, Known, Over, Waiting}
 use Rattle.cfdp_transactions.specs.Entry.{id_of}
@@ -59,9 +59,9 @@ abbrev pub due_events : State → Due → List Event
 due_events R Nothing_due = []
 due_events R (Alive_due s) = []
 due_events R (Stage_due s false) = where_known s.stage (if makes_checks s.header.acknowledged (at_of R.world s)
-    then Check (name_of s) ∷ [] else [])
+    then Check (session_id s) ∷ [] else [])
 due_events R (Stage_due s true) =
-    where_known s.stage (limit_events (name_of s) (makes_checks s.header.acknowledged (at_of R.world s))
+    where_known s.stage (limit_events (session_id s) (makes_checks s.header.acknowledged (at_of R.world s))
     (handler_at R.mib s.header.acknowledged (at_of R.world s)))
 
 abbrev pub step_of : Option TransactionId → List Event
@@ -70,7 +70,7 @@ step_of (Some id) = Step id ∷ []
 
 abbrev pub take_of : Option SessionFields → List Event
 take_of None = []
-take_of (Some s) = where_known s.stage (Take (name_of s) ∷ [])
+take_of (Some s) = where_known s.stage (Take (session_id s) ∷ [])
 
 -- R is as late as the input
 abbrev pub events_of : State → Input → List Event

@@ -1,27 +1,20 @@
 -- What octets that came bring to a receiving entity (CCSDS 727.0-B-5 §5.1 to §5.3).
 --     input_at now octets       the input that a PDU without a CRC is, or why it is dropped
 --     heard now octets          the same, of octets that may have a CRC
---     input_of now directed     the input that a PDU is that was read and is no File Data PDU
---     IsHearable directed       what is read can be handed in
 --     IsDropped now octets why  why octets were dropped: by their first fault, or out of memory for a Metadata
 --                               PDU;  IsUnread: without a CRC
 use Rattle.std.specs.Prelude.{◌≡◌, ◌⊎◌, ⊤, ℕ, ◌==◌, if◌then◌else◌, List, Result, Ok, Err}
 use Rattle.cfdp_crc.specs.Seal.{unsealed}
 use Rattle.cfdp_crc.specs.declared.sealing.CrcFault.{CrcFault}
-use Rattle.cfdp_pdus.specs.Canonical.{IsHeader, IsSizedEof}
 use Rattle.cfdp_pdus.specs.First.{pdu_at}
 use Rattle.cfdp_pdus.specs.declared.header.Header.{Header}
 use Rattle.cfdp_pdus.specs.declared.pdu.Pdu.{Pdu}
 use Rattle.cfdp_pdus.specs.declared.pdu.Pdu.TheVariants as pdus
 use Rattle.cfdp_pdus.specs.declared.fault.PduFault.{PduFault}
 use Rattle.cfdp_pdus.specs.declared.fault.PduFault.TheVariants.{Memory}
-use Rattle.cfdp_directives.specs.Reading.{NakFields, nak_at, directive_at}
+use Rattle.cfdp_directives.specs.Reading.{NakFields, nak_at, directive_spelled}
 use Rattle.cfdp_directives.specs.declared.read.Directive.{Directive}
 use Rattle.cfdp_directives.specs.declared.read.Directive.TheVariants as directives
-use Rattle.cfdp_transactions.specs.declared.event.Event.TheVariants.{Metadata as MetadataCame}
-use Rattle.cfdp_transactions.specs.Writable.{IsReadable}
-use Rattle.cfdp_receiver.specs.declared.reading.Directed.{Directed}
-use Rattle.cfdp_receiver.specs.declared.reading.Directed.TheVariants as directed
 use Rattle.cfdp_receiver.specs.declared.reading.Dropped.{Dropped}
 use Rattle.cfdp_receiver.specs.declared.reading.Dropped.TheVariants as dropped
 use Rattle.cfdp_receiver.specs.State.{Input, MetadataPdu, DataPdu, EofPdu, AckPdu, PromptPdu, OtherPdu}
@@ -40,7 +33,7 @@ directive_input now (Err fault) = Err (dropped.Pdu fault)
 -- those of code 8, NAK, and of the codes 6, 9 and 12: ACK, Prompt and Keep Alive
 abbrev pub other_input : ℕ → Header → ℕ → List ℕ → Result Input Dropped
 other_input now h code octets = if code == 8 then nak_input now h (nak_at octets)
-    else directive_input now (directive_at octets)
+    else directive_input now (directive_spelled octets)
 
 abbrev pub pdu_input : ℕ → List ℕ → Result Pdu PduFault → Result Input Dropped
 pdu_input now octets (Ok (pdus.Metadata h m)) = Ok (MetadataPdu now h m)
@@ -60,13 +53,6 @@ heard_in now (Err fault) = Err (dropped.Crc fault)
 abbrev pub heard : ℕ → List ℕ → Result Input Dropped
 heard now octets = heard_in now (unsealed octets)
 
-abbrev pub input_of : ℕ → Directed → Input
-input_of now (directed.Metadata h m) = MetadataPdu now h m
-input_of now (directed.Eof h eof) = EofPdu now h eof
-input_of now (directed.Ack h ack) = AckPdu now h ack
-input_of now (directed.Prompt h prompt) = PromptPdu now h prompt
-input_of now (directed.Other h) = OtherPdu now h
-
 abbrev pub IsMetadata : Result Pdu PduFault → Type 0
 IsMetadata (Ok (pdus.Metadata h m)) = ⊤
 IsMetadata read = ⊥
@@ -74,15 +60,9 @@ IsMetadata read = ⊥
 abbrev pub IsUnread : ℕ → List ℕ → Dropped → Type 0
 IsUnread now octets why = (input_at now octets ≡ Err why) ⊎ ((why ≡ dropped.Pdu Memory) × IsMetadata (pdu_at octets))
 
-abbrev pub IsUnheard : ℕ → Result (List ℕ) CrcFault → Dropped → Type 0
-IsUnheard now (Ok octets) why = IsUnread now octets why
-IsUnheard now (Err fault) why = why ≡ dropped.Crc fault
+abbrev pub IsUnheardInput : ℕ → Result (List ℕ) CrcFault → Dropped → Type 0
+IsUnheardInput now (Ok octets) why = IsUnread now octets why
+IsUnheardInput now (Err fault) why = why ≡ dropped.Crc fault
 
 abbrev pub IsDropped : ℕ → List ℕ → Dropped → Type 0
-IsDropped now octets why = IsUnheard now (unsealed octets) why
-
--- what is read can be handed in
-abbrev pub IsHearable : Directed → Type 0
-IsHearable (directed.Metadata h m) = IsReadable (MetadataCame h m)
-IsHearable (directed.Eof h eof) = IsHeader h × IsSizedEof h.large eof
-IsHearable other = ⊤
+IsDropped now octets why = IsUnheardInput now (unsealed octets) why

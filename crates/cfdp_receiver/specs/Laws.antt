@@ -13,7 +13,7 @@
 --     Asked, is_data, NaksAsk   what the NAK PDUs of an answer ask for, and of which session
 --     ExactlyMissing            each missing offset once, and no other
 --     asks_metadata requests    how often the Metadata PDU is asked for
---     asks_from, IsAsked        from where on octets are asked for;  the octet at an offset is missing there
+--     asks_from, IsAskedFor     from where on octets are asked for;  the octet at an offset is missing there
 --     AsksOnce, AsksOnceIn, NaksAskOnce      of the NAK PDUs of an answer: each missing octet once, and the Metadata
 --                                            PDU exactly where none came
 --     EndsThere W, EndsStayThere      the octet before the end of what was received of each transaction is there;  and
@@ -23,9 +23,9 @@
 --     due_of, timers_due        how many timers are due, of a session and of several
 --     ServedOnce                at one moment each timer that is due is served once
 --     KnownIsEntry              a session is known exactly where the core has an entry of its name
---     data_events h ps          the pieces as File Data PDUs of one transaction
+--     piece_events h ps         the pieces as File Data PDUs of one transaction
 --     AnsweredIsDelivered       once every missing octet came, the file is complete, or its checksum is wrong
---     AreApart                  no two sessions have one name
+--     SessionsAreDistinct       no two sessions have one name
 --     sent_while R inputs id    how often its Finished PDU is sent, as long as it waits for the acknowledgement
 --     SentAtMost                at most as often as the limit says
 --     sent_closed R inputs id   how often it is sent, as long as the transaction is closed and remembered
@@ -48,13 +48,13 @@ use Rattle.cfdp_leases.specs.Leases.{is_same}
 use Rattle.cfdp_directives.specs.declared.ack.TransactionStatus.TheVariants.{Terminated, Unrecognized}
 use Rattle.cfdp_directives.specs.Reading.{NakFields}
 use Rattle.cfdp_directives.specs.declared.ack.Ack.{Ack}
-use Rattle.cfdp_retransmission.specs.Coming.{Piece, AreKept, Answers, continues, covers, one_if}
+use Rattle.cfdp_retransmission.specs.Coming.{Piece, AreAllKept, BringsMissing, continues, cover_count, one_if}
 use Rattle.cfdp_retransmission.specs.declared.timer.Expiry.{Expiry}
 use Rattle.cfdp_retransmission.specs.declared.timer.Expiry.TheVariants.{NotDue, Again, Limit}
 use Rattle.cfdp_pdus.specs.Values.{MetadataFields}
 use Rattle.cfdp_pdus.specs.declared.header.Header.{Header}
 use Rattle.cfdp_pdus.specs.declared.eof.Eof.{Eof}
-use Rattle.cfdp_sessions.specs.Sessions.{SessionFields, name_of, AreDistinct}
+use Rattle.cfdp_sessions.specs.Sessions.{SessionFields, session_id, AreDistinct}
 use Rattle.cfdp_sessions.specs.declared.session.Ending.{Ending}
 use Rattle.cfdp_sessions.specs.declared.session.Stage.{Stage}
 use Rattle.cfdp_sessions.specs.declared.session.Stage.TheVariants.{Held, Known, Over, Waiting}
@@ -75,7 +75,7 @@ use Rattle.cfdp_receiver.specs.declared.mib.Mib.{Mib}
 use Rattle.cfdp_receiver.specs.State.{State, begin, Input, MetadataPdu, DataPdu, EofPdu, AckPdu, PromptPdu, OtherPdu, Expire, Work, Finish, CancelAsked, ForgetAsked, now_of, status_of, session_of, is_closed, is_full}
 use Rattle.cfdp_receiver.specs.Due.{Due, Nothing_due, Stage_due, Alive_due, IsSet, expiry_of, is_alive_due, first_due, first_over}
 use Rattle.cfdp_receiver.specs.Handing.{is_ours, later, handed}
-use Rattle.cfdp_receiver.specs.Turning.{outcome_for, most_requests, sequence, all_of, gaps_after, progress_at, is_immediate, parts, after, after_all, all_handed, acked}
+use Rattle.cfdp_receiver.specs.Turning.{outcome_for, most_nak_requests, sequence, all_of, gaps_after, progress_at, is_immediate, parts, after_input, after_all, all_handed, acked}
 
 abbrev pub HandsOn : Type 0
 HandsOn = (R : State) (inputs : List Input) → (after_all R inputs).world ≡ run R.world (all_handed R inputs)
@@ -102,7 +102,7 @@ abbrev pub AcknowledgedOnce : Type 0
 AcknowledgedOnce =
     (R : State) (now : ℕ) (h : Header) (eof : Eof) → h.acknowledged ≡ true → is_ours R h ≡ true →
     ((parts R (EofPdu now h eof)).answer.acks ≡ acked h eof.condition
-    (status_of (after R (EofPdu now h eof)) (id_of h)))
+    (status_of (after_input R (EofPdu now h eof)) (id_of h)))
     ⊎ (((parts R (EofPdu now h eof)).answer.acks ≡ []) × FindsNoRoom R h eof)
 
 -- of an input that is about no transaction; then the name does not matter
@@ -111,12 +111,12 @@ nobody = record { source = 0; number = 0 }
 
 abbrev pub due_name : Due → TransactionId
 due_name Nothing_due = nobody
-due_name (Stage_due s limit) = name_of s
-due_name (Alive_due s) = name_of s
+due_name (Stage_due s limit) = session_id s
+due_name (Alive_due s) = session_id s
 
 abbrev pub session_name : Option SessionFields → TransactionId
 session_name None = nobody
-session_name (Some s) = name_of s
+session_name (Some s) = session_id s
 
 abbrev pub touched_in : State → Input → TransactionId
 touched_in R (MetadataPdu now h m) = id_of h
@@ -135,7 +135,8 @@ abbrev pub touched : State → Input → TransactionId
 touched R i = touched_in (later (now_of i) R) i
 
 abbrev pub OthersStay : Type 0
-OthersStay = (R : State) (i : Input) (id : TransactionId) → is_same (touched R i) id ≡ false → session_of (after R i) id
+OthersStay = (R : State) (i : Input) (id : TransactionId) → is_same (touched R i) id ≡ false → session_of
+    (after_input R i) id
     ≡ session_of R id
 
 abbrev pub UnrecognizedIsTrue : Type 0
@@ -143,13 +144,13 @@ UnrecognizedIsTrue =
     (R : State) (s : SessionFields) (id : TransactionId) (inputs : List Input) → session_of R id ≡ Some s →
     status_of (after_all R inputs) id ≢ Unrecognized
 
-abbrev pub is_known : Stage → Bool
-is_known Known = true
-is_known stage = false
+abbrev pub is_known_session : Stage → Bool
+is_known_session Known = true
+is_known_session stage = false
 
 abbrev pub knows : Option SessionFields → Bool
 knows None = false
-knows (Some s) = is_known s.stage
+knows (Some s) = is_known_session s.stage
 
 abbrev pub AreKnown : State → Type 0
 AreKnown R = (id : TransactionId) → is_some (entry_of R.world id) ≡ knows (session_of R id)
@@ -169,7 +170,7 @@ abbrev pub NotBegunAnew : Type 0
 NotBegunAnew =
     (R : State) (now : ℕ) (h : Header) (m : MetadataFields) (s : SessionFields) (entry : Entry) → session_of R (id_of h)
     ≡ Some s → s.stage ≡ Known →
-    entry_of R.world (id_of h) ≡ Some entry → (after R (MetadataPdu now h m)).world ≡ R.world
+    entry_of R.world (id_of h) ≡ Some entry → (after_input R (MetadataPdu now h m)).world ≡ R.world
 
 -- where an EOF PDU is held, the first Metadata PDU is still to come
 abbrev pub is_begun_in : Stage → Bool
@@ -188,13 +189,13 @@ abbrev pub RememberedStays : Type 0
 RememberedStays =
     (R : State) (now : ℕ) (h : Header) (m : MetadataFields) → AreKnown R →
     (is_closed R (id_of h) ≡ true → session_of R (id_of h) ≡ None) →
-    is_remembered R (id_of h) ≡ true → (after R (MetadataPdu now h m)).world ≡ R.world
+    is_remembered R (id_of h) ≡ true → (after_input R (MetadataPdu now h m)).world ≡ R.world
 
 abbrev pub AtMostOnce : Type 0
 AtMostOnce =
     (mib : Mib) (W : World) (inputs : List Input) (now : ℕ) (h : Header) (m : MetadataFields) → Sound W → W.table ≡ [] →
     is_remembered (after_all (begin mib W) inputs) (id_of h) ≡ true →
-    (after (after_all (begin mib W) inputs) (MetadataPdu now h m)).world ≡ (after_all (begin mib W) inputs).world
+    (after_input (after_all (begin mib W) inputs) (MetadataPdu now h m)).world ≡ (after_all (begin mib W) inputs).world
 
 pub record HadSession (R : State) (inputs : List Input) (id : TransactionId) : Type 0 where
   pub front : List Input
@@ -219,7 +220,7 @@ pub data Sent (R : State) (i : Input) (sent : List (List ℕ)) : Type 0 where
   None_sent : (e : sent ≡ []) → Sent R i sent
   First_sent : (now : ℕ) → (s : SessionFields) → (is : i ≡ Finish now) →
       (over : first_over R.world R.sessions ≡ Some s) →
-      (e : sent ≡ finished_octets (outcome_for s (entry_of R.world (name_of s))) ∷ []) → Sent R i sent
+      (e : sent ≡ finished_octets (outcome_for s (entry_of R.world (session_id s))) ∷ []) → Sent R i sent
   Sent_again : (now : ℕ) → (s : SessionFields) → (is : i ≡ Expire now) →
       (due : first_due R R.sessions ≡ Stage_due s false) →
       (waits : s.stage ≡ Waiting) → (e : sent ≡ s.finished ∷ []) → Sent R i sent
@@ -253,19 +254,20 @@ is_data (DataPdu now h piece) = true
 is_data i = false
 
 abbrev pub NaksAsk : Type 0
-NaksAsk = (R : State) (i : Input) → Asked R.world (is_data i) (after R i) (touched R i) (parts R i).answer.naks
+NaksAsk = (R : State) (i : Input) → Asked R.world (is_data i) (after_input R i) (touched R i) (parts R i).answer.naks
 
-abbrev pub requests_of : List NakFields → List (ℕ × ℕ)
-requests_of naks = flat_map (λ nak. nak.requests) naks
+abbrev pub requests_of_naks : List NakFields → List (ℕ × ℕ)
+requests_of_naks naks = flat_map (λ nak. nak.requests) naks
 
 -- of a sequence from an offset on that is 0, or comes right after an octet that was received
 abbrev pub ExactlyMissing : Type 0
 ExactlyMissing =
-    (mib : Mib) (h : Header) (entry : Entry) (low i : ℕ) → 1 ≤ most_requests mib → continues entry.received low ≡ true →
+    (mib : Mib) (h : Header) (entry : Entry) (low i : ℕ) → 1 ≤ most_nak_requests mib → continues entry.received low
+    ≡ true →
     (low ≤ i → i < reach entry → octet_at entry.received i ≡ None →
-    covers i (requests_of (sequence mib h low (reach entry) (gaps_after low entry))) ≡ 1)
+    cover_count i (requests_of_naks (sequence mib h low (reach entry) (gaps_after low entry))) ≡ 1)
     × ((low ≤ i → i < reach entry → octet_at entry.received i ≡ None → ⊥) →
-    covers i (requests_of (sequence mib h low (reach entry) (gaps_after low entry))) ≡ 0)
+    cover_count i (requests_of_naks (sequence mib h low (reach entry) (gaps_after low entry))) ≡ 0)
 
 -- how often the Metadata PDU is among the requests
 abbrev pub asks_metadata : List (ℕ × ℕ) → ℕ
@@ -278,8 +280,8 @@ asks_from U true id = progress_at (entry_of U id)
 asks_from U false id = 0
 
 -- the octet at an offset from `low` on, below the reach, is missing
-abbrev pub IsAsked : Entry → ℕ → ℕ → Type 0
-IsAsked entry low at = (low ≤ at) × (at < reach entry) × (octet_at entry.received at ≡ None)
+abbrev pub IsAskedFor : Entry → ℕ → ℕ → Type 0
+IsAskedFor entry low at = (low ≤ at) × (at < reach entry) × (octet_at entry.received at ≡ None)
 
 -- of all requests of an answer with NAK PDUs. Where the EOF PDU is held: the Metadata PDU once, and each octet of the
 -- file once. Where the core knows the transaction: never the Metadata PDU, each missing octet once, and no other
@@ -287,40 +289,41 @@ pub data AsksOnce (U : World) (data_came : Bool) (N : State) (id : TransactionId
     (requests : List (ℕ × ℕ)) : Type 0 where
   Once_held : (s : SessionFields) → (eof : Eof) → (here : session_of N id ≡ Some s) → (held : s.stage ≡ Held eof) →
       (metadata : asks_metadata requests ≡ 1) →
-      (inside : at < eof.size → covers at requests ≡ 1) → (outside : eof.size ≤ at → covers at requests ≡ 0) →
+      (inside : at < eof.size → cover_count at requests ≡ 1) → (outside : eof.size ≤ at → cover_count at requests ≡ 0) →
       AsksOnce U data_came N id at requests
   Once_known : (s : SessionFields) → (entry : Entry) → (here : session_of N id ≡ Some s) → (known : s.stage ≡ Known) →
       (there : entry_of N.world id ≡ Some entry) →
       (metadata : asks_metadata requests ≡ 0) →
-      (inside : IsAsked entry (asks_from U data_came id) at → covers at requests ≡ 1) →
-      (outside : (IsAsked entry (asks_from U data_came id) at → ⊥) → covers at requests ≡ 0) →
+      (inside : IsAskedFor entry (asks_from U data_came id) at → cover_count at requests ≡ 1) →
+      (outside : (IsAskedFor entry (asks_from U data_came id) at → ⊥) → cover_count at requests ≡ 0) →
       AsksOnce U data_came N id at requests
 
 abbrev pub AsksOnceIn : State → Input → ℕ → Type 0
 AsksOnceIn R i at =
-    ((parts R i).answer.naks ≡ []) ⊎ AsksOnce R.world (is_data i) (after R i) (touched R i) at
-    (requests_of (parts R i).answer.naks)
+    ((parts R i).answer.naks ≡ []) ⊎ AsksOnce R.world (is_data i) (after_input R i) (touched R i) at
+    (requests_of_naks (parts R i).answer.naks)
 
 -- the octet before the end of all that was received of each transaction is there
 abbrev pub EndsThere : World → Type 0
 EndsThere W = Each (λ e. continues e.received (length e.received) ≡ true) W.table
 
 abbrev pub EndsStayThere : Type 0
-EndsStayThere = (R : State) (i : Input) → EndsThere R.world → EndsThere (after R i).world
+EndsStayThere = (R : State) (i : Input) → EndsThere R.world → EndsThere (after_input R i).world
 
 abbrev pub NaksAskOnceIn : Type 0
-NaksAskOnceIn = (R : State) (i : Input) (at : ℕ) → 1 ≤ most_requests R.mib → (is_data i ≡ true → EndsThere R.world) →
+NaksAskOnceIn = (R : State) (i : Input) (at : ℕ) → 1 ≤ most_nak_requests R.mib → (is_data i ≡ true → EndsThere R.world)
+    →
     AsksOnceIn R i at
 
 abbrev pub NaksAskOnce : Type 0
 NaksAskOnce =
-    (mib : Mib) (W : World) (inputs : List Input) (i : Input) (at : ℕ) → W.table ≡ [] → 1 ≤ most_requests mib →
+    (mib : Mib) (W : World) (inputs : List Input) (i : Input) (at : ℕ) → W.table ≡ [] → 1 ≤ most_nak_requests mib →
     AsksOnceIn (after_all (begin mib W) inputs) i at
 
 abbrev pub FewNakPdus : Type 0
 FewNakPdus =
-    (mib : Mib) (h : Header) (low high : ℕ) (requests : List (ℕ × ℕ)) → 1 ≤ most_requests mib →
-    most_requests mib * length (sequence mib h low high requests) < 1 + most_requests mib + length requests
+    (mib : Mib) (h : Header) (low high : ℕ) (requests : List (ℕ × ℕ)) → 1 ≤ most_nak_requests mib →
+    most_nak_requests mib * length (sequence mib h low high requests) < 1 + most_nak_requests mib + length requests
 
 abbrev pub FewRequests : Type 0
 FewRequests = (W : World) (id : TransactionId) (entry : Entry) (low : ℕ) → Sound W → entry_of W id ≡ Some entry →
@@ -343,14 +346,15 @@ timers_due R (s ∷ ss) = due_of R s + timers_due R ss
 abbrev pub ServedOnce : Type 0
 ServedOnce =
     (R : State) (now : ℕ) → IsSet R.mib → Sound R.world → AreDistinct R.sessions →
-    timers_due (after R (Expire now)) (after R (Expire now)).sessions ≤ timers_due (later now R) R.sessions - 1
+    timers_due (after_input R (Expire now)) (after_input R (Expire now)).sessions ≤ timers_due
+    (later now R) R.sessions - 1
 
 abbrev pub KnownIsEntry : Type 0
 KnownIsEntry = (mib : Mib) (W : World) (inputs : List Input) → Sound W → W.table ≡ [] →
     AreKnown (after_all (begin mib W) inputs)
 
-abbrev pub data_events : Header → List Piece → List Event
-data_events h ps = map (λ p. DataCame h (record { offset = p.0; octets = p.1 })) ps
+abbrev pub piece_events : Header → List Piece → List Event
+piece_events h ps = map (λ p. DataCame h (record { offset = p.0; octets = p.1 })) ps
 
 -- in Awaiting; none of the pieces is passed over, and none ends after the file does
 abbrev pub AnsweredIsDelivered : Type 0
@@ -358,13 +362,14 @@ AnsweredIsDelivered =
     (W : World) (h : Header) (e : Entry) (eof : Eof) (made : ℕ) (ps : List Piece) → h.destination ≡ W.config.entity →
     entry_of W (id_of h) ≡ Some e →
     e.phase ≡ Awaiting made → e.eof ≡ Some eof → length e.received ≤ eof.size → is_whole eof.size e.received ≡ false →
-    AllByRecursion (λ p. p.0 + length p.1 ≤ min (bound W.config e.metadata) eof.size) ps → AreKept e.received ps →
-    Answers eof.size e.received ps →
-    (now : Entry) × (entry_of (run W (data_events h ps)) (id_of h) ≡ Some now)
+    AllByRecursion (λ p. p.0 + length p.1 ≤ min (bound W.config e.metadata) eof.size) ps → AreAllKept e.received ps →
+    BringsMissing eof.size e.received ps →
+    (now : Entry) × (entry_of (run W (piece_events h ps)) (id_of h) ≡ Some now)
     × ((now.phase ≡ Executing 0) ⊎ (now.phase ≡ Ended 5))
 
-abbrev pub AreApart : Type 0
-AreApart = (mib : Mib) (W : World) (inputs : List Input) → AreDistinct (after_all (begin mib W) inputs).sessions
+abbrev pub SessionsAreDistinct : Type 0
+SessionsAreDistinct = (mib : Mib) (W : World) (inputs : List Input) → AreDistinct
+    (after_all (begin mib W) inputs).sessions
 
 abbrev pub is_waiting : Stage → Bool
 is_waiting Waiting = true
@@ -379,7 +384,8 @@ sent_for R i id = if is_same (touched R i) id then length (parts R i).answer.fin
 
 abbrev pub sent_while : State → List Input → TransactionId → ℕ
 sent_while R [] id = 0
-sent_while R (i ∷ is) id = if waits_in (session_of R id) then sent_for R i id + sent_while (after R i) is id else 0
+sent_while R (i ∷ is) id = if waits_in (session_of R id) then sent_for R i id + sent_while (after_input R i) is id
+    else 0
 
 -- a session begins to wait, with a count of 0, when its Finished PDU is sent first
 abbrev pub SentAtMost : Type 0
@@ -403,17 +409,17 @@ abbrev pub OthersKeepEntries : Type 0
 OthersKeepEntries =
     (R : State) (i : Input) (id : TransactionId) → Sound R.world → is_work i ≡ false → is_same (touched R i) id
     ≡ false →
-    entry_of (after R i).world id ≡ entry_of R.world id
+    entry_of (after_input R i).world id ≡ entry_of R.world id
 
 abbrev pub WorkKeepsOthers : Type 0
 WorkKeepsOthers =
     (R : State) (now : ℕ) (id : TransactionId) → Sound R.world → next_runnable R.world.table ≢ Some id →
-    entry_of (after R (Work now)).world id ≡ entry_of R.world id
+    entry_of (after_input R (Work now)).world id ≡ entry_of R.world id
 
 -- how often a Finished PDU of a transaction is sent, as long as it is closed and remembered
 abbrev pub sent_closed : State → List Input → TransactionId → ℕ
 sent_closed R [] id = 0
-sent_closed R (i ∷ is) id = if is_closed R id then sent_for R i id + sent_closed (after R i) is id else 0
+sent_closed R (i ∷ is) id = if is_closed R id then sent_for R i id + sent_closed (after_input R i) is id else 0
 
 -- the ACK PDU of a Finished PDU has directive code 5
 abbrev pub NoneAfterAck : Type 0
@@ -421,6 +427,6 @@ NoneAfterAck =
     (R : State) (now : ℕ) (h : Header) (ack : Ack) (s : SessionFields) (inputs : List Input) → AreDistinct R.sessions →
     is_ours R h ≡ true → ack.directive ≡ 5 →
     session_of R (id_of h) ≡ Some s → s.stage ≡ Waiting →
-    (session_of (after R (AckPdu now h ack)) (id_of h) ≡ None)
-    × (is_closed (after R (AckPdu now h ack)) (id_of h) ≡ true)
-    × (sent_closed (after R (AckPdu now h ack)) inputs (id_of h) ≡ 0)
+    (session_of (after_input R (AckPdu now h ack)) (id_of h) ≡ None)
+    × (is_closed (after_input R (AckPdu now h ack)) (id_of h) ≡ true)
+    × (sent_closed (after_input R (AckPdu now h ack)) inputs (id_of h) ≡ 0)

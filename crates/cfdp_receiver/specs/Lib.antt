@@ -6,3 +6,4 @@ pub mod Laws
 pub mod Machine
 pub mod Heard
 pub mod Sent
+pub mod code

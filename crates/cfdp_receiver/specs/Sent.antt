@@ -1,27 +1,15 @@
 -- The octets of the PDUs that are sent.
 --     pdus_of M a               those of an answer without a CRC, in order
---     after_ack, after_naks     those after the ACK PDU;  those after the NAK PDUs
 --     as_sent mib octets        with a CRC, where PDUs that are sent have one (§5.1)
 --     IsNotWritten              why a PDU of an answer was not written
 use Rattle.std.specs.Prelude.{⊤, ℕ, ◌+◌, ◌<◌, if◌then◌else◌, List, ◌++◌, length, map, Option, Some, None, Result, Ok, Err}
 use Rattle.cfdp_crc.specs.Seal.{sealed}
 use Rattle.cfdp_crc.specs.declared.sealing.SealFault.{SealFault}
-use Rattle.cfdp_directives.specs.Reading.{NakFields}
 use Rattle.cfdp_directives.specs.Spelling.{ack_pdu, nak_pdu, keep_alive_pdu}
 use Rattle.cfdp_receiver.specs.declared.mib.Mib.{Mib}
 use Rattle.cfdp_receiver.specs.declared.receiver.NotWritten.{NotWritten}
 use Rattle.cfdp_receiver.specs.declared.receiver.NotWritten.TheVariants as not_written
 use Rattle.cfdp_receiver.specs.Machine.{MachineFields, AnswerParts, finished_for}
-
-abbrev pub nak_octets : NakFields → List ℕ
-nak_octets nak = nak_pdu nak.header nak.scope nak.requests
-
-abbrev pub after_naks : MachineFields → AnswerParts → List (List ℕ)
-after_naks M a = map (λ keep_alive. keep_alive_pdu keep_alive.0 keep_alive.1) a.keep_alives
-    ++ map (finished_for M) a.finished
-
-abbrev pub after_ack : MachineFields → AnswerParts → List (List ℕ)
-after_ack M a = map nak_octets a.naks ++ after_naks M a
 
 abbrev pub pdus_of : MachineFields → AnswerParts → List (List ℕ)
 pdus_of M a =

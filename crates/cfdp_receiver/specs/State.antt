@@ -9,7 +9,7 @@
 --     is_full R                 there are 64 sessions
 --     At, at_of W s             how far a transaction is, by its session and the core
 --     status_of R id            what an ACK PDU says of the transaction (§5.2.4)
---     turned h                  the header of a PDU that is sent: toward the sender, all else as in the PDU that came
+--     turned_header h           the header of a PDU that is sent: toward the sender, all else as in the PDU that came
 use Rattle.std.specs.Prelude.{ℕ, Bool, true, false, nat_le, List, [], length, Option, Some, None}
 use Rattle.cfdp_status.specs.declared.transaction.TransactionId.{TransactionId}
 use Rattle.cfdp_pdus.specs.Values.{MetadataFields, FileDataFields}
@@ -22,7 +22,7 @@ use Rattle.cfdp_directives.specs.declared.ack.TransactionStatus.TheVariants.{Und
 use Rattle.cfdp_directives.specs.declared.keep_alive.KeepAlive.{KeepAlive}
 use Rattle.cfdp_directives.specs.declared.prompt.Prompt.{Prompt}
 use Rattle.cfdp_sessions.specs.Closed.{ClosedFields, remembers}
-use Rattle.cfdp_sessions.specs.Sessions.{SessionFields, name_of, found}
+use Rattle.cfdp_sessions.specs.Sessions.{SessionFields, session_id, found}
 use Rattle.cfdp_sessions.specs.declared.session.Stage.{Stage}
 use Rattle.cfdp_sessions.specs.declared.session.Stage.TheVariants.{Held, Known, Over, Waiting}
 use Rattle.cfdp_transactions.specs.declared.phase.Phase.{Phase}
@@ -111,7 +111,7 @@ at_stage (Over ending) entry = At_over
 at_stage Waiting entry = At_waiting
 
 abbrev pub at_of : World → SessionFields → At
-at_of W s = at_stage s.stage (entry_of W (name_of s))
+at_of W s = at_stage s.stage (entry_of W (session_id s))
 
 -- without a session: closed and remembered;  some name was forgotten
 abbrev pub past_status : Bool → Bool → TransactionStatus
@@ -126,5 +126,5 @@ session_status None closed forgot = past_status closed forgot
 abbrev pub status_of : State → TransactionId → TransactionStatus
 status_of R id = session_status (session_of R id) (is_closed R id) R.closed.forgot
 
-abbrev pub turned : Header → Header
-turned h = record h { toward_sender = true }
+abbrev pub turned_header : Header → Header
+turned_header h = record h { toward_sender = true }

@@ -1,13 +1,13 @@
 -- What an input does: to the sessions, to the names closed last, and what is answered.
 --     Parts                     the sessions and closed names after an input, and the answer
 --     quiet became              an answer that sends and indicates nothing
---     keeps, puts, adds, closes     the sessions stay;  one is replaced;  one more begins;  one is closed
---     most_requests mib         how many segment requests a NAK PDU has at most (§5.2.6)
+--     keeps, replaces_one, adds, closes  the sessions stay;  one is replaced;  one more begins;  one is closed
+--     most_nak_requests mib     how many segment requests a NAK PDU has at most (§5.2.6)
 --     asks mib V s              the NAK sequence for a session, in the world V
 --     parts_of R V replies i    by the input: R is as late as it, V the world after what was handed on, and these were
 --                               the replies
 --     turn R i                  the state after an input, and its answer;  after R i, parts R i
---     after_all, all_answers    the state after several inputs;  the answers to them
+--     after_all                 the state after several inputs
 --     all_handed                all events that they hand to the core
 use Rattle.std.specs.Prelude.{ℕ, ◌-◌, ◌/◌, max, min, Bool, true, false, not, ◌&&◌, ◌||◌, ◌==◌, if◌then◌else◌, nat_le, List, [], ◌∷◌, ◌++◌, map, length, Option, Some, None}
 use Rattle.std.specs.List.{filter}
@@ -23,9 +23,9 @@ use Rattle.cfdp_directives.specs.declared.prompt.Prompt.{Prompt}
 use Rattle.cfdp_directives.specs.declared.prompt.Prompt.TheVariants as prompts
 use Rattle.cfdp_retransmission.specs.declared.timer.Expiry.TheVariants.{Again}
 use Rattle.cfdp_retransmission.specs.Timers.{passed, restarted}
-use Rattle.cfdp_retransmission.specs.Naks.{Range, naks}
+use Rattle.cfdp_retransmission.specs.Naks.{SegmentRequest, naks}
 use Rattle.cfdp_sessions.specs.Closed.{ClosedFields, with_name}
-use Rattle.cfdp_sessions.specs.Sessions.{SessionFields, name_of, replaced, without}
+use Rattle.cfdp_sessions.specs.Sessions.{SessionFields, session_id, replaced, without_session}
 use Rattle.cfdp_sessions.specs.declared.session.Ending.{Ending}
 use Rattle.cfdp_sessions.specs.declared.session.Stage.{Stage}
 use Rattle.cfdp_sessions.specs.declared.session.Stage.TheVariants.{Held, Known, Over, Waiting}
@@ -50,7 +50,7 @@ use Rattle.cfdp_receiver.specs.declared.mib.Handler.TheVariants as handlers
 use Rattle.cfdp_receiver.specs.declared.mib.Mib.{Mib}
 use Rattle.cfdp_receiver.specs.declared.mib.NakMode.{NakMode}
 use Rattle.cfdp_receiver.specs.declared.mib.NakMode.TheVariants as modes
-use Rattle.cfdp_receiver.specs.State.{State, Input, MetadataPdu, DataPdu, EofPdu, AckPdu, PromptPdu, OtherPdu, Expire, Work, Finish, CancelAsked, ForgetAsked, now_of, AnswerFields, session_of, is_closed, is_full, At, At_held, At_receiving, At_awaiting, At_waiting, at_of, status_of, turned}
+use Rattle.cfdp_receiver.specs.State.{State, Input, MetadataPdu, DataPdu, EofPdu, AckPdu, PromptPdu, OtherPdu, Expire, Work, Finish, CancelAsked, ForgetAsked, now_of, AnswerFields, session_of, is_closed, is_full, At, At_held, At_receiving, At_awaiting, At_waiting, at_of, status_of, turned_header}
 use Rattle.cfdp_receiver.specs.Due.{Due, Nothing_due, Stage_due, Alive_due, first_due, first_over, fault_at, handler_at, is_receiving_at}
 use Rattle.cfdp_receiver.specs.Handing.{is_ours, later, handed}
 
@@ -65,48 +65,53 @@ quiet became = record { acks = []; naks = []; keep_alives = []; finished = []; i
 abbrev pub keeps : State → AnswerFields → Parts
 keeps R answer = record { sessions = R.sessions; closed = R.closed; answer = answer }
 
-abbrev pub puts : State → SessionFields → AnswerFields → Parts
-puts R new answer = record { sessions = replaced R.sessions new; closed = R.closed; answer = answer }
+abbrev pub replaces_one : State → SessionFields → AnswerFields → Parts
+replaces_one R new answer = record { sessions = replaced R.sessions new; closed = R.closed; answer = answer }
 
 abbrev pub adds : State → SessionFields → AnswerFields → Parts
 adds R new answer = record { sessions = R.sessions ++ new ∷ []; closed = R.closed; answer = answer }
 
 abbrev pub closes : State → TransactionId → AnswerFields → Parts
-closes R id answer = record { sessions = without R.sessions id; closed = with_name R.closed id; answer = answer }
+closes R id answer = record {
+  sessions = without_session R.sessions id;
+  closed = with_name R.closed id;
+  answer =
+      answer;
+}
 
 abbrev pub forgets : State → AnswerFields → Parts
 forgets R answer = record { sessions = R.sessions; closed = record { names = []; forgot = true }; answer = answer }
 
-abbrev pub said : SessionFields → Word → AnswerFields
-said s word = quiet (Said (name_of s) word)
+abbrev pub said_word : SessionFields → Word → AnswerFields
+said_word s word = quiet (Said (session_id s) word)
 
-abbrev pub said_of : Header → Word → AnswerFields
-said_of h word = quiet (Said (id_of h) word)
+abbrev pub said_of_header : Header → Word → AnswerFields
+said_of_header h word = quiet (Said (id_of h) word)
 
 -- the first reply, where one is there
-abbrev pub replied : TransactionId → List Reply → Became
-replied id [] = Nothing
-replied id (reply ∷ more) = Replied id reply
+abbrev pub became_reply : TransactionId → List Reply → Became
+became_reply id [] = Nothing
+became_reply id (reply ∷ more) = Replied id reply
 
 -- ---- what is asked for
 
 -- a header of 28 octets, the directive code, a scope of 16, requests of 16 each, and a CRC of 2; there are 33 gaps at
 -- most, and the Metadata
-abbrev pub most_requests : Mib → ℕ
-most_requests mib = min 34 ((mib.longest_nak - 47) / 16)
+abbrev pub most_nak_requests : Mib → ℕ
+most_nak_requests mib = min 34 ((mib.longest_nak - 47) / 16)
 
 -- from one offset up to another
-abbrev pub sequence : Mib → Header → ℕ → ℕ → List Range → List NakFields
+abbrev pub sequence : Mib → Header → ℕ → ℕ → List SegmentRequest → List NakFields
 sequence mib h low high requests =
-    map (λ nak. record { header = turned h; scope = nak.scope; requests = nak.requests })
-    (naks (most_requests mib) low high requests)
+    map (λ nak. record { header = turned_header h; scope = nak.scope; requests = nak.requests })
+    (naks (most_nak_requests mib) low high requests)
 
 -- the Metadata PDU, and all of the file
-abbrev pub all_of : ℕ → List Range
+abbrev pub all_of : ℕ → List SegmentRequest
 all_of size = (0, 0) ∷ (if size == 0 then [] else (0, size) ∷ [])
 
 -- what is missing from an offset on
-abbrev pub gaps_after : ℕ → Entry → List Range
+abbrev pub gaps_after : ℕ → Entry → List SegmentRequest
 gaps_after low e = filter (λ g. nat_le low g.0) (gaps e)
 
 abbrev pub asks_entry : Mib → Header → ℕ → Option Entry → List NakFields
@@ -120,7 +125,7 @@ asks_stage mib h low (Over ending) entry = []
 asks_stage mib h low Waiting entry = []
 
 abbrev pub asks : Mib → World → SessionFields → List NakFields
-asks mib V s = asks_stage mib s.header 0 s.stage (entry_of V (name_of s))
+asks mib V s = asks_stage mib s.header 0 s.stage (entry_of V (session_id s))
 
 abbrev pub is_awaiting_at : At → Bool
 is_awaiting_at (At_awaiting made) = true
@@ -131,13 +136,13 @@ asks_where_awaiting mib V s = if s.header.acknowledged && is_awaiting_at (at_of 
 
 -- ---- whether something new came
 
-abbrev pub same_ranges : List Range → List Range → Bool
+abbrev pub same_ranges : List SegmentRequest → List SegmentRequest → Bool
 same_ranges [] [] = true
 same_ranges [] (s ∷ ss) = false
 same_ranges (r ∷ rs) [] = false
 same_ranges (r ∷ rs) (s ∷ ss) = (r.0 == s.0) && (r.1 == s.1) && same_ranges rs ss
 
-abbrev pub gaps_at : Option Entry → List Range
+abbrev pub gaps_at : Option Entry → List SegmentRequest
 gaps_at None = []
 gaps_at (Some e) = gaps e
 
@@ -145,15 +150,15 @@ gaps_at (Some e) = gaps e
 abbrev pub is_news : World → World → SessionFields → Bool
 is_news U V s =
     not (is_awaiting_at (at_of U s) && is_awaiting_at (at_of V s))
-    || not (same_ranges (gaps_at (entry_of U (name_of s))) (gaps_at (entry_of V (name_of s))))
+    || not (same_ranges (gaps_at (entry_of U (session_id s))) (gaps_at (entry_of V (session_id s))))
 
-abbrev pub heard : State → World → SessionFields → SessionFields
-heard R V s = if is_news R.world V s then record s { timer = restarted R.now } else s
+abbrev pub heard_session : State → World → SessionFields → SessionFields
+heard_session R V s = if is_news R.world V s then record s { timer = restarted R.now } else s
 
 -- ---- Metadata
 
-abbrev pub begun : State → Header → Stage → SessionFields
-begun R h stage =
+abbrev pub begun_session : State → Header → Stage → SessionFields
+begun_session R h stage =
     record {
       header = h;
       stage = stage;
@@ -175,8 +180,8 @@ described id m = tells.MetadataRecv id (record { size = m.size; closure = m.clos
 -- the Metadata of a transaction whose EOF PDU is held
 abbrev pub joins : State → World → List Reply → Header → MetadataFields → Parts
 joins R V replies h m =
-    let new = begun R h (stage_in (entry_of V (id_of h)) true h.destination) in
-    puts R new (record (quiet (replied (id_of h) replies)) {
+    let new = begun_session R h (stage_in (entry_of V (id_of h)) true h.destination) in
+    replaces_one R new (record (quiet (became_reply (id_of h) replies)) {
       naks = asks_where_awaiting R.mib V new;
       indications = described (id_of h) m ∷ [];
     })
@@ -184,22 +189,22 @@ joins R V replies h m =
 -- a new transaction
 abbrev pub begins : State → World → List Reply → Header → MetadataFields → Parts
 begins R V replies h m =
-    adds R (begun R h (stage_in (entry_of V (id_of h)) (h.acknowledged || m.closure) h.destination))
-    (record (quiet (replied (id_of h) replies)) { indications = described (id_of h) m ∷ [] })
+    adds R (begun_session R h (stage_in (entry_of V (id_of h)) (h.acknowledged || m.closure) h.destination))
+    (record (quiet (became_reply (id_of h) replies)) { indications = described (id_of h) m ∷ [] })
 
 abbrev pub metadata_stage : State → World → List Reply → Header → MetadataFields → SessionFields → Stage → Parts
 metadata_stage R V replies h m s (Held eof) = if h.acknowledged then joins R V replies h m
-    else keeps R (said s words.Idle)
-metadata_stage R V replies h m s Known = puts R (heard R V s) (quiet (replied (id_of h) replies))
-metadata_stage R V replies h m s (Over ending) = keeps R (said s words.Duplicate)
-metadata_stage R V replies h m s Waiting = keeps R (said s words.Duplicate)
+    else keeps R (said_word s words.Idle)
+metadata_stage R V replies h m s Known = replaces_one R (heard_session R V s) (quiet (became_reply (id_of h) replies))
+metadata_stage R V replies h m s (Over ending) = keeps R (said_word s words.Duplicate)
+metadata_stage R V replies h m s Waiting = keeps R (said_word s words.Duplicate)
 
 abbrev pub turned_away : State → Header → Word
 turned_away R h = if is_closed R (id_of h) then words.Duplicate else words.TableFull
 
 abbrev pub metadata_parts : State → World → List Reply → Header → MetadataFields → Option SessionFields → Parts
 metadata_parts R V replies h m None =
-    if is_closed R (id_of h) || is_full R then keeps R (said_of h (turned_away R h)) else begins R V replies h m
+    if is_closed R (id_of h) || is_full R then keeps R (said_of_header h (turned_away R h)) else begins R V replies h m
 metadata_parts R V replies h m (Some s) = metadata_stage R V replies h m s s.stage
 
 -- ---- File Data
@@ -215,10 +220,10 @@ is_immediate modes.Deferred = false
 -- at once, where a gap began after all that was there
 abbrev pub asks_at_once : State → World → SessionFields → List NakFields
 asks_at_once R V s =
-    let low = progress_at (entry_of R.world (name_of s)) in
+    let low = progress_at (entry_of R.world (session_id s)) in
     if is_immediate R.mib.nak_mode && s.header.acknowledged && is_receiving_at (at_of V s)
-    && not (length (filter (λ (g : Range). nat_le low g.0) (gaps_at (entry_of V (name_of s)))) == 0)
-    then asks_stage R.mib s.header low s.stage (entry_of V (name_of s))
+    && not (length (filter (λ (g : SegmentRequest). nat_le low g.0) (gaps_at (entry_of V (session_id s)))) == 0)
+    then asks_stage R.mib s.header low s.stage (entry_of V (session_id s))
     else []
 
 abbrev pub is_kept_by : Reply → Bool
@@ -234,35 +239,35 @@ abbrev pub is_known : Stage → Bool
 is_known Known = true
 is_known stage = false
 
-abbrev pub takes_data : State → World → List Reply → Header → FileDataFields → SessionFields → Parts
-takes_data R V replies h piece s =
-    puts R (heard R V s) (record (quiet (replied (id_of h) replies)) {
+abbrev pub takes_piece : State → World → List Reply → Header → FileDataFields → SessionFields → Parts
+takes_piece R V replies h piece s =
+    replaces_one R (heard_session R V s) (record (quiet (became_reply (id_of h) replies)) {
       naks = asks_at_once R V s;
       indications = if is_kept replies then tells.FileSegmentRecv (id_of h) piece.offset (length piece.octets) ∷ []
           else [];
     })
 
 -- a name without a session
-abbrev pub absent : State → TransactionId → Word
-absent R id = if is_closed R id then words.Idle else words.Unknown
+abbrev pub word_without_session : State → TransactionId → Word
+word_without_session R id = if is_closed R id then words.Idle else words.Unknown
 
 abbrev pub data_parts : State → World → List Reply → Header → FileDataFields → Option SessionFields → Parts
-data_parts R V replies h piece None = keeps R (said_of h (absent R (id_of h)))
-data_parts R V replies h piece (Some s) = if is_known s.stage then takes_data R V replies h piece s
-    else keeps R (said s words.Idle)
+data_parts R V replies h piece None = keeps R (said_of_header h (word_without_session R (id_of h)))
+data_parts R V replies h piece (Some s) = if is_known s.stage then takes_piece R V replies h piece s
+    else keeps R (said_word s words.Idle)
 
 -- ---- EOF
 
 -- an EOF PDU of directive code 4, in acknowledged mode
 abbrev pub acked : Header → ℕ → TransactionStatus → List (Header × Ack)
 acked h condition status = if h.acknowledged then (
-  turned h,
+  turned_header h,
   record { directive = 4; condition = condition; status = status },
 ) ∷ [] else []
 
 -- it is acknowledged, and no more
 abbrev pub acks_only : Header → Eof → TransactionStatus → Word → AnswerFields
-acks_only h eof status word = record (said_of h word) { acks = acked h eof.condition status }
+acks_only h eof status word = record (said_of_header h word) { acks = acked h eof.condition status }
 
 abbrev pub left_receiving : State → World → SessionFields → Bool
 left_receiving R V s = is_receiving_at (at_of R.world s) && not (is_receiving_at (at_of V s))
@@ -274,9 +279,9 @@ ended_by h eof s = record s { stage = Over (record { condition = eof.condition; 
 abbrev pub eof_stage : State → World → List Reply → Header → Eof → SessionFields → Stage → Parts
 eof_stage R V replies h eof s (Held kept) =
     if eof.condition == 0 then keeps R (acks_only h eof Active words.Duplicate)
-    else puts R (ended_by h eof s) (acks_only h eof Active words.Faulted)
+    else replaces_one R (ended_by h eof s) (acks_only h eof Active words.Faulted)
 eof_stage R V replies h eof s Known =
-    puts R (heard R V s) (record (quiet (replied (id_of h) replies)) {
+    replaces_one R (heard_session R V s) (record (quiet (became_reply (id_of h) replies)) {
       acks = acked h eof.condition Active;
       naks = if left_receiving R V s && (eof.condition == 0) then asks_where_awaiting R.mib V s else [];
       indications = if left_receiving R V s && (eof.condition == 0) then tells.EofRecv (id_of h) ∷ [] else [];
@@ -284,30 +289,30 @@ eof_stage R V replies h eof s Known =
 eof_stage R V replies h eof s stage = keeps R (acks_only h eof Active words.Idle)
 
 -- a transaction whose EOF PDU comes first
-abbrev pub holds : State → Header → Eof → Parts
-holds R h eof = adds R (begun R h (Held eof)) (record (said_of h words.Held) {
+abbrev pub held_first : State → Header → Eof → Parts
+held_first R h eof = adds R (begun_session R h (Held eof)) (record (said_of_header h words.Held) {
   acks = acked h eof.condition Active;
-  naks = asks R.mib R.world (begun R h (Held eof));
+  naks = asks R.mib R.world (begun_session R h (Held eof));
   indications = tells.EofRecv (id_of h) ∷ [];
 })
 
 abbrev pub eof_parts : State → World → List Reply → Header → Eof → Option SessionFields → Parts
 eof_parts R V replies h eof None =
     if is_closed R (id_of h) || not (eof.condition == 0) || not h.acknowledged
-    then keeps R (acks_only h eof (status_of R (id_of h)) (absent R (id_of h)))
-    else if is_full R then keeps R (said_of h words.TableFull)
-    else holds R h eof
+    then keeps R (acks_only h eof (status_of R (id_of h)) (word_without_session R (id_of h)))
+    else if is_full R then keeps R (said_of_header h words.TableFull)
+    else held_first R h eof
 eof_parts R V replies h eof (Some s) = eof_stage R V replies h eof s s.stage
 
 -- ---- ACK and Prompt
 
 abbrev pub ack_stage : State → Header → Ack → SessionFields → Stage → Parts
-ack_stage R h ack s Waiting = if ack.directive == 5 then closes R (name_of s) (said_of h words.Acknowledged)
-    else keeps R (said_of h words.Idle)
-ack_stage R h ack s stage = keeps R (said_of h words.Idle)
+ack_stage R h ack s Waiting = if ack.directive == 5 then closes R (session_id s) (said_of_header h words.Acknowledged)
+    else keeps R (said_of_header h words.Idle)
+ack_stage R h ack s stage = keeps R (said_of_header h words.Idle)
 
 abbrev pub ack_parts : State → Header → Ack → Option SessionFields → Parts
-ack_parts R h ack None = keeps R (said_of h words.Idle)
+ack_parts R h ack None = keeps R (said_of_header h words.Idle)
 ack_parts R h ack (Some s) = ack_stage R h ack s s.stage
 
 abbrev pub takes_prompts : At → Bool
@@ -317,12 +322,12 @@ takes_prompts (At_awaiting made) = true
 takes_prompts at = false
 
 abbrev pub prompted : State → Header → SessionFields → Prompt → AnswerFields
-prompted R h s prompts.Nak = record (said_of h words.Answered) { naks = asks R.mib R.world s }
+prompted R h s prompts.Nak = record (said_of_header h words.Answered) { naks = asks R.mib R.world s }
 prompted R h s prompts.KeepAlive =
-    record (said_of h words.Answered) {
+    record (said_of_header h words.Answered) {
       keep_alives = (
-        turned s.header,
-        record { progress = progress_at (entry_of R.world (name_of s)) },
+        turned_header s.header,
+        record { progress = progress_at (entry_of R.world (session_id s)) },
       ) ∷ [];
     }
 
@@ -330,24 +335,27 @@ abbrev pub roused : State → SessionFields → SessionFields
 roused R s = if is_receiving_at (at_of R.world s) then record s { timer = restarted R.now } else s
 
 abbrev pub prompt_parts : State → Header → Prompt → Option SessionFields → Parts
-prompt_parts R h prompt None = keeps R (said_of h words.Idle)
+prompt_parts R h prompt None = keeps R (said_of_header h words.Idle)
 prompt_parts R h prompt (Some s) =
-    if s.header.acknowledged && takes_prompts (at_of R.world s) then puts R (roused R s) (prompted R h s prompt)
-    else keeps R (said_of h words.Idle)
+    if s.header.acknowledged && takes_prompts (at_of R.world s) then replaces_one R (roused R s) (prompted R h s prompt)
+    else keeps R (said_of_header h words.Idle)
 
 -- ---- timers
 
 -- below the limit: Finished again, or a NAK sequence in acknowledged mode
 abbrev pub repeats : State → World → SessionFields → At → AnswerFields
-repeats R V s At_waiting = record (said s words.Expired) { finished = s.finished ∷ [] }
-repeats R V s at = if s.header.acknowledged then record (said s words.Expired) { naks = asks R.mib V s }
-    else said s words.Expired
+repeats R V s At_waiting = record (said_word s words.Expired) { finished = s.finished ∷ [] }
+repeats R V s at = if s.header.acknowledged then record (said_word s words.Expired) { naks = asks R.mib V s }
+    else said_word s words.Expired
 
 abbrev pub fault_told : SessionFields → ℕ → Word → AnswerFields
-fault_told s condition word = record (said s word) { indications = tells.Fault (name_of s) condition ∷ [] }
+fault_told s condition word = record (said_word s word) { indications = tells.Fault (session_id s) condition ∷ [] }
 
 abbrev pub abandoned_told : SessionFields → ℕ → AnswerFields
-abandoned_told s condition = record (said s words.Faulted) { indications = tells.Abandoned (name_of s) condition ∷ [] }
+abandoned_told s condition = record (said_word s words.Faulted) {
+  indications = tells.Abandoned (session_id s) condition
+      ∷ [];
+}
 
 -- this entity, which is the destination, is at fault
 abbrev pub over_here : State → SessionFields → ℕ → SessionFields
@@ -360,22 +368,24 @@ over_here R s condition = record s {
 }
 
 abbrev pub gives_up : State → SessionFields → ℕ → Handler → At → Parts
-gives_up R s condition handlers.Ignore at = puts R (record s { timer = restarted R.now })
+gives_up R s condition handlers.Ignore at = replaces_one R (record s { timer = restarted R.now })
     (fault_told s condition words.Ignored)
-gives_up R s condition handlers.Cancel At_waiting = closes R (name_of s) (fault_told s condition words.Faulted)
-gives_up R s condition handlers.Cancel At_held = puts R (over_here R s condition) (said s words.Faulted)
-gives_up R s condition handlers.Cancel at = puts R (record s { cause = Some condition }) (said s words.Faulted)
-gives_up R s condition handlers.Abandon At_waiting = closes R (name_of s) (abandoned_told s condition)
-gives_up R s condition handlers.Abandon At_held = closes R (name_of s) (abandoned_told s condition)
-gives_up R s condition handlers.Abandon at = puts R (record s { is_abandoned = true }) (abandoned_told s condition)
+gives_up R s condition handlers.Cancel At_waiting = closes R (session_id s) (fault_told s condition words.Faulted)
+gives_up R s condition handlers.Cancel At_held = replaces_one R (over_here R s condition) (said_word s words.Faulted)
+gives_up R s condition handlers.Cancel at = replaces_one R (record s { cause = Some condition })
+    (said_word s words.Faulted)
+gives_up R s condition handlers.Abandon At_waiting = closes R (session_id s) (abandoned_told s condition)
+gives_up R s condition handlers.Abandon At_held = closes R (session_id s) (abandoned_told s condition)
+gives_up R s condition handlers.Abandon at = replaces_one R (record s { is_abandoned = true })
+    (abandoned_told s condition)
 
 abbrev pub due_parts : State → World → Due → Parts
 due_parts R V Nothing_due = keeps R (quiet Nothing)
 due_parts R V (Alive_due s) =
-    puts R (record s { alive_at = R.now }) (record (said s words.KeptAlive) {
-      keep_alives = (turned s.header, record { progress = progress_at (entry_of R.world (name_of s)) }) ∷ [];
+    replaces_one R (record s { alive_at = R.now }) (record (said_word s words.KeptAlive) {
+      keep_alives = (turned_header s.header, record { progress = progress_at (entry_of R.world (session_id s)) }) ∷ [];
     })
-due_parts R V (Stage_due s false) = puts R (record s { timer = passed R.now s.timer Again })
+due_parts R V (Stage_due s false) = replaces_one R (record s { timer = passed R.now s.timer Again })
     (repeats R V s (at_of R.world s))
 due_parts R V (Stage_due s true) =
     gives_up R s (fault_at s.header.acknowledged (at_of R.world s))
@@ -385,7 +395,7 @@ due_parts R V (Stage_due s true) =
 
 abbrev pub work_became : Option TransactionId → List Reply → Became
 work_became None replies = Nothing
-work_became (Some id) replies = replied id replies
+work_became (Some id) replies = became_reply id replies
 
 -- the outcome's condition, or that for which this entity cancelled the transaction
 abbrev pub caused : Option ℕ → FinishedFields → FinishedFields
@@ -404,13 +414,13 @@ ending_finished e = record {
 
 abbrev pub stage_outcome : SessionFields → Stage → Outcome
 stage_outcome s (Over ending) = record {
-  header = turned s.header;
+  header = turned_header s.header;
   finished = ending_finished ending;
   send = ending.is_sent;
 }
 stage_outcome s stage =
     record {
-      header = turned s.header;
+      header = turned_header s.header;
       finished = ending_finished
           (record { condition = 15; is_sent = false; at_fault = s.header.destination });
       send = false;
@@ -420,8 +430,8 @@ abbrev pub outcome_for : SessionFields → Option Entry → Outcome
 outcome_for s (Some e) = record (outcome_of e) { finished = caused s.cause (outcome_of e).finished }
 outcome_for s None = stage_outcome s s.stage
 
-abbrev pub waits : State → SessionFields → Outcome → SessionFields
-waits R s o = record s { stage = Waiting; finished = finished_octets o; timer = restarted R.now }
+abbrev pub waits_for_ack : State → SessionFields → Outcome → SessionFields
+waits_for_ack R s o = record s { stage = Waiting; finished = finished_octets o; timer = restarted R.now }
 
 abbrev pub conclusion_of : Outcome → Conclusion
 conclusion_of o = record {
@@ -431,28 +441,31 @@ conclusion_of o = record {
 }
 
 abbrev pub concluded : SessionFields → Outcome → Word → AnswerFields
-concluded s o word = record (said s word) { indications = tells.TransactionFinished (name_of s) (conclusion_of o) ∷ [] }
+concluded s o word = record (said_word s word) {
+  indications = tells.TransactionFinished (session_id s)
+      (conclusion_of o) ∷ [];
+}
 
 abbrev pub sends_it : SessionFields → Outcome → Word → AnswerFields
 sends_it s o word = record (concluded s o word) { finished = finished_octets o ∷ [] }
 
 abbrev pub finish_session : State → SessionFields → Outcome → Parts
 finish_session R s o =
-    if s.is_abandoned then closes R (name_of s) (said s words.Closed)
-    else if not o.send then closes R (name_of s) (concluded s o words.Closed)
-    else if not s.header.acknowledged then closes R (name_of s) (sends_it s o words.Closed)
-    else puts R (waits R s o) (sends_it s o words.Finished)
+    if s.is_abandoned then closes R (session_id s) (said_word s words.Closed)
+    else if not o.send then closes R (session_id s) (concluded s o words.Closed)
+    else if not s.header.acknowledged then closes R (session_id s) (sends_it s o words.Closed)
+    else replaces_one R (waits_for_ack R s o) (sends_it s o words.Finished)
 
 abbrev pub finish_parts : State → Option SessionFields → Parts
 finish_parts R None = keeps R (quiet Nothing)
-finish_parts R (Some s) = finish_session R s (outcome_for s (entry_of R.world (name_of s)))
+finish_parts R (Some s) = finish_session R s (outcome_for s (entry_of R.world (session_id s)))
 
 -- ---- the user's request to cancel (condition code 15)
 
 abbrev pub cancel_stage : State → List Reply → SessionFields → Stage → Parts
-cancel_stage R replies s (Held eof) = puts R (over_here R s 15) (said s words.Cancelled)
-cancel_stage R replies s Known = keeps R (quiet (replied (name_of s) replies))
-cancel_stage R replies s stage = keeps R (said s words.Idle)
+cancel_stage R replies s (Held eof) = replaces_one R (over_here R s 15) (said_word s words.Cancelled)
+cancel_stage R replies s Known = keeps R (quiet (became_reply (session_id s) replies))
+cancel_stage R replies s stage = keeps R (said_word s words.Idle)
 
 abbrev pub cancel_parts : State → List Reply → TransactionId → Option SessionFields → Parts
 cancel_parts R replies id None = keeps R (quiet (Said id words.Unknown))
@@ -483,8 +496,8 @@ abbrev pub parts : State → Input → Parts
 parts R i = parts_of (later (now_of i) R) (run R.world (handed R i)) (replies R.world (handed R i)) i
 
 -- the world is what the core makes of what was handed on, and of nothing else
-abbrev pub after : State → Input → State
-after R i = record {
+abbrev pub after_input : State → Input → State
+after_input R i = record {
   world = run R.world (handed R i);
   mib = R.mib;
   now = max R.now (now_of i);
@@ -493,16 +506,12 @@ after R i = record {
 }
 
 abbrev pub turn : State → Input → State × AnswerFields
-turn R i = (after R i, (parts R i).answer)
+turn R i = (after_input R i, (parts R i).answer)
 
 abbrev pub after_all : State → List Input → State
 after_all R [] = R
-after_all R (i ∷ is) = after_all (after R i) is
-
-abbrev pub all_answers : State → List Input → List AnswerFields
-all_answers R [] = []
-all_answers R (i ∷ is) = (parts R i).answer ∷ all_answers (after R i) is
+after_all R (i ∷ is) = after_all (after_input R i) is
 
 abbrev pub all_handed : State → List Input → List Event
 all_handed R [] = []
-all_handed R (i ∷ is) = handed R i ++ all_handed (after R i) is
+all_handed R (i ∷ is) = handed R i ++ all_handed (after_input R i) is

@@ -4,8 +4,9 @@ ghost use Rattle.std.specs.Prelude.{◌≡◌, ◌∷◌, [], ◌<◌, ◌^◌, 
 ghost use Rattle.cfdp_pdus.specs.Bits.{fss};
 ghost use Rattle.cfdp_pdus.specs.Canonical.{IsHeader};
 ghost use Rattle.cfdp_directives.specs.Spelling.{IsSizedAck};
-ghost use Rattle.cfdp_receiver.specs.Machine.{joined, listed, silent};
-ghost use Rattle.cfdp_receiver.specs.State.{turned};
+ghost use Rattle.cfdp_receiver.specs.Machine.{listed};
+ghost use Rattle.cfdp_receiver.specs.code.Machine.{all_naks, silent};
+ghost use Rattle.cfdp_receiver.specs.State.{turned_header};
 ghost use Rattle.cfdp_receiver.specs.declared.answer.Became.TheVariants.{Nothing, Said, Replied};
 
 use crate::{Became, Indication, Word};
@@ -30,7 +31,7 @@ pub struct NakSequence {
 impl Model for NakSequence {
     ghost use Rattle.std.specs.Prelude.{List};
     ghost use Rattle.cfdp_directives.specs.Reading.{NakFields};
-    ghost use Rattle.cfdp_receiver.specs.Machine.{IsAsking, sequence_of};
+    ghost use Rattle.cfdp_receiver.specs.code.Machine.{IsAsking, sequence_of};
 
     ghost Value = { List NakFields };
 
@@ -54,13 +55,14 @@ pub struct Answer {
 }
 
 impl Model for Answer {
-    ghost use Rattle.cfdp_receiver.specs.Machine.{AnswerParts, IsSendable, joined, listed};
+    ghost use Rattle.cfdp_receiver.specs.Machine.{AnswerParts, listed};
+    ghost use Rattle.cfdp_receiver.specs.code.Machine.{IsSendable, all_naks};
 
     ghost Value = { AnswerParts };
 
     ghost view = { λ a. record {
       acks = listed a.ack;
-      naks = joined a.naks;
+      naks = all_naks a.naks;
       keep_alives = listed a.keep_alive;
       finished = listed a.finished;
       indications = listed a.indication;
@@ -79,7 +81,8 @@ pub(crate) struct Unsent {
 }
 
 impl Model for Unsent {
-    ghost use Rattle.cfdp_receiver.specs.Machine.{AnswerParts, listed, silent};
+    ghost use Rattle.cfdp_receiver.specs.Machine.{AnswerParts, listed};
+    ghost use Rattle.cfdp_receiver.specs.code.Machine.{silent};
 
     ghost Value = { AnswerParts };
 
@@ -114,7 +117,7 @@ impl Unsent {
 
 /// The header of a PDU that is sent: toward the sender, and in all else as the PDU that came.
 pub(crate) fn turned(header: &Header) -> Header
-    ensures { result ≡ turned header.now }
+    ensures { result ≡ turned_header header.now }
 {
     Header {
         toward_sender: true,
@@ -181,7 +184,7 @@ impl Answer {
 
     /// With a sequence of NAK PDUs, if there is one.
     pub(crate) fn with_naks(self, naks: Option<NakSequence>) -> Answer
-        ensures { result ≡ record self { naks = joined naks } }
+        ensures { result ≡ record self { naks = all_naks naks } }
     {
         Answer {
             ack: self.ack,

@@ -4,7 +4,7 @@ ghost use Rattle.std.specs.Prelude.{◌≡◌, ◌<◌, ◌^◌, ◌∷◌, [], 
 ghost use Rattle.cfdp_pdus.specs.Bits.{fss};
 ghost use Rattle.cfdp_pdus.specs.Canonical.{IsHeader, IsSizedEof};
 ghost use Rattle.cfdp_directives.specs.Spelling.{IsSizedAck};
-ghost use Rattle.cfdp_sessions.specs.Sessions.{SessionFields, name_of};
+ghost use Rattle.cfdp_sessions.specs.Sessions.{SessionFields, session_id};
 ghost use Rattle.cfdp_sessions.specs.declared.session.Stage.TheVariants.{Held as HeldStage, Known as KnownStage};
 ghost use Rattle.cfdp_transactions.specs.Entry.{id_of};
 ghost use Rattle.cfdp_transactions.specs.declared.event.Event.TheVariants.{Metadata as MetadataCame};
@@ -15,7 +15,8 @@ ghost use Rattle.cfdp_receiver.specs.State.{MetadataPdu, DataPdu, EofPdu, AckPdu
 ghost use Rattle.cfdp_receiver.specs.declared.answer.Indication.TheVariants.{FileSegmentRecv};
 ghost use Rattle.cfdp_receiver.specs.Handing.{is_ours};
 ghost use Rattle.cfdp_receiver.specs.Due.{is_receiving_at};
-ghost use Rattle.cfdp_receiver.specs.Machine.{AtIndex, IsInOrder, begins_no_gap, IsSessionAt, MachineFields, Turns, answer_in, at_moment, heard_in, in_world, joined, listed, with_session};
+ghost use Rattle.cfdp_receiver.specs.Machine.{MachineFields, answer_in, listed};
+ghost use Rattle.cfdp_receiver.specs.code.Machine.{AtIndex, IsInOrder, begins_no_gap, IsSessionAt, Turns, at_moment, machine_heard, in_world, all_naks, with_session};
 ghost use Rattle.cfdp_receiver.specs.Laws.{AreKnown};
 ghost use Rattle.cfdp_receiver.specs.Turning.{acked, acks_only, asks_at_once, described, foreign, is_immediate, is_kept_by, progress_at, prompted, quiet, roused, stage_in, takes_prompts};
 
@@ -273,7 +274,7 @@ impl Machine {
         requires some { IfSome found (λ index. session_of self.old.state (id_of header.now)
             ≡ slice_get self.old.state.sessions index) }
         requires within { IfSome found (λ index. index < length self.old.state.sessions) }
-        requires named { IfSome found (λ index. AtIndex self.old.state.sessions index (λ s. name_of s
+        requires named { IfSome found (λ index. AtIndex self.old.state.sessions index (λ s. session_id s
             ≡ id_of header.now)) }
         requires none { IfNone found (session_of self.old.state (id_of header.now) ≡ None) }
         requires header { IsHeader header.now }
@@ -335,7 +336,7 @@ impl Machine {
     fn restarts(&mut self, index: usize)
         requires { index < length self.old.state.sessions }
         ensures { (U : World) (session : SessionFields) → slice_get self.old.state.sessions index ≡ Some session
-            → is_receiving_at (at_of U session) ≡ true → self.new ≡ heard_in U self.old session }
+            → is_receiving_at (at_of U session) ≡ true → self.new ≡ machine_heard U self.old session }
     {
         let timer = Timer::start(self.latest);
         self.sessions.set_timer(index, timer);
@@ -388,8 +389,8 @@ impl Machine {
         requires known { session.now.stage ≡ KnownStage }
         requires immediate { is_immediate self.now.state.mib.nak_mode ≡ true }
         requires acknowledged { session.now.header.acknowledged ≡ true }
-        ensures { (U : World) → low ≡ progress_at (entry_of U (name_of session.now))
-            → joined result ≡ asks_at_once (record self.now.state { world = U }) self.now.state.world session.now }
+        ensures { (U : World) → low ≡ progress_at (entry_of U (session_id session.now))
+            → all_naks result ≡ asks_at_once (record self.now.state { world = U }) self.now.state.world session.now }
     {
         if self.at(session) != At::Receiving {
             return None;
@@ -565,7 +566,7 @@ impl Machine {
     /// What a Prompt PDU is answered with: a NAK sequence, or a Keep Alive PDU.
     fn prompted(&self, header: &Header, session: &Session, prompt: Prompt) -> Answer
         requires known { AreKnown self.now.state }
-        requires found { session_of self.now.state (name_of session.now) ≡ Some session.now }
+        requires found { session_of self.now.state (session_id session.now) ≡ Some session.now }
         requires takes { takes_prompts (at_of self.now.state.world session.now) ≡ true }
         ensures { (M : MachineFields) → answer_in M result ≡ prompted self.now.state header.now session.now prompt }
     {

@@ -1,6 +1,6 @@
 //! What is true of the receiver, whatever comes. These functions do nothing: their contracts are the laws.
 
-ghost use Rattle.cfdp_receiver.specs.Laws.{HandsOn, HeadlineHolds, FewEvents, FewPdus, AcknowledgedOnce, OthersStay, UnrecognizedIsTrue, TerminatedIsTrue, ClosedIsOver, FinishedOnly, NoneAgain, NotBegunAnew, RememberedStays, AtMostOnce, NaksAsk, ExactlyMissing, EndsStayThere, NaksAskOnceIn, NaksAskOnce, FewNakPdus, FewRequests, ServedOnce, KnownIsEntry, AnsweredIsDelivered, AreApart, SentAtMost, NoneAfterAck, EntriesStay, OthersKeepEntries, WorkKeepsOthers};
+ghost use Rattle.cfdp_receiver.specs.Laws.{HandsOn, HeadlineHolds, FewEvents, FewPdus, AcknowledgedOnce, OthersStay, UnrecognizedIsTrue, TerminatedIsTrue, ClosedIsOver, FinishedOnly, NoneAgain, NotBegunAnew, RememberedStays, AtMostOnce, NaksAsk, ExactlyMissing, EndsStayThere, NaksAskOnceIn, NaksAskOnce, FewNakPdus, FewRequests, ServedOnce, KnownIsEntry, AnsweredIsDelivered, SessionsAreDistinct, SentAtMost, NoneAfterAck, EntriesStay, OthersKeepEntries, WorkKeepsOthers};
 
 /// The world of a receiver is the core's own run of the events that its inputs handed on.
 pub fn hands_on()
@@ -113,7 +113,7 @@ pub fn work_keeps_others()
 
 /// No two sessions have one name.
 pub fn are_apart()
-    ensures { AreApart }
+    ensures { SessionsAreDistinct }
 {}
 
 /// The Finished PDU of a transaction is sent at most as often as the ACK limit says, the first time included, unless

@@ -6,13 +6,15 @@ ghost use Rattle.cfdp_pdus.specs.Bits.{fss};
 ghost use Rattle.cfdp_pdus.specs.Canonical.{IsHeader};
 ghost use Rattle.cfdp_directives.specs.Spelling.{IsSizedRange};
 ghost use Rattle.cfdp_sessions.specs.Closed.{with_name};
-ghost use Rattle.cfdp_sessions.specs.Sessions.{AreDistinct, IsSizedStage, SessionFields, name_of, without};
+ghost use Rattle.cfdp_sessions.specs.Sessions.{AreDistinct, SessionFields, session_id, without_session};
+ghost use Rattle.cfdp_sessions.specs.code.Sessions.{IsSizedStage};
 ghost use Rattle.cfdp_transactions.specs.Sound.{Sound};
 ghost use Rattle.cfdp_transactions.specs.World.{World, entry_of};
 ghost use Rattle.cfdp_receiver.specs.State.{at_of, begin, session_of};
 ghost use Rattle.cfdp_receiver.specs.Handing.{is_ours, later};
-ghost use Rattle.cfdp_receiver.specs.Machine.{AtIndex, IsMib, IsSessionAt, IsTaking, awaited_of, heard_in, joined};
-ghost use Rattle.cfdp_receiver.specs.Turning.{absent, all_of, asks, asks_entry, asks_where_awaiting, begun, gaps_after, is_immediate, is_news, most_requests, progress_at, sequence};
+ghost use Rattle.cfdp_receiver.specs.Machine.{IsMib};
+ghost use Rattle.cfdp_receiver.specs.code.Machine.{AtIndex, IsSessionAt, IsTaking, awaited_of, machine_heard, all_naks};
+ghost use Rattle.cfdp_receiver.specs.Turning.{word_without_session, all_of, asks, asks_entry, asks_where_awaiting, begun_session, gaps_after, is_immediate, is_news, most_nak_requests, progress_at, sequence};
 
 use crate::answering::{Answer, NakSequence};
 use crate::concluded::Concluded;
@@ -45,7 +47,7 @@ pub(crate) struct Machine {
 
 impl Model for Machine {
     ghost use Rattle.std.specs.Coded.{codes};
-    ghost use Rattle.cfdp_transactions.specs.Engine.{nodes_code};
+    ghost use Rattle.cfdp_transactions.specs.code.Engine.{nodes_code};
     ghost use Rattle.cfdp_receiver.specs.Machine.{IsMib, MachineFields};
 
     ghost Value = { MachineFields };
@@ -101,7 +103,7 @@ impl Machine {
     /// The index of a transaction's session, if it has one. Cost: a pass over the sessions.
     pub(crate) fn find(&self, id: TransactionId) -> Option<usize>
         ensures some { IfSome result (IsSessionAt self.now.state id) }
-        ensures named { IfSome result (λ index. AtIndex self.now.state.sessions index (λ s. name_of s ≡ id)) }
+        ensures named { IfSome result (λ index. AtIndex self.now.state.sessions index (λ s. session_id s ≡ id)) }
         ensures none { IfNone result (session_of self.now.state id ≡ None) }
     {
         self.sessions.find(id)
@@ -126,7 +128,7 @@ impl Machine {
     pub(crate) fn begun(&self, alloc: Global, header: Header, stage: Stage) -> Session
         requires header { IsHeader header }
         requires sized { IsSizedStage header stage }
-        ensures { result ≡ begun self.now.state header stage }
+        ensures { result ≡ begun_session self.now.state header stage }
     {
         Session {
             header,
@@ -141,7 +143,7 @@ impl Machine {
 
     /// The word for a PDU of a transaction that has no session.
     pub(crate) fn absent(&self, id: TransactionId) -> Word
-        ensures { result ≡ absent self.now.state id }
+        ensures { result ≡ word_without_session self.now.state id }
     {
         if self.closed.remembers(id) {
             Word::Idle
@@ -155,7 +157,7 @@ impl Machine {
     pub(crate) fn close(&mut self, index: usize, id: TransactionId)
         ensures { self.new ≡ record self.old {
           state = record self.old.state
-              { sessions = without self.old.state.sessions id; closed = with_name self.old.state.closed id };
+              { sessions = without_session self.old.state.sessions id; closed = with_name self.old.state.closed id };
         } }
     {
         self.sessions.look_first(index);
@@ -192,7 +194,8 @@ impl Machine {
     pub(crate) fn hear(&mut self, index: usize, before: Option<Gaps>)
         requires { index < length self.old.state.sessions }
         ensures { (U : World) (session : SessionFields) → slice_get self.old.state.sessions index ≡ Some session
-            → option_map (λ gaps. gaps.items) before ≡ awaited_of U session → self.new ≡ heard_in U self.old session }
+            → option_map (λ gaps. gaps.items) before ≡ awaited_of U session → self.new
+            ≡ machine_heard U self.old session }
     {
         self.sound();
         if self.is_news(self.session(index), before) {
@@ -262,8 +265,8 @@ impl Machine {
 
     /// The NAK sequence for all that is missing of a transaction that the core knows.
     fn asks_for_gaps(&self, session: &Session) -> Option<NakSequence>
-        ensures { joined result ≡ asks_entry self.now.state.mib session.now.header 0
-            (entry_of self.now.state.world (name_of session.now)) }
+        ensures { all_naks result ≡ asks_entry self.now.state.mib session.now.header 0
+            (entry_of self.now.state.world (session_id session.now)) }
     {
         self.sound();
         let id = session.name();
@@ -275,7 +278,7 @@ impl Machine {
     /// The NAK sequence for a session: for the Metadata PDU and the whole file where these did not come, and else for
     /// all that is missing.
     pub(crate) fn asks(&self, session: &Session) -> Option<NakSequence>
-        ensures { joined result ≡ asks self.now.state.mib self.now.state.world session.now }
+        ensures { all_naks result ≡ asks self.now.state.mib self.now.state.world session.now }
     {
         match session.stage {
             Stage::Held(eof) => Some(self.asks_for_all(session, eof.size)),
@@ -286,7 +289,7 @@ impl Machine {
 
     /// The same, where the transaction is in acknowledged mode and waits for what is missing.
     pub(crate) fn asks_where_awaiting(&self, session: &Session) -> Option<NakSequence>
-        ensures { joined result ≡ asks_where_awaiting self.now.state.mib self.now.state.world session.now }
+        ensures { all_naks result ≡ asks_where_awaiting self.now.state.mib self.now.state.world session.now }
     {
         match self.at(session) {
             At::Awaiting(_) if session.header.acknowledged => self.asks(session),

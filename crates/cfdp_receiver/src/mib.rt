@@ -1,8 +1,8 @@
 //! What is left to the management of a receiving entity.
 
 ghost use Rattle.std.specs.Prelude.{◌≡◌, ◌≤◌, IfNone};
-ghost use Rattle.cfdp_receiver.specs.Machine.{IsMib, first_fault};
-ghost use Rattle.cfdp_receiver.specs.Turning.{most_requests};
+ghost use Rattle.cfdp_receiver.specs.Machine.{IsMib, mib_fault};
+ghost use Rattle.cfdp_receiver.specs.Turning.{most_nak_requests};
 
 /// What is done at a fault (CCSDS 727.0-B-5, the fault handling procedures).
 #[derive(Clone, Copy, Debug, PartialEq, Eq)]
@@ -83,7 +83,7 @@ pub enum MibFault {
 impl Mib {
     /// What is wrong with the values, if anything, in the order of [`MibFault`].
     pub fn fault(&self) -> Option<MibFault>
-        ensures fault { result ≡ first_fault self.now }
+        ensures fault { result ≡ mib_fault self.now }
         ensures none { IfNone result (IsMib self.now) }
     {
         let watched = self.check.interval == 0 || self.inactivity.interval == 0;
@@ -107,7 +107,7 @@ impl Mib {
     /// How many segment requests a NAK PDU has at most: by the longest header of 28 octets, the directive code, a scope
     /// of 16 octets, requests of 16 octets each and a CRC of 2. There are never more than 34.
     pub fn most_requests(&self) -> usize
-        ensures { result ≡ most_requests self.now }
+        ensures { result ≡ most_nak_requests self.now }
     {
         let room = usize::from(self.longest_nak).saturating_sub(47) / 16;
         room.min(34)

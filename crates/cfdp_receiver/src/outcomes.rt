@@ -7,7 +7,8 @@ ghost use Rattle.cfdp_transactions.specs.Writable.{IsWritable, finished_octets, 
 ghost use Rattle.cfdp_receiver.specs.State.{CancelAsked, Finish, ForgetAsked, Work};
 ghost use Rattle.cfdp_receiver.specs.Due.{first_over};
 ghost use Rattle.cfdp_receiver.specs.Laws.{AreKnown};
-ghost use Rattle.cfdp_receiver.specs.Machine.{AtIndex, Concludes, Turns, at_moment, finished_for};
+ghost use Rattle.cfdp_receiver.specs.Machine.{finished_for};
+ghost use Rattle.cfdp_receiver.specs.code.Machine.{AtIndex, Concludes, Turns, at_moment};
 ghost use Rattle.cfdp_receiver.specs.Turning.{conclusion_of, stage_outcome};
 
 use crate::answering::{Answer, turned};

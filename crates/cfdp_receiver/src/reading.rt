@@ -5,7 +5,8 @@ ghost use Rattle.cfdp_pdus.specs.Canonical.{IsHeader};
 ghost use Rattle.cfdp_pdus.specs.First.{pdu_at};
 ghost use Rattle.cfdp_pdus.specs.Sound.{IsNoFileData};
 ghost use Rattle.cfdp_pdus.specs.declared.fault.PduFault.TheVariants.{Memory};
-ghost use Rattle.cfdp_receiver.specs.Heard.{IsHearable, IsMetadata, input_at, input_of, other_input};
+ghost use Rattle.cfdp_receiver.specs.Heard.{IsMetadata, input_at, other_input};
+ghost use Rattle.cfdp_receiver.specs.code.Heard.{IsHearable, input_of};
 ghost use Rattle.cfdp_receiver.specs.State.{DataPdu};
 ghost use Rattle.cfdp_receiver.specs.declared.reading.Dropped.TheVariants.{Crc as CrcDropped, Pdu as PduDropped};
 

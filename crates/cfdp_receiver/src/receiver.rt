@@ -8,7 +8,7 @@ ghost use Rattle.cfdp_pdus.specs.First.{pdu_at};
 ghost use Rattle.cfdp_pdus.specs.Sound.{IsNoFileData};
 ghost use Rattle.cfdp_pdus.specs.declared.fault.PduFault.TheVariants.{Memory as NoMemory};
 ghost use Rattle.cfdp_transactions.specs.declared.event.Event.TheVariants.{Metadata as MetadataCame};
-ghost use Rattle.cfdp_sessions.specs.Sessions.{AreDistinct, name_of};
+ghost use Rattle.cfdp_sessions.specs.Sessions.{AreDistinct, session_id};
 ghost use Rattle.cfdp_status.specs.declared.transaction.TransactionId.{TransactionId as TransactionIdOf};
 ghost use Rattle.cfdp_transactions.specs.Sound.{Sound};
 ghost use Rattle.cfdp_transactions.specs.Entry.{id_of};
@@ -19,9 +19,10 @@ ghost use Rattle.cfdp_receiver.specs.State.{AckPdu, CancelAsked, DataPdu, EofPdu
 ghost use Rattle.cfdp_receiver.specs.Due.{IsSet, first_due, first_over};
 ghost use Rattle.cfdp_receiver.specs.Laws.{AreKnown, EndsThere};
 ghost use Rattle.cfdp_receiver.specs.Heard.{IsDropped, IsUnread, heard, input_at};
-ghost use Rattle.cfdp_receiver.specs.Machine.{AtIndex, IsInOrder, IsNotMade, IsWhole, answer_in, first_fault, has_come, is_any_due};
+ghost use Rattle.cfdp_receiver.specs.Machine.{IsNotMade, answer_in, mib_fault, has_come, is_any_due};
+ghost use Rattle.cfdp_receiver.specs.code.Machine.{AtIndex, IsInOrder, IsWholeReceiver};
 ghost use Rattle.cfdp_receiver.specs.Sent.{IsNotWritten, as_sent, crc_len, longest_sealed, pdus_of};
-ghost use Rattle.cfdp_receiver.specs.Turning.{after, most_requests, turn};
+ghost use Rattle.cfdp_receiver.specs.Turning.{after_input, most_nak_requests, turn};
 
 use crate::answering::{Answer, Unsent};
 use crate::machine::Machine;
@@ -75,8 +76,9 @@ pub struct Receiver {
 
 impl Model for Receiver {
     ghost use Rattle.std.specs.Coded.{codes};
-    ghost use Rattle.cfdp_transactions.specs.Engine.{nodes_code};
-    ghost use Rattle.cfdp_receiver.specs.Machine.{IsWhole, MachineFields};
+    ghost use Rattle.cfdp_transactions.specs.code.Engine.{nodes_code};
+    ghost use Rattle.cfdp_receiver.specs.Machine.{MachineFields};
+    ghost use Rattle.cfdp_receiver.specs.code.Machine.{IsWholeReceiver};
 
     ghost Value = { MachineFields };
 
@@ -84,7 +86,7 @@ impl Model for Receiver {
 
     ghost view = { λ r. r.machine };
 
-    ghost invariant = { λ r. IsWhole r.machine.state };
+    ghost invariant = { λ r. IsWholeReceiver r.machine.state };
 }
 
 /// The most octets of a Finished PDU with its CRC.
@@ -99,7 +101,7 @@ impl Receiver {
     /// the memory of 64 sessions and of 256 names, which is all that it takes but for Metadata PDUs and outcomes.
     pub fn new(alloc: Global, mib: Mib, entity: Entity) -> Result<Receiver, NotMade>
         ensures ok { IfOk result (λ receiver. receiver.state ≡ begin mib entity) }
-        ensures fit { OnOk result (first_fault mib ≡ None) }
+        ensures fit { OnOk result (mib_fault mib ≡ None) }
         ensures free { OnOk result (entity.table ≡ []) }
         ensures err { IfErr result (IsNotMade mib entity) }
     {
@@ -124,7 +126,7 @@ impl Receiver {
             ≡ None }
         ensures ends { EndsThere self.now.state.world }
         ensures set { IsSet self.now.state.mib }
-        ensures asks { 1 ≤ most_requests self.now.state.mib }
+        ensures asks { 1 ≤ most_nak_requests self.now.state.mib }
     {
         self.machine.entity.sound();
         self.machine.sessions.distinct();
@@ -132,7 +134,7 @@ impl Receiver {
 
     /// What is true at all times stays true at each input. Does nothing.
     fn stays_whole(&self)
-        ensures { (input : Input) → IsWhole (after self.now.state input) }
+        ensures { (input : Input) → IsWholeReceiver (after_input self.now.state input) }
     {
         cfdp_transactions::laws::only_take_removes();
         cfdp_transactions::laws::take_removes();
@@ -224,7 +226,7 @@ impl Receiver {
         requires some { IfSome found (λ index. session_of self.old.state (id_of header.now)
             ≡ slice_get self.old.state.sessions index) }
         requires within { IfSome found (λ index. index < length self.old.state.sessions) }
-        requires named { IfSome found (λ index. AtIndex self.old.state.sessions index (λ s. name_of s
+        requires named { IfSome found (λ index. AtIndex self.old.state.sessions index (λ s. session_id s
             ≡ id_of header.now)) }
         requires none { IfNone found (session_of self.old.state (id_of header.now) ≡ None) }
         requires header { IsHeader header.now }

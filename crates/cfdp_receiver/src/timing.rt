@@ -2,14 +2,15 @@
 
 ghost use Rattle.std.specs.Prelude.{◌≡◌, ◌<◌, ◌^◌, ◌||◌, ◌∷◌, [], true, false, ℕ, length, Some};
 ghost use Rattle.std.specs.Option.{option_map};
-ghost use Rattle.cfdp_sessions.specs.Sessions.{name_of, replaced};
+ghost use Rattle.cfdp_sessions.specs.Sessions.{session_id, replaced};
 ghost use Rattle.cfdp_transactions.specs.declared.event.Event.TheVariants.{Cancel as CancelCame};
 ghost use Rattle.cfdp_transactions.specs.Next.{run};
 ghost use Rattle.cfdp_receiver.specs.declared.mib.Handler.TheVariants.{Ignore, Cancel, Abandon};
 ghost use Rattle.cfdp_receiver.specs.State.{At_awaiting, Expire, at_of};
 ghost use Rattle.cfdp_receiver.specs.Due.{Alive_due, Stage_due, expiry_by, expiry_of, fault_at, first_due, handler_at, is_alive_due, terms_at};
 ghost use Rattle.cfdp_receiver.specs.Handing.{due_events, where_known};
-ghost use Rattle.cfdp_receiver.specs.Machine.{AtIndex, Turns, has_come, is_any_due, in_world, is_expired, is_within, timer_in};
+ghost use Rattle.cfdp_receiver.specs.Machine.{has_come, is_any_due};
+ghost use Rattle.cfdp_receiver.specs.code.Machine.{AtIndex, Turns, in_world, is_expired, is_within, timer_in};
 ghost use Rattle.cfdp_receiver.specs.Turning.{over_here};
 
 use crate::answering::{Answer, turned};
@@ -354,7 +355,7 @@ impl Machine {
     fn hand_cancel(&mut self, index: usize)
         requires { index < length self.old.state.sessions }
         ensures { AtIndex self.old.state.sessions index (λ s. self.new
-            ≡ in_world (run self.old.state.world (where_known s.stage (CancelCame (name_of s) ∷ []))) self.old) }
+            ≡ in_world (run self.old.state.world (where_known s.stage (CancelCame (session_id s) ∷ []))) self.old) }
     {
         let session = self.session(index);
         if session.stage == Stage::Known {

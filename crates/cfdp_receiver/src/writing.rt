@@ -4,7 +4,8 @@ ghost use Rattle.std.specs.Prelude.{◌≡◌, ◌≤◌, drop, length, map, sli
 ghost use Rattle.std.specs.Option.{option_map};
 ghost use Rattle.cfdp_receiver.specs.Machine.{MachineFields, finished_for};
 ghost use Rattle.cfdp_receiver.specs.declared.receiver.NotWritten.TheVariants.{NoMore, TooShort};
-ghost use Rattle.cfdp_receiver.specs.Sent.{IsNotWritten, after_ack, after_naks, nak_octets, pdus_of};
+ghost use Rattle.cfdp_receiver.specs.Sent.{IsNotWritten, pdus_of};
+ghost use Rattle.cfdp_receiver.specs.code.Sent.{after_ack, after_naks, nak_octets};
 ghost use Rattle.cfdp_retransmission.specs.Naks.{naks};
 ghost use Rattle.cfdp_transactions.specs.Writable.{longest_finished};
 

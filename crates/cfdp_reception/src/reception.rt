@@ -26,7 +26,7 @@ pub struct Reception {
 
 impl Model for Reception {
     ghost use Rattle.std.specs.Coded.{codes};
-    ghost use Rattle.cfdp_transactions.specs.Engine.{nodes_code};
+    ghost use Rattle.cfdp_transactions.specs.code.Engine.{nodes_code};
     ghost use Rattle.cfdp_reception.specs.Reception.{ReceptionFields};
 
     ghost Value = { ReceptionFields };

@@ -1,20 +1,20 @@
 -- What `cfdp run` writes of what a receiving entity answers to an input.
 --     send_line octets          the line of a PDU that is sent
---     told label id             an indication, and whose transaction it is about
+--     told_label label id       an indication, and whose transaction it is about
 --     ended_text end            how a transaction ended
 --     told_text, told_line      an indication, and its line
 --     word_text word            a word of the receiver's own
 --     is_taken reply            a reply that hands out an outcome: the receiver has a word for it, and never answers so
 --     replied_line id reply     the line of a reply of the core
 --     became_text became        the line of what became of an input, and nothing where there was nothing to do
---     pdus_in a                 the PDUs that an answer sends, in order, without a CRC
---     send_lines, told_lines    the lines of all PDUs, which have a CRC where `mib` says so;  of all indications
+--     answer_pdus a             the PDUs that an answer sends, in order, without a CRC
+--     send_lines, indication_lines  the lines of all PDUs, which have a CRC where `mib` says so;  of all indications
 --     answer_text mib a         all lines of an answer
 --     dropped_line why          the line of octets that are no PDU
 use Rattle.std.specs.Prelude.{ℕ, Bool, true, false, if◌then◌else◌, List, [], ◌∷◌, ◌++◌, map, codes}
 use Rattle.std.specs.List.{flat_map}
 use Rattle.hex.specs.Hex.{encode_lower}
-use Rattle.cfdp_status.specs.Transaction.{name_of}
+use Rattle.cfdp_status.specs.Transaction.{transaction_name}
 use Rattle.cfdp_status.specs.declared.transaction.TransactionId.{TransactionId}
 use Rattle.cfdp_pdus.specs.declared.fault.PduFault.TheVariants as pdu
 use Rattle.cfdp_crc.specs.declared.sealing.CrcFault.TheVariants as crc
@@ -38,8 +38,8 @@ use Rattle.cfdp_receiver.specs.Sent.{as_sent}
 abbrev pub send_line : List ℕ → List ℕ
 send_line octets = line (codes "send " ++ encode_lower octets)
 
-unfoldable pub told : List ℕ → TransactionId → List ℕ
-told label id = codes "tell " ++ label ++ name_of id
+unfoldable pub told_label : List ℕ → TransactionId → List ℕ
+told_label label id = codes "tell " ++ label ++ transaction_name id
 
 abbrev pub delivery_text : Bool → List ℕ
 delivery_text true = codes " incomplete"
@@ -50,13 +50,13 @@ ended_text end = labelled (codes " ") end.condition ++ delivery_text end.incompl
     ++ labelled (codes " ") end.file_status
 
 abbrev pub told_text : Indication → List ℕ
-told_text (MetadataRecv id described) = told (codes "metadata ") id
-told_text (FileSegmentRecv id offset len) = told (codes "segment ") id ++ labelled (codes " ") offset
+told_text (MetadataRecv id described) = told_label (codes "metadata ") id
+told_text (FileSegmentRecv id offset len) = told_label (codes "segment ") id ++ labelled (codes " ") offset
     ++ labelled (codes " ") len
-told_text (EofRecv id) = told (codes "eof ") id
-told_text (TransactionFinished id end) = told (codes "finished ") id ++ ended_text end
-told_text (Fault id condition) = told (codes "fault ") id ++ labelled (codes " ") condition
-told_text (Abandoned id condition) = told (codes "abandoned ") id ++ labelled (codes " ") condition
+told_text (EofRecv id) = told_label (codes "eof ") id
+told_text (TransactionFinished id end) = told_label (codes "finished ") id ++ ended_text end
+told_text (Fault id condition) = told_label (codes "fault ") id ++ labelled (codes " ") condition
+told_text (Abandoned id condition) = told_label (codes "abandoned ") id ++ labelled (codes " ") condition
 
 abbrev pub told_line : Indication → List ℕ
 told_line indication = line (told_text indication)
@@ -83,16 +83,17 @@ is_taken (replied.Taken outcome) = true
 is_taken reply = false
 
 abbrev pub replied_line : TransactionId → Reply → List ℕ
-replied_line id reply = if is_taken reply then line (name_of id ++ word (codes "taken")) else reply_line id reply
+replied_line id reply = if is_taken reply then line (transaction_name id ++ word (codes "taken"))
+    else reply_line id reply
 
 abbrev pub became_text : Became → List ℕ
 became_text Nothing = []
 became_text NotOurs = not_ours
-became_text (Said id said) = line (name_of id ++ word (word_text said))
+became_text (Said id said) = line (transaction_name id ++ word (word_text said))
 became_text (Replied id reply) = replied_line id reply
 
-abbrev pub pdus_in : AnswerFields → List (List ℕ)
-pdus_in a =
+abbrev pub answer_pdus : AnswerFields → List (List ℕ)
+answer_pdus a =
     map (λ ack. ack_pdu ack.0 ack.1) a.acks
     ++ map (λ nak. nak_pdu nak.header nak.scope nak.requests) a.naks
     ++ map (λ keep_alive. keep_alive_pdu keep_alive.0 keep_alive.1) a.keep_alives
@@ -101,11 +102,11 @@ pdus_in a =
 abbrev pub send_lines : Mib → List (List ℕ) → List ℕ
 send_lines mib pdus = flat_map (λ octets. send_line (as_sent mib octets)) pdus
 
-abbrev pub told_lines : List Indication → List ℕ
-told_lines indications = flat_map told_line indications
+abbrev pub indication_lines : List Indication → List ℕ
+indication_lines indications = flat_map told_line indications
 
 abbrev pub answer_text : Mib → AnswerFields → List ℕ
-answer_text mib a = send_lines mib (pdus_in a) ++ told_lines a.indications ++ became_text a.became
+answer_text mib a = send_lines mib (answer_pdus a) ++ indication_lines a.indications ++ became_text a.became
 
 abbrev pub dropped_line : Dropped → List ℕ
 dropped_line (dropped.Crc crc.Truncated) = fault_line pdu.Truncated

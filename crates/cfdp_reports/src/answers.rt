@@ -3,7 +3,7 @@
 ghost use Rattle.std.specs.Prelude.{◌≡◌, ◌≤◌, ◌++◌, length, max, IfErr, OnOk};
 ghost use Rattle.cfdp_receiver.specs.Machine.{answer_in};
 ghost use Rattle.cfdp_receiver.specs.Sent.{longest_sealed, pdus_of};
-ghost use Rattle.cfdp_reports.specs.Reports.{answer_text, send_line, send_lines, told_lines};
+ghost use Rattle.cfdp_reports.specs.Reports.{answer_text, send_line, send_lines, indication_lines};
 ghost use Rattle.cfdp_reports.specs.declared.answers.NotReported.TheVariants.{Memory};
 
 use crate::indications::push_indication;
@@ -68,7 +68,7 @@ fn push_pdus(
 ///
 /// [`AllocError`] when out of memory. A part of the line may have been appended.
 pub fn push_told(answer: &Answer, text: &mut Vec<u8>) -> Result<(), AllocError>
-    ensures { OnOk result (text.new.items ≡ text.old.items ++ told_lines answer.now.indications) }
+    ensures { OnOk result (text.new.items ≡ text.old.items ++ indication_lines answer.now.indications) }
 {
     match answer.indication() {
         None => Ok(()),

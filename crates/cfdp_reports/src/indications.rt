@@ -1,7 +1,7 @@
 //! The line of an indication.
 
 ghost use Rattle.std.specs.Prelude.{◌≡◌, ◌++◌, OnOk};
-ghost use Rattle.cfdp_reports.specs.Reports.{delivery_text, ended_text, told, told_line, told_text};
+ghost use Rattle.cfdp_reports.specs.Reports.{delivery_text, ended_text, told_label, told_line, told_text};
 
 use crate::outcomes::push_name;
 use cfdp_receiver::{Conclusion, Indication};
@@ -10,9 +10,9 @@ use cfdp_texts::push_labelled;
 use std::alloc::AllocError;
 
 /// Appends a label and a transaction's name.
-#[tactic(auto, unfolding(crate::specs::Reports::told))]
+#[tactic(auto, unfolding(crate::specs::Reports::told_label))]
 fn push_told(label: &[u8], id: TransactionId, text: &mut Vec<u8>) -> Result<(), AllocError>
-    ensures { OnOk result (text.new.items ≡ text.old.items ++ told label.now id) }
+    ensures { OnOk result (text.new.items ≡ text.old.items ++ told_label label.now id) }
 {
     text.extend_from_slice(b"tell ")?;
     text.extend_from_slice(label)?;

@@ -1,7 +1,7 @@
 //! What became of an input.
 
 ghost use Rattle.std.specs.Prelude.{◌≡◌, ◌++◌, ◌∷◌, [], OnOk};
-ghost use Rattle.cfdp_status.specs.Transaction.{name_of};
+ghost use Rattle.cfdp_status.specs.Transaction.{transaction_name};
 ghost use Rattle.cfdp_reports.specs.Reports.{became_text, dropped_line, is_taken, replied_line, word_text};
 
 use cfdp_crc::CrcFault;
@@ -19,7 +19,7 @@ use std::alloc::{AllocError, Global};
 /// [`AllocError`] when out of memory.
 #[tactic(auto, unfolding(cfdp_texts::specs::Replies::number_text))]
 pub fn push_name(id: TransactionId, text: &mut Vec<u8>) -> Result<(), AllocError>
-    ensures { OnOk result (text.new.items ≡ text.old.items ++ name_of id) }
+    ensures { OnOk result (text.new.items ≡ text.old.items ++ transaction_name id) }
 {
     push_number(id.source, text)?;
     text.push(b'/')?;
@@ -51,7 +51,7 @@ fn text_of(word: Word) -> &'static [u8]
 
 /// Appends the line of a word.
 fn push_word(id: TransactionId, word: &[u8], text: &mut Vec<u8>) -> Result<(), AllocError>
-    ensures { OnOk result (text.new.items ≡ text.old.items ++ name_of id ++ 32 ∷ word.now ++ 10 ∷ []) }
+    ensures { OnOk result (text.new.items ≡ text.old.items ++ transaction_name id ++ 32 ∷ word.now ++ 10 ∷ []) }
 {
     push_name(id, text)?;
     text.push(b' ')?;

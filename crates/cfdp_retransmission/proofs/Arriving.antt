@@ -3,11 +3,11 @@ use Rattle.std.proofs.Common.{◌≡◌, ◌⊎◌, inl, inr, ℕ, zero, suc, �
 use Rattle.std.specs.Prelude.{if◌then◌else◌, ◌&&◌, nat_le, nat_lt, Bool, true, false, Option, Some, None, is_some}
 use Rattle.std.proofs.lemmas.Bool.{cases_lt, lt-ltb, le-ltb}
 use Rattle.cfdp_transactions.specs.Received.{Received, kept_with, brought, pieces, pieces_from, gaps_below}
-use Rattle.cfdp_retransmission.specs.Coming.{Piece, keep, keep_all, AreKept, brings, Answers, continues, AreJoined, zero_missing, AnsweredIsWhole, AnsweredInOrder, one_if, covers, AskedOnce, NotAsked}
-use Rattle.cfdp_transactions.specs.ReceivedLaws.{octet_at, or_else, IsIn, AreRuns}
+use Rattle.cfdp_retransmission.specs.Coming.{Piece, keep, keep_all, AreAllKept, brings, BringsMissing, continues, AreJoined, zero_missing, AnsweredIsWhole, AnsweredInOrder, one_if, cover_count, AskedOnce, NotAsked}
+use Rattle.cfdp_transactions.specs.ReceivedLaws.{octet_at, or_offset, IsIn, AreRuns}
 use Rattle.cfdp_retransmission.proofs.Sequences.{asks_for_all}
 use Rattle.std.proofs.lemmas.Bool.{le-leb, lt-leb}
-use Rattle.cfdp_transactions.proofs.OctetsAndGaps.{first_stays, gaps_are_missing, gaps_are_runs}
+use Rattle.cfdp_transactions.proofs.Received.OctetsAndGaps.{first_stays, gaps_are_missing, gaps_are_runs}
 
 -- all of it is kept --------------------------------------------------------------------
 
@@ -15,29 +15,29 @@ pub kept_is : (rs : Received) (p : Piece) → pieces (kept_with rs p.0 p.1) ≤ 
 kept_is rs p h = rw (le-ltb 32 (pieces (kept_with rs p.0 p.1)) h) refl
 
 -- an offset that is there stays there, and one that is brought is there then
-pub stays : (o later : Option ℕ) → is_some o ≡ true → is_some (or_else o later) ≡ true
+pub stays : (o later : Option ℕ) → is_some o ≡ true → is_some (or_offset o later) ≡ true
 stays None later h = absurd cc
 stays (Some x) later h = refl
 
-comes : (o later : Option ℕ) → is_some later ≡ true → is_some (or_else o later) ≡ true
+comes : (o later : Option ℕ) → is_some later ≡ true → is_some (or_offset o later) ≡ true
 comes None later h = h
 comes (Some x) later h = refl
 
 -- an offset that was there or is still brought, once the first piece came
-went : (o later : Option ℕ) (rest : Bool) → (is_some o ≡ true) ⊎ ((if is_some later then true else rest) ≡ true) → (is_some (or_else o later) ≡ true)
+went : (o later : Option ℕ) (rest : Bool) → (is_some o ≡ true) ⊎ ((if is_some later then true else rest) ≡ true) → (is_some (or_offset o later) ≡ true)
     ⊎ (rest ≡ true)
 went o later rest (inl h) = inl (stays o later h)
 went o None rest (inr h) = inr h
 went o (Some x) rest (inr h) = inl (comes o (Some x) refl)
 
-there : (rs : Received) (ps : List Piece) (i : ℕ) → AreKept rs ps → (is_some (octet_at rs i) ≡ true) ⊎ (brings ps i ≡ true) →
+there : (rs : Received) (ps : List Piece) (i : ℕ) → AreAllKept rs ps → (is_some (octet_at rs i) ≡ true) ⊎ (brings ps i ≡ true) →
     is_some (octet_at (keep_all rs ps) i) ≡ true
 there rs [] i kept (inl h) = h
 there rs [] i kept (inr h) = absurd cc
 there rs (p ∷ ps) i kept h =
     let now = kept_with rs p.0 p.1 in
     let same : keep rs p ≡ now = kept_is rs p kept.0 in
-    let at : octet_at now i ≡ or_else (octet_at rs i) (brought p.0 p.1 i) = first_stays rs p.0 p.1 i in
+    let at : octet_at now i ≡ or_offset (octet_at rs i) (brought p.0 p.1 i) = first_stays rs p.0 p.1 i in
     let further : (is_some (octet_at now i) ≡ true) ⊎ (brings ps i ≡ true) = rw at (went (octet_at rs i) (brought p.0 p.1 i) (brings ps i) h) in
     ap (λ (x : Received). is_some (octet_at (keep_all x ps) i)) same ∙ there now ps i kept.1 further
 
@@ -55,7 +55,8 @@ whole_from limit rs all =
     absurd cc)
 
 -- there already, or asked for
-either : (limit : ℕ) (rs : Received) (ps : List Piece) → Answers limit rs ps → (i : ℕ) → i < limit → (o : Option ℕ) → octet_at rs i ≡ o → (is_some o ≡ true)
+either : (limit : ℕ) (rs : Received) (ps : List Piece) → BringsMissing limit rs ps → (i : ℕ) → i < limit → (o : Option ℕ) → octet_at rs i ≡ o →
+    (is_some o ≡ true)
     ⊎ (brings ps i ≡ true)
 either limit rs ps answers i h None e = inr (answers i h e)
 either limit rs ps answers i h (Some x) e = inl refl
@@ -109,7 +110,7 @@ pub room : (rs : Received) (at : ℕ) (octets : List ℕ) → continues rs at �
 room rs zero octets h = joins_zero rs octets
 room rs (suc at) octets h = omega (arith, joins false rs at octets h, same_zero rs at octets h)
 
-all_kept : (rs : Received) (ps : List Piece) → pieces rs + zero_missing rs ≤ 32 → AreJoined rs ps → AreKept rs ps
+all_kept : (rs : Received) (ps : List Piece) → pieces rs + zero_missing rs ≤ 32 → AreJoined rs ps → AreAllKept rs ps
 all_kept rs [] h joined = tt
 all_kept rs (p ∷ ps) h joined =
     let grown = room rs p.0 p.1 joined.0 in
@@ -129,11 +130,11 @@ is_before a b i low = rw (lt-leb a i low) refl
 is_after : (a b i : ℕ) → a ≤ i → b ≤ i → one_if (nat_le a i && nat_lt i b) ≡ 0
 is_after a b i low high = rw (le-leb a i low, le-ltb i b high) refl
 
-below : (from : ℕ) (rs : List (ℕ × ℕ)) (i : ℕ) → AreRuns from rs → i < from → covers i rs ≡ 0
+below : (from : ℕ) (rs : List (ℕ × ℕ)) (i : ℕ) → AreRuns from rs → i < from → cover_count i rs ≡ 0
 below from [] i runs h = refl
 below from (r ∷ rs) i runs h = omega (arith, is_before r.0 r.1 i (omega (arith, runs.0, h)), below (r.1 + 1) rs i runs.2 (omega (arith, runs.0, runs.1, h)))
 
-once : (from : ℕ) (rs : List (ℕ × ℕ)) (i : ℕ) → AreRuns from rs → IsIn i rs → covers i rs ≡ 1
+once : (from : ℕ) (rs : List (ℕ × ℕ)) (i : ℕ) → AreRuns from rs → IsIn i rs → cover_count i rs ≡ 1
 once from [] i runs h = elim h [ ]
 once from (r ∷ rs) i runs (inl h) = omega (arith, is_here r.0 r.1 i h.0 h.1, below (r.1 + 1) rs i runs.2 (omega (arith, h.1)))
 once from (r ∷ rs) i runs (inr h) = elim (cases_lt i (r.1 + 1)) [
@@ -141,7 +142,7 @@ once from (r ∷ rs) i runs (inr h) = elim (cases_lt i (r.1 + 1)) [
   | inr high ↦ omega (arith, is_after r.0 r.1 i (omega (arith, runs.1, high)) (omega (arith, high)), once (r.1 + 1) rs i runs.2 h)
 ]
 
-never : (rs : List (ℕ × ℕ)) (i : ℕ) → (IsIn i rs → ⊥) → covers i rs ≡ 0
+never : (rs : List (ℕ × ℕ)) (i : ℕ) → (IsIn i rs → ⊥) → cover_count i rs ≡ 0
 never [] i out = refl
 never (r ∷ rs) i out = elim (cases_lt i r.0) [
   | inl low ↦ omega (arith, is_before r.0 r.1 i low, never rs i (λ h. out (inr h)))
@@ -153,10 +154,10 @@ never (r ∷ rs) i out = elim (cases_lt i r.0) [
 
 pub asked_once : AskedOnce
 asked_once most limit rs i some h missing =
-    ap (covers i) (asks_for_all most 0 limit (gaps_below limit rs) some)
+    ap (cover_count i) (asks_for_all most 0 limit (gaps_below limit rs) some)
     ∙ once 0 (gaps_below limit rs) i (gaps_are_runs limit rs) ((gaps_are_missing limit rs i).1 (h, missing))
 
 pub not_asked : NotAsked
 not_asked most limit rs i some there =
-    ap (covers i) (asks_for_all most 0 limit (gaps_below limit rs) some)
+    ap (cover_count i) (asks_for_all most 0 limit (gaps_below limit rs) some)
     ∙ never (gaps_below limit rs) i (λ inside. there ((gaps_are_missing limit rs i).0 inside).0 ((gaps_are_missing limit rs i).0 inside).1)

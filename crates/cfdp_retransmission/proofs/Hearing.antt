@@ -6,60 +6,61 @@ use Rattle.std.proofs.Common.{◌≡◌, ◌⊎◌, inl, inr, ℕ, zero, suc, �
 use Rattle.std.proofs.lemmas.Bool.{cond_both, cases_lt, cases_Bool, lt-ltb}
 use Rattle.cfdp_transactions.specs.Received.{Received, kept_with, brought, pieces, gaps_below}
 use Rattle.cfdp_transactions.specs.ReceivedLaws.{octet_at, IsIn, AreRuns}
-use Rattle.cfdp_transactions.proofs.OctetsAndGaps.{first_stays, gaps_are_missing, gaps_are_runs}
-use Rattle.cfdp_retransmission.specs.Naks.{Range, Nak, naks}
-use Rattle.cfdp_retransmission.specs.Coming.{Piece, keep, keep_all, continues, zero_missing, one_if, asked}
-use Rattle.cfdp_retransmission.specs.Rounds.{Asking, Sending, Exchange, heard_requests, Covers, AnswersInOrder, IsExchange, arrived, lost, is_any_lost, lost_of, kept_after, asked_for, AreRounds, after_rounds, lost_in, spare_round, WholeAfterLosses}
+use Rattle.cfdp_transactions.proofs.Received.OctetsAndGaps.{first_stays, gaps_are_missing, gaps_are_runs}
+use Rattle.cfdp_retransmission.specs.Naks.{SegmentRequest, Nak, naks}
+use Rattle.cfdp_retransmission.specs.Coming.{Piece, keep, keep_all, continues, zero_missing, one_if, all_asked}
+use Rattle.cfdp_retransmission.specs.Rounds.{Asking, Sending, Exchange, heard_requests, Covers, AnswersInOrder, IsExchange, arrived, lost, is_any_lost, lost_of, kept_after_round, asked_for, AreRounds, after_rounds, lost_in, spare_round, WholeAfterLosses}
 use Rattle.cfdp_retransmission.proofs.Sequences.{asks_for_all}
 use Rattle.cfdp_retransmission.proofs.Arriving.{kept_is, stays, room, whole_from}
 use Rattle.cfdp_retransmission.proofs.Losing.{holes, few_parts, no_hole, some_right, brings_some, kept_len, spare_is, no_spare, covers_rise, arrived_both, lost_both, from_start, in_rest, there_or_not, one_round}
 
 -- ---- the requests that are heard
 
-abbrev all_requests : List Asking → List Range
+abbrev all_requests : List Asking → List SegmentRequest
 all_requests asking = flat_map (λ (a : Asking). a.requests) asking
 
-each_of_both : (P : Range → Type 0) (xs ys : List Range) → AllByRecursion P (xs ++ ys) → AllByRecursion P xs × AllByRecursion P ys
+each_of_both : (P : SegmentRequest → Type 0) (xs ys : List SegmentRequest) → AllByRecursion P (xs ++ ys) → AllByRecursion P xs × AllByRecursion P ys
 each_of_both P [] ys h = (tt, h)
 each_of_both P (x ∷ xs) ys h = let rest = each_of_both P xs ys h.1 in ((h.0, rest.0), rest.1)
 
-each_joined : (P : Range → Type 0) (xs ys : List Range) → AllByRecursion P xs → AllByRecursion P ys → AllByRecursion P (xs ++ ys)
+each_joined : (P : SegmentRequest → Type 0) (xs ys : List SegmentRequest) → AllByRecursion P xs → AllByRecursion P ys → AllByRecursion P (xs ++ ys)
 each_joined P [] ys hx hy = hy
 each_joined P (x ∷ xs) ys hx hy = (hx.0, each_joined P xs ys hx.1 hy)
 
 -- what holds of each request holds of each that is heard
-each_heard : (P : Range → Type 0) (asking : List Asking) → AllByRecursion P (all_requests asking) → AllByRecursion P (heard_requests asking)
+each_heard : (P : SegmentRequest → Type 0) (asking : List Asking) → AllByRecursion P (all_requests asking) → AllByRecursion P (heard_requests asking)
 each_heard P [] h = tt
 each_heard P (a ∷ more) h =
     let parts = each_of_both P a.requests (all_requests more) h in
     let rest = each_heard P more parts.1 in
-    cond_both a.is_lost (heard_requests more) (a.requests ++ heard_requests more) (λ (rs : List Range). AllByRecursion P rs)
+    cond_both a.is_lost (heard_requests more) (a.requests ++ heard_requests more) (λ (rs : List SegmentRequest). AllByRecursion P rs)
     (λ e. rest) (λ e. each_joined P a.requests (heard_requests more) parts.0 rest)
 
-none_of : (xs : List Range) → AllByRecursion (λ (r : Range). ⊥) xs → xs ≡ []
+none_of : (xs : List SegmentRequest) → AllByRecursion (λ (r : SegmentRequest). ⊥) xs → xs ≡ []
 none_of [] h = refl
 none_of (x ∷ xs) h = absurd h.0
 
 none_heard : (asking : List Asking) → all_requests asking ≡ [] → heard_requests asking ≡ []
 none_heard asking e =
-    none_of (heard_requests asking) (each_heard (λ (r : Range). ⊥) asking (subst (λ (rs : List Range). AllByRecursion (λ (r : Range). ⊥) rs) (sym e) tt))
+    none_of (heard_requests asking) (each_heard (λ (r : SegmentRequest). ⊥) asking
+    (subst (λ (rs : List SegmentRequest). AllByRecursion (λ (r : SegmentRequest). ⊥) rs) (sym e) tt))
 
-heard_by : (is_lost rest : Bool) (requests heard all : List Range) → (rest ≡ false → heard ≡ all) → (is_lost || rest) ≡ false →
+heard_by : (is_lost rest : Bool) (requests heard all : List SegmentRequest) → (rest ≡ false → heard ≡ all) → (is_lost || rest) ≡ false →
     (if is_lost then heard else requests ++ heard) ≡ requests ++ all
 heard_by true rest requests heard all same e = absurd cc
-heard_by false rest requests heard all same e = ap (λ (rs : List Range). requests ++ rs) (same e)
+heard_by false rest requests heard all same e = ap (λ (rs : List SegmentRequest). requests ++ rs) (same e)
 
 all_heard : (asking : List Asking) → is_any_lost asking ≡ false → heard_requests asking ≡ all_requests asking
 all_heard [] e = refl
 all_heard (a ∷ more) e = heard_by a.is_lost (is_any_lost more) a.requests (heard_requests more) (all_requests more) (all_heard more) e
 
 -- the NAK PDUs together ask for each gap
-abbrev flat : List (List Range) → List Range
-flat xs = flat_map (λ (rs : List Range). rs) xs
+abbrev flat : List (List SegmentRequest) → List SegmentRequest
+flat xs = flat_map (λ (rs : List SegmentRequest). rs) xs
 
-flat_is : {A : Type 0} (f : A → List Range) (xs : List A) → flat (map f xs) ≡ flat_map f xs
+flat_is : {A : Type 0} (f : A → List SegmentRequest) (xs : List A) → flat (map f xs) ≡ flat_map f xs
 flat_is f [] = refl
-flat_is f (x ∷ xs) = ap (λ (rs : List Range). f x ++ rs) (flat_is f xs)
+flat_is f (x ∷ xs) = ap (λ (rs : List SegmentRequest). f x ++ rs) (flat_is f xs)
 
 asks_gaps : (most limit : ℕ) (rs : Received) (asking : List Asking) → 1 ≤ most → map (λ (a : Asking). a.requests) asking ≡ asked_for most limit rs →
     all_requests asking ≡ gaps_below limit rs
@@ -70,7 +71,7 @@ asks_gaps most limit rs asking some asks =
 -- ---- a gap
 
 -- it ends by the limit, and begins at offset 0 or after an octet that is there
-pub record IsGap (limit : ℕ) (rs : Received) (r : Range) : Type 0 where
+pub record IsGap (limit : ℕ) (rs : Received) (r : SegmentRequest) : Type 0 where
   pub ends : r.1 ≤ limit
   pub begins : continues rs r.0 ≡ true
 
@@ -79,7 +80,7 @@ continues_by rs zero h = refl
 continues_by rs (suc a) h = h a refl
 
 -- `y`: no request begins before
-each_is_gap : (limit : ℕ) (rs : Received) (y : ℕ) (requests : List Range) → AreRuns y requests →
+each_is_gap : (limit : ℕ) (rs : Received) (y : ℕ) (requests : List SegmentRequest) → AreRuns y requests →
     ((i : ℕ) → y ≤ suc i → i < limit → octet_at rs i ≡ None → IsIn i requests) → ((i : ℕ) → IsIn i requests → i < limit) →
     AllByRecursion (IsGap limit rs) requests
 each_is_gap limit rs y [] runs all only = tt
@@ -103,7 +104,7 @@ heard_are : (most limit : ℕ) (rs : Received) (asking : List Asking) → 1 ≤ 
     AllByRecursion (IsGap limit rs) (heard_requests asking)
 heard_are most limit rs asking some asks =
     each_heard (IsGap limit rs) asking
-    (subst (λ (xs : List Range). AllByRecursion (IsGap limit rs) xs) (sym (asks_gaps most limit rs asking some asks)) (gaps_are limit rs))
+    (subst (λ (xs : List SegmentRequest). AllByRecursion (IsGap limit rs) xs) (sym (asks_gaps most limit rs asking some asks)) (gaps_are limit rs))
 
 -- ---- no piece of an answer ends after the limit
 
@@ -130,7 +131,7 @@ within_more : (limit : ℕ) (f b : List Sending) → Within limit (arrived f) �
 within_more limit [] b hf hb = hb
 within_more limit (s ∷ f) b hf hb = by_loss limit s.is_lost s.piece f b hf hb (λ h. within_more limit f b h hb)
 
-within_requests : (limit : ℕ) (rs : Received) (requests : List Range) (sent : List Sending) → AllByRecursion (IsGap limit rs) requests →
+within_requests : (limit : ℕ) (rs : Received) (requests : List SegmentRequest) (sent : List Sending) → AllByRecursion (IsGap limit rs) requests →
     AnswersInOrder requests sent → Within limit (arrived sent)
 within_requests limit rs [] sent gaps answers = subst (λ (ss : List Sending). Within limit (arrived ss)) (sym answers) tt
 within_requests limit rs (r ∷ rest) sent gaps answers =
@@ -226,7 +227,7 @@ room_front before end (s ∷ ss) rs x h c covers none =
     (subst (λ (y : ℕ). continues rs y ≡ true) at c)
     (subst (λ (y : ℕ). Covers (y + length s.piece.1) end ss) at covers.1) none
 
-room_all : (limit : ℕ) (before : Received) (requests : List Range) (sent : List Sending) (rs : Received) → HasRoom before rs →
+room_all : (limit : ℕ) (before : Received) (requests : List SegmentRequest) (sent : List Sending) (rs : Received) → HasRoom before rs →
     AllByRecursion (IsGap limit before) requests → AnswersInOrder requests sent → lost sent ≡ 0 → HasRoom before (keep_all rs (arrived sent))
 room_all limit before [] sent rs h gaps answers none = subst (λ (ss : List Sending). HasRoom before (keep_all rs (arrived ss))) (sym answers) h
 room_all limit before (r ∷ rest) sent rs h gaps answers none =
@@ -264,7 +265,7 @@ went_all limit rs sent fit answers =
       | inr clean ↦ inl (whole_from limit after (no_hole limit after (omega (arith, inside.few_holes, clean))))
     ]
 
-went_some : (limit : ℕ) (rs : Received) (requests : List Range) (sent : List Sending) → AllByRecursion (IsGap limit rs) requests →
+went_some : (limit : ℕ) (rs : Received) (requests : List SegmentRequest) (sent : List Sending) → AllByRecursion (IsGap limit rs) requests →
     AnswersInOrder requests sent → 1 + spare_round (keep_all rs (arrived sent)) ≤ lost sent + 1 + spare_round rs
 went_some limit rs requests sent gaps answers =
     let after = keep_all rs (arrived sent) in
@@ -290,7 +291,7 @@ first_answer most limit rs round some fit is =
           inr (omega (arith, went, ap one_if unheard))
       | inr heard ↦
           let requests : heard_requests asking ≡ gaps_below limit rs = all_heard asking heard ∙ asks_gaps most limit rs asking some is.asks in
-          let went = went_all limit rs round.sent fit (subst (λ (xs : List Range). AnswersInOrder xs round.sent) requests is.in_order) in
+          let went = went_all limit rs round.sent fit (subst (λ (xs : List SegmentRequest). AnswersInOrder xs round.sent) requests is.in_order) in
           subst (Went limit rs after) (omega (arith, ap one_if heard)) went
     ]
 
@@ -306,7 +307,7 @@ there_all : (ps : List Piece) (rs : Received) (i : ℕ) → is_some (octet_at rs
 there_all [] rs i h = h
 there_all (p ∷ ps) rs i h = there_all ps (keep rs p) i (there_one rs p i h)
 
-nothing_in : (gaps : List Range) (i : ℕ) → gaps ≡ [] → IsIn i gaps → ⊥
+nothing_in : (gaps : List SegmentRequest) (i : ℕ) → gaps ≡ [] → IsIn i gaps → ⊥
 nothing_in [] i e h = elim h [ ]
 nothing_in (g ∷ gs) i e h = absurd cc
 
@@ -315,7 +316,7 @@ whole_goes_on limit now ps whole =
     whole_from limit (keep_all now ps) (λ i low. there_all ps now i
     (there_or_not (octet_at now i) (λ none. nothing_in (gaps_below limit now) i whole ((gaps_are_missing limit now i).1 (low, none)))))
 
-went_again : (limit : ℕ) (rs now : Received) (requests : List Range) (sent : List Sending) (gone : ℕ) →
+went_again : (limit : ℕ) (rs now : Received) (requests : List SegmentRequest) (sent : List Sending) (gone : ℕ) →
     ((i : ℕ) → is_some (octet_at rs i) ≡ true → is_some (octet_at now i) ≡ true) → AllByRecursion (IsGap limit rs) requests →
     AnswersInOrder requests sent → Went limit rs now gone → Went limit rs (keep_all now (arrived sent)) (gone + lost sent)
 went_again limit rs now requests sent gone there gaps answers (inl whole) = inl (whole_goes_on limit now (arrived sent) whole)
@@ -333,14 +334,14 @@ went_again limit rs now requests sent gone there gaps answers (inr less) =
     ]
 
 one_exchange : (most limit : ℕ) (rs : Received) (round : Exchange) → 1 ≤ most → IsFit limit rs → IsExchange (asked_for most limit rs) round →
-    Went limit rs (kept_after rs round) (lost_of round)
+    Went limit rs (kept_after_round rs round) (lost_of round)
 one_exchange most limit rs round some fit is =
     let first = keep_all rs (arrived round.sent) in
     let gone = lost round.sent + one_if (is_any_lost round.asking) in
     let both =
     went_again limit rs first (heard_requests round.asking_again) round.sent_again gone (λ i h. there_all (arrived round.sent) rs i h)
     (heard_are most limit rs round.asking_again some is.asks_again) is.in_order_again (first_answer most limit rs round some fit is) in
-    subst (λ (n : ℕ). Went limit rs (kept_after rs round) n) (omega arith) both
+    subst (λ (n : ℕ). Went limit rs (kept_after_round rs round) n) (omega arith) both
 
 -- ---- all rounds
 
@@ -348,7 +349,7 @@ no_answer : (most limit : ℕ) (rs : Received) (asking : List Asking) (sent : Li
     map (λ (a : Asking). a.requests) asking ≡ asked_for most limit rs → AnswersInOrder (heard_requests asking) sent → sent ≡ []
 no_answer most limit rs asking sent some whole asks answers =
     let no_request : heard_requests asking ≡ [] = none_heard asking (asks_gaps most limit rs asking some asks ∙ whole) in
-    subst (λ (requests : List Range). AnswersInOrder requests sent) no_request answers
+    subst (λ (requests : List SegmentRequest). AnswersInOrder requests sent) no_request answers
 
 whole_stays : (most limit : ℕ) (rs : Received) (rounds : List Exchange) → 1 ≤ most → gaps_below limit rs ≡ [] → AreRounds most limit rs rounds →
     gaps_below limit (after_rounds rs rounds) ≡ []
@@ -356,7 +357,7 @@ whole_stays most limit rs [] some whole all = whole
 whole_stays most limit rs (round ∷ rounds) some whole all =
     let first : round.sent ≡ [] = no_answer most limit rs round.asking round.sent some whole all.0.asks all.0.in_order in
     let second : round.sent_again ≡ [] = no_answer most limit rs round.asking_again round.sent_again some whole all.0.asks_again all.0.in_order_again in
-    let same : kept_after rs round ≡ rs =
+    let same : kept_after_round rs round ≡ rs =
     ap (λ (sent : List Sending). keep_all (keep_all rs (arrived sent)) (arrived round.sent_again)) first
     ∙ ap (λ (sent : List Sending). keep_all rs (arrived sent)) second in
     ap (λ (q : Received). gaps_below limit (after_rounds q rounds)) same
@@ -365,7 +366,7 @@ whole_stays most limit rs (round ∷ rounds) some whole all =
 pub whole_after_losses : WholeAfterLosses
 whole_after_losses most limit rs [] some few short all enough = absurd (omega (arith, enough))
 whole_after_losses most limit rs (round ∷ rounds) some few short all enough =
-    let after = kept_after rs round in
+    let after = kept_after_round rs round in
     let first = fit_all limit (arrived round.sent) rs (record { few = few; short = short }) (first_within most limit rs round some all.0) in
     let fit = fit_all limit (arrived round.sent_again) (keep_all rs (arrived round.sent)) first (again_within most limit rs round some all.0) in
     elim (one_exchange most limit rs round some (record { few = few; short = short }) all.0) [
@@ -394,7 +395,7 @@ counts_pdus round = omega (arith, any_at_most round.asking)
 -- where the sender gets every NAK PDU, pieces alone are counted
 abbrev AreAnswered : ℕ → ℕ → Received → List (List Sending) → Type 0
 AreAnswered most limit rs [] = ⊤
-AreAnswered most limit rs (sent ∷ rounds) = AnswersInOrder (asked most limit rs) sent × AreAnswered most limit (keep_all rs (arrived sent)) rounds
+AreAnswered most limit rs (sent ∷ rounds) = AnswersInOrder (all_asked most limit rs) sent × AreAnswered most limit (keep_all rs (arrived sent)) rounds
 
 abbrev after_pieces : Received → List (List Sending) → Received
 after_pieces rs [] = rs
@@ -404,17 +405,17 @@ abbrev pieces_lost : List (List Sending) → ℕ
 pieces_lost [] = 0
 pieces_lost (sent ∷ rounds) = lost sent + pieces_lost rounds
 
-abbrev each_heard_of : List (List Range) → List Asking
-each_heard_of naks = map (λ (requests : List Range). record { requests = requests; is_lost = false }) naks
+abbrev each_heard_of : List (List SegmentRequest) → List Asking
+each_heard_of naks = map (λ (requests : List SegmentRequest). record { requests = requests; is_lost = false }) naks
 
-abbrev none_heard_of : List (List Range) → List Asking
-none_heard_of naks = map (λ (requests : List Range). record { requests = requests; is_lost = true }) naks
+abbrev none_heard_of : List (List SegmentRequest) → List Asking
+none_heard_of naks = map (λ (requests : List SegmentRequest). record { requests = requests; is_lost = true }) naks
 
-same_again : (naks : List (List Range)) → map (λ (a : Asking). a.requests) (none_heard_of naks) ≡ naks
+same_again : (naks : List (List SegmentRequest)) → map (λ (a : Asking). a.requests) (none_heard_of naks) ≡ naks
 same_again [] = refl
-same_again (nak ∷ naks) = ap (λ (rest : List (List Range)). nak ∷ rest) (same_again naks)
+same_again (nak ∷ naks) = ap (λ (rest : List (List SegmentRequest)). nak ∷ rest) (same_again naks)
 
-none_of_them : (naks : List (List Range)) → heard_requests (none_heard_of naks) ≡ []
+none_of_them : (naks : List (List SegmentRequest)) → heard_requests (none_heard_of naks) ≡ []
 none_of_them [] = refl
 none_of_them (nak ∷ naks) = none_of_them naks
 
@@ -428,15 +429,15 @@ exchanges most limit rs (sent ∷ rounds) =
       sent_again = [];
     } ∷ exchanges most limit (keep_all rs (arrived sent)) rounds
 
-same_requests : (naks : List (List Range)) → map (λ (a : Asking). a.requests) (each_heard_of naks) ≡ naks
+same_requests : (naks : List (List SegmentRequest)) → map (λ (a : Asking). a.requests) (each_heard_of naks) ≡ naks
 same_requests [] = refl
-same_requests (nak ∷ naks) = ap (λ (rest : List (List Range)). nak ∷ rest) (same_requests naks)
+same_requests (nak ∷ naks) = ap (λ (rest : List (List SegmentRequest)). nak ∷ rest) (same_requests naks)
 
-all_of_them : (naks : List (List Range)) → heard_requests (each_heard_of naks) ≡ flat naks
+all_of_them : (naks : List (List SegmentRequest)) → heard_requests (each_heard_of naks) ≡ flat naks
 all_of_them [] = refl
-all_of_them (nak ∷ naks) = ap (λ (rest : List Range). nak ++ rest) (all_of_them naks)
+all_of_them (nak ∷ naks) = ap (λ (rest : List SegmentRequest). nak ++ rest) (all_of_them naks)
 
-none_lost : (naks : List (List Range)) → is_any_lost (each_heard_of naks) ≡ false
+none_lost : (naks : List (List SegmentRequest)) → is_any_lost (each_heard_of naks) ≡ false
 none_lost [] = refl
 none_lost (nak ∷ naks) = none_lost naks
 
@@ -444,13 +445,13 @@ are_rounds : (most limit : ℕ) (rs : Received) (rounds : List (List Sending)) �
     AreRounds most limit rs (exchanges most limit rs rounds)
 are_rounds most limit rs [] are = tt
 are_rounds most limit rs (sent ∷ rounds) are =
-    let asks : asked most limit rs ≡ heard_requests (each_heard_of (asked_for most limit rs)) =
+    let asks : all_asked most limit rs ≡ heard_requests (each_heard_of (asked_for most limit rs)) =
     sym (flat_is (λ (nak : Nak). nak.requests) (naks most 0 limit (gaps_below limit rs))) ∙ sym (all_of_them (asked_for most limit rs)) in (
       record {
         asks = same_requests (asked_for most limit rs);
-        in_order = subst (λ (requests : List Range). AnswersInOrder requests sent) asks are.0;
+        in_order = subst (λ (requests : List SegmentRequest). AnswersInOrder requests sent) asks are.0;
         asks_again = same_again (asked_for most limit rs);
-        in_order_again = subst (λ (requests : List Range). AnswersInOrder requests []) (sym (none_of_them (asked_for most limit rs))) refl;
+        in_order_again = subst (λ (requests : List SegmentRequest). AnswersInOrder requests []) (sym (none_of_them (asked_for most limit rs))) refl;
       },
       are_rounds most limit (keep_all rs (arrived sent)) rounds are.1,
     )

@@ -4,9 +4,9 @@ use Rattle.std.specs.Prelude.{if◌then◌else◌, ◌&&◌, not, Bool, true, fa
 use Rattle.std.proofs.Common.{◌≡◌, inl, inr, ℕ, zero, suc, ◌+◌, ◌-◌, ◌<◌, ◌≤◌, List, [], ◌∷◌, ◌++◌, length, refl, sym, ap, subst, ◌∙◌, arith}
 use Rattle.std.proofs.lemmas.Bool.{cases_lt, cases_Bool, and_left, and_right, not_from_true, lt-ltb, le-ltb, le-leb, lt-leb}
 use Rattle.cfdp_transactions.specs.Received.{Received, kept_with, brought, pieces, pieces_from, gaps_below}
-use Rattle.cfdp_transactions.specs.ReceivedLaws.{octet_at, or_else, IsIn, AreRuns}
-use Rattle.cfdp_transactions.proofs.OctetsAndGaps.{first_stays, greatest_end, gaps_are_missing, gaps_are_runs}
-use Rattle.cfdp_retransmission.specs.Naks.{Range}
+use Rattle.cfdp_transactions.specs.ReceivedLaws.{octet_at, or_offset, IsIn, AreRuns}
+use Rattle.cfdp_transactions.proofs.Received.OctetsAndGaps.{first_stays, greatest_end, gaps_are_missing, gaps_are_runs}
+use Rattle.cfdp_retransmission.specs.Naks.{SegmentRequest}
 use Rattle.cfdp_retransmission.specs.Coming.{Piece, keep, keep_all, zero_missing, one_if}
 use Rattle.cfdp_retransmission.specs.Rounds.{Sending, Covers, AnswersInOrder, arrived, lost, spare_round}
 use Rattle.cfdp_retransmission.proofs.Arriving.{room, joins}
@@ -145,11 +145,11 @@ no_hole (suc (suc n)) rs none i h =
 
 -- ---- what a piece changes
 
-some_left : (o p : Option ℕ) → p ≡ None → is_some (or_else o p) ≡ is_some o
+some_left : (o p : Option ℕ) → p ≡ None → is_some (or_offset o p) ≡ is_some o
 some_left None p e = ap is_some e
 some_left (Some x) p e = refl
 
-pub some_right : (o p : Option ℕ) → is_some p ≡ true → is_some (or_else o p) ≡ true
+pub some_right : (o p : Option ℕ) → is_some p ≡ true → is_some (or_offset o p) ≡ true
 some_right None p e = e
 some_right (Some x) p e = refl
 
@@ -203,7 +203,7 @@ after_lost limit rs now x gone l inside missing = record {
   first = λ e. inside.first (omega (arith, e));
 }
 
-or_none : (o : Option ℕ) → or_else o None ≡ o
+or_none : (o : Option ℕ) → or_offset o None ≡ o
 or_none None = refl
 or_none (Some x) = refl
 
@@ -222,7 +222,7 @@ after_kept limit rs now x gone xs inside fits few =
     let below : (i : ℕ) → i < x → is_some (octet_at new i) ≡ is_some (octet_at now i) =
     λ i h. ap is_some (first_stays now x xs i) ∙ some_left (octet_at now i) (brought x xs i) (brings_none_below x xs i h) in
     record {
-      later = λ i h. first_stays now x xs i ∙ ap (or_else (octet_at now i)) (brings_none_past x xs i h) ∙ or_none (octet_at now i)
+      later = λ i h. first_stays now x xs i ∙ ap (or_offset (octet_at now i)) (brings_none_past x xs i h) ∙ or_none (octet_at now i)
           ∙ inside.later i (omega (arith, h));
       few_holes = omega (
         arith,
@@ -353,20 +353,20 @@ pub lost_both : (f b : List Sending) → lost (f ++ b) ≡ lost f + lost b
 lost_both [] b = omega arith
 lost_both (s ∷ f) b = omega (arith, lost_both f b)
 
-runs_from : (from : ℕ) (rs : List Range) (i : ℕ) → AreRuns from rs → IsIn i rs → from ≤ i
+runs_from : (from : ℕ) (rs : List SegmentRequest) (i : ℕ) → AreRuns from rs → IsIn i rs → from ≤ i
 runs_from from [] i runs h = elim h [ ]
 runs_from from (r ∷ rs) i runs (inl h) = omega (arith, runs.0, h.0)
 runs_from from (r ∷ rs) i runs (inr h) = omega (arith, runs.0, runs.1, runs_from (r.1 + 1) rs i runs.2 h)
 
-runs_earlier : (from to : ℕ) (rs : List Range) → from ≤ to → AreRuns to rs → AreRuns from rs
+runs_earlier : (from to : ℕ) (rs : List SegmentRequest) → from ≤ to → AreRuns to rs → AreRuns from rs
 runs_earlier from to [] h runs = tt
 runs_earlier from to (r ∷ rs) h runs = (omega (arith, h, runs.0), runs.1, runs.2)
 
-pub in_rest : (r : Range) (rs : List Range) (i : ℕ) → r.1 ≤ i → IsIn i (r ∷ rs) → IsIn i rs
+pub in_rest : (r : SegmentRequest) (rs : List SegmentRequest) (i : ℕ) → r.1 ≤ i → IsIn i (r ∷ rs) → IsIn i rs
 in_rest r rs i h (inl here) = absurd (omega (arith, h, here.1))
 in_rest r rs i h (inr there) = there
 
-pub from_start : (r : Range) (rs : List Range) (i : ℕ) → r.0 < r.1 → AreRuns (r.1 + 1) rs → IsIn i (r ∷ rs) → r.0 ≤ i
+pub from_start : (r : SegmentRequest) (rs : List SegmentRequest) (i : ℕ) → r.0 < r.1 → AreRuns (r.1 + 1) rs → IsIn i (r ∷ rs) → r.0 ≤ i
 from_start r rs i some runs (inl here) = here.0
 from_start r rs i some runs (inr there) = omega (arith, some, runs_from (r.1 + 1) rs i runs there)
 
@@ -375,7 +375,7 @@ pub there_or_not : (o : Option ℕ) → (o ≡ None → ⊥) → is_some o ≡ t
 there_or_not None h = absurd (h refl)
 there_or_not (Some x) h = refl
 
-over_requests : (limit : ℕ) (rs : Received) (requests : List Range) (sent : List Sending) (now : Received) (x gone : ℕ) →
+over_requests : (limit : ℕ) (rs : Received) (requests : List SegmentRequest) (sent : List Sending) (now : Received) (x gone : ℕ) →
     Inside limit rs now x gone → x ≤ limit → AreRuns x requests →
     ((i : ℕ) → x ≤ i → i < limit → octet_at rs i ≡ None → IsIn i requests) →
     ((i : ℕ) → IsIn i requests → (i < limit) × (octet_at rs i ≡ None)) →

@@ -5,7 +5,7 @@ use Rattle.cfdp_retransmission.specs.declared.timer.Timer.{Timer}
 use Rattle.cfdp_retransmission.specs.declared.timer.Expiry.{Expiry}
 use Rattle.cfdp_retransmission.specs.declared.timer.Expiry.TheVariants.{NotDue, Again, Limit}
 use Rattle.cfdp_retransmission.specs.Timers.{restarted, expiry}
-use Rattle.cfdp_retransmission.specs.Finishing.{Happening, Time_is, Acknowledged, Other, Terms, next, next_by, sends_by, waits, times, AreApart, SentAtMost, NoneAfterTheEnd, SentApart, EndsInTime}
+use Rattle.cfdp_retransmission.specs.Finishing.{Happening, Time_is, Acknowledged, Other, Terms, waiting_after, next_by, sends_by, waits, times, AreSpaced, SentAtMostLimit, NoneAfterTheEnd, SentApart, EndsInTime}
 
 -- which of the three it is, and why
 pub data Why (interval limit now : ℕ) (timer : Timer) (found : Expiry) : Type 0 where
@@ -52,16 +52,16 @@ room terms timer (Time_is now ∷ hs) h =
 room terms timer (Acknowledged ∷ hs) h = omega (arith, ap length (over terms hs), h)
 room terms timer (Other ∷ hs) h = room terms timer hs h
 
-pub sent_at_most : SentAtMost
+pub sent_at_most : SentAtMostLimit
 sent_at_most terms at hs h = room terms (restarted at) hs h
 
 -- apart ----------------------------------------------------------------------------
 
 abbrev Apart : Terms → Timer → List Happening → Type 0
-Apart terms timer hs = AreApart terms.interval timer.since (times terms (Some timer) hs)
+Apart terms timer hs = AreSpaced terms.interval timer.since (times terms (Some timer) hs)
 
 apart_by : (terms : Terms) (timer : Timer) (now : ℕ) (hs : List Happening) (found : Expiry) → Why terms.interval terms.limit now timer found →
-    ((t : Timer) → Apart terms t hs) → AreApart terms.interval timer.since (sends_by now found ++ times terms (next_by now timer found) hs)
+    ((t : Timer) → Apart terms t hs) → AreSpaced terms.interval timer.since (sends_by now found ++ times terms (next_by now timer found) hs)
 apart_by terms timer now hs NotDue w ih = ih timer
 apart_by terms timer now hs Again (Early e) ih = absurd cc
 apart_by terms timer now hs Again (Due e due room) ih = (due, ih (record { since = now; count = timer.count + 1 }))
@@ -80,13 +80,13 @@ sent_apart terms at hs = apart terms (restarted at) hs
 
 -- the end --------------------------------------------------------------------------
 
-acknowledged : (terms : Terms) (w : Option Timer) → next terms w Acknowledged ≡ None
+acknowledged : (terms : Terms) (w : Option Timer) → waiting_after terms w Acknowledged ≡ None
 acknowledged terms None = refl
 acknowledged terms (Some timer) = refl
 
 ended : (terms : Terms) (w : Option Timer) (before : List Happening) → waits terms w (before ++ Acknowledged ∷ []) ≡ None
 ended terms w [] = acknowledged terms w
-ended terms w (h ∷ before) = ended terms (next terms w h) before
+ended terms w (h ∷ before) = ended terms (waiting_after terms w h) before
 
 pub none_after_the_end : NoneAfterTheEnd
 none_after_the_end terms at before after =
@@ -96,7 +96,7 @@ none_after_the_end terms at before after =
 
 abbrev Ends : Terms → Timer → List ℕ → Type 0
 Ends terms timer moments =
-    timer.count + 1 ≤ terms.limit → AreApart terms.interval timer.since moments → terms.limit ≤ timer.count + length moments →
+    timer.count + 1 ≤ terms.limit → AreSpaced terms.interval timer.since moments → terms.limit ≤ timer.count + length moments →
     waits terms (Some timer) (map Time_is moments) ≡ None
 
 ends : (terms : Terms) (timer : Timer) (moments : List ℕ) → Ends terms timer moments

@@ -2,12 +2,12 @@
 -- procedures).
 --     Happening                      what happens to it: a moment passes, its acknowledgement comes, or anything else
 --     Terms                          the interval and the limit of its timer
---     next terms waiting happening   the timer after it; None once the PDU is no longer waited for
+--     waiting_after terms waiting happening  the timer after it; None once the PDU is no longer waited for
 --     sends terms waiting happening  the moment at which it is sent again, if it is
 --     waits, times                   the timer after several happenings;  the moments at which it was sent again, in
 --                                    order
---     AreApart interval from times   each moment is at least an interval after the one before, the first after `from`
---     SentAtMost, NoneAfterTheEnd, SentApart, EndsInTime     the laws
+--     AreSpaced interval from times  each moment is at least an interval after the one before, the first after `from`
+--     SentAtMostLimit, NoneAfterTheEnd, SentApart, EndsInTime  the laws
 use Rattle.std.specs.Prelude.{◌≡◌, ⊤, ℕ, ◌+◌, ◌≤◌, List, [], ◌∷◌, ◌++◌, length, map, Option, Some, None}
 use Rattle.cfdp_retransmission.specs.declared.timer.Timer.{Timer}
 use Rattle.cfdp_retransmission.specs.declared.timer.Expiry.{Expiry}
@@ -29,11 +29,11 @@ next_by now timer NotDue = Some timer
 next_by now timer Again = Some (record { since = now; count = timer.count + 1 })
 next_by now timer Limit = None
 
-abbrev pub next : Terms → Option Timer → Happening → Option Timer
-next terms None happening = None
-next terms (Some timer) (Time_is now) = next_by now timer (expiry terms.interval terms.limit now timer)
-next terms (Some timer) Acknowledged = None
-next terms (Some timer) Other = Some timer
+abbrev pub waiting_after : Terms → Option Timer → Happening → Option Timer
+waiting_after terms None happening = None
+waiting_after terms (Some timer) (Time_is now) = next_by now timer (expiry terms.interval terms.limit now timer)
+waiting_after terms (Some timer) Acknowledged = None
+waiting_after terms (Some timer) Other = Some timer
 
 abbrev pub sends_by : ℕ → Expiry → List ℕ
 sends_by now NotDue = []
@@ -48,20 +48,20 @@ sends terms (Some timer) Other = []
 
 abbrev pub waits : Terms → Option Timer → List Happening → Option Timer
 waits terms waiting [] = waiting
-waits terms waiting (happening ∷ happenings) = waits terms (next terms waiting happening) happenings
+waits terms waiting (happening ∷ happenings) = waits terms (waiting_after terms waiting happening) happenings
 
 abbrev pub times : Terms → Option Timer → List Happening → List ℕ
 times terms waiting [] = []
 times terms waiting (happening ∷ happenings) = sends terms waiting happening
-    ++ times terms (next terms waiting happening) happenings
+    ++ times terms (waiting_after terms waiting happening) happenings
 
-abbrev pub AreApart : ℕ → ℕ → List ℕ → Type 0
-AreApart interval from [] = ⊤
-AreApart interval from (time ∷ times) = (from + interval ≤ time) × AreApart interval time times
+abbrev pub AreSpaced : ℕ → ℕ → List ℕ → Type 0
+AreSpaced interval from [] = ⊤
+AreSpaced interval from (time ∷ times) = (from + interval ≤ time) × AreSpaced interval time times
 
 -- it is sent first at `at`
-abbrev pub SentAtMost : Type 0
-SentAtMost = (terms : Terms) (at : ℕ) (happenings : List Happening) → 1 ≤ terms.limit →
+abbrev pub SentAtMostLimit : Type 0
+SentAtMostLimit = (terms : Terms) (at : ℕ) (happenings : List Happening) → 1 ≤ terms.limit →
     1 + length (times terms (Some (restarted at)) happenings) ≤ terms.limit
 
 abbrev pub NoneAfterTheEnd : Type 0
@@ -71,10 +71,10 @@ NoneAfterTheEnd =
 
 abbrev pub SentApart : Type 0
 SentApart = (terms : Terms) (at : ℕ) (happenings : List Happening) →
-    AreApart terms.interval at (times terms (Some (restarted at)) happenings)
+    AreSpaced terms.interval at (times terms (Some (restarted at)) happenings)
 
 abbrev pub EndsInTime : Type 0
 EndsInTime =
-    (terms : Terms) (at : ℕ) (moments : List ℕ) → 1 ≤ terms.limit → AreApart terms.interval at moments →
+    (terms : Terms) (at : ℕ) (moments : List ℕ) → 1 ≤ terms.limit → AreSpaced terms.interval at moments →
     terms.limit ≤ length moments →
     waits terms (Some (restarted at)) (map Time_is moments) ≡ None

@@ -8,7 +8,7 @@
 --     AnswersInOrder requests sent     they answer each request in turn, from its start to its end
 --     IsExchange naks round            the NAK PDUs have these requests, and the pieces answer those that are heard
 --     arrived sent, lost sent          the pieces that are not lost;  how many are lost
---     kept_after rs round              what is received after both answers
+--     kept_after_round rs round        what is received after both answers
 --     is_any_lost asking               whether one of the NAK PDUs is lost, or more
 --     lost_of round                    the pieces that are lost, and 1 more where NAK PDUs are: at most the PDUs lost
 --     asked_for most limit rs          the requests of each NAK PDU that asks for what is missing
@@ -19,11 +19,11 @@
 --     WholeAfterLosses                 after one round more than is lost, and the spare one, nothing is missing
 use Rattle.std.specs.Prelude.{◌≡◌, ⊤, ℕ, ◌+◌, ◌≤◌, ◌<◌, Bool, false, ◌||◌, if◌then◌else◌, nat_le, List, [], ◌∷◌, ◌++◌, map, length}
 use Rattle.cfdp_transactions.specs.Received.{Received, pieces, gaps_below}
-use Rattle.cfdp_retransmission.specs.Naks.{Range, naks}
+use Rattle.cfdp_retransmission.specs.Naks.{SegmentRequest, naks}
 use Rattle.cfdp_retransmission.specs.Coming.{Piece, keep_all, zero_missing, one_if}
 
 pub record Asking : Type 0 where
-  pub requests : List Range
+  pub requests : List SegmentRequest
   pub is_lost : Bool
 
 pub record Sending : Type 0 where
@@ -37,7 +37,7 @@ pub record Exchange : Type 0 where
   pub asking_again : List Asking
   pub sent_again : List Sending
 
-abbrev pub heard_requests : List Asking → List Range
+abbrev pub heard_requests : List Asking → List SegmentRequest
 heard_requests [] = []
 heard_requests (a ∷ more) = if a.is_lost then heard_requests more else a.requests ++ heard_requests more
 
@@ -45,13 +45,13 @@ abbrev pub Covers : ℕ → ℕ → List Sending → Type 0
 Covers at end [] = at ≡ end
 Covers at end (s ∷ ss) = (s.piece.0 ≡ at) × Covers (at + length s.piece.1) end ss
 
-abbrev pub AnswersInOrder : List Range → List Sending → Type 0
+abbrev pub AnswersInOrder : List SegmentRequest → List Sending → Type 0
 AnswersInOrder [] sent = sent ≡ []
 AnswersInOrder (r ∷ rs) sent =
     (front : List Sending) × (back : List Sending) × (sent ≡ front ++ back) × Covers r.0 r.1 front
     × AnswersInOrder rs back
 
-pub record IsExchange (naks : List (List Range)) (round : Exchange) : Type 0 where
+pub record IsExchange (naks : List (List SegmentRequest)) (round : Exchange) : Type 0 where
   pub asks : map (λ a. a.requests) round.asking ≡ naks
   pub in_order : AnswersInOrder (heard_requests round.asking) round.sent
   pub asks_again : map (λ a. a.requests) round.asking_again ≡ naks
@@ -72,20 +72,20 @@ is_any_lost (a ∷ more) = a.is_lost || is_any_lost more
 abbrev pub lost_of : Exchange → ℕ
 lost_of round = lost round.sent + lost round.sent_again + one_if (is_any_lost round.asking)
 
-abbrev pub kept_after : Received → Exchange → Received
-kept_after rs round = keep_all (keep_all rs (arrived round.sent)) (arrived round.sent_again)
+abbrev pub kept_after_round : Received → Exchange → Received
+kept_after_round rs round = keep_all (keep_all rs (arrived round.sent)) (arrived round.sent_again)
 
-abbrev pub asked_for : ℕ → ℕ → Received → List (List Range)
+abbrev pub asked_for : ℕ → ℕ → Received → List (List SegmentRequest)
 asked_for most limit rs = map (λ nak. nak.requests) (naks most 0 limit (gaps_below limit rs))
 
 abbrev pub AreRounds : ℕ → ℕ → Received → List Exchange → Type 0
 AreRounds most limit rs [] = ⊤
 AreRounds most limit rs (round ∷ rounds) =
-    IsExchange (asked_for most limit rs) round × AreRounds most limit (kept_after rs round) rounds
+    IsExchange (asked_for most limit rs) round × AreRounds most limit (kept_after_round rs round) rounds
 
 abbrev pub after_rounds : Received → List Exchange → Received
 after_rounds rs [] = rs
-after_rounds rs (round ∷ rounds) = after_rounds (kept_after rs round) rounds
+after_rounds rs (round ∷ rounds) = after_rounds (kept_after_round rs round) rounds
 
 abbrev pub lost_in : List Exchange → ℕ
 lost_in [] = 0

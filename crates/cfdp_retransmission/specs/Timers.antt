@@ -2,7 +2,7 @@
 --     restarted now                     a timer that begins now
 --     expiry interval limit now timer   whether a timer has expired at a moment, and whether that reaches the limit
 --     passed now timer expiry           a timer that was served: begun anew where it had expired
---     after interval limit now timer    a timer that is served at a moment
+--     served_timer interval limit now timer  a timer that is served at a moment
 use Rattle.std.specs.Prelude.{ℕ, ◌+◌, if◌then◌else◌, nat_lt, nat_le}
 use Rattle.cfdp_retransmission.specs.declared.timer.Timer.{Timer}
 use Rattle.cfdp_retransmission.specs.declared.timer.Expiry.{Expiry}
@@ -22,5 +22,5 @@ passed now timer NotDue = timer
 passed now timer Again = record { since = now; count = timer.count + 1 }
 passed now timer Limit = restarted now
 
-abbrev pub after : ℕ → ℕ → ℕ → Timer → Timer
-after interval limit now timer = passed now timer (expiry interval limit now timer)
+abbrev pub served_timer : ℕ → ℕ → ℕ → Timer → Timer
+served_timer interval limit now timer = passed now timer (expiry interval limit now timer)

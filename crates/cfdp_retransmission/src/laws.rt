@@ -1,13 +1,13 @@
 //! What is true of the procedures. These functions do nothing: their contracts are the laws.
 
-ghost use Rattle.cfdp_retransmission.specs.Finishing.{SentAtMost, NoneAfterTheEnd, SentApart, EndsInTime};
+ghost use Rattle.cfdp_retransmission.specs.Finishing.{SentAtMostLimit, NoneAfterTheEnd, SentApart, EndsInTime};
 ghost use Rattle.cfdp_retransmission.specs.Naks.{AsksForAll, EachIsShort, AreSideBySide, EachIsWithin, FewNaks};
 ghost use Rattle.cfdp_retransmission.specs.Coming.{AnsweredIsWhole, AnsweredInOrder, AskedOnce, NotAsked};
 ghost use Rattle.cfdp_retransmission.specs.Rounds.{WholeAfterLosses};
 
 /// A Finished PDU is sent at most `limit` times, the first time included.
 pub fn sent_at_most()
-    ensures { SentAtMost }
+    ensures { SentAtMostLimit }
 {}
 
 /// After its acknowledgement it is not sent again.

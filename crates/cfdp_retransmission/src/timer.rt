@@ -1,7 +1,7 @@
 //! A timer that counts how often it expired.
 
 ghost use Rattle.std.specs.Prelude.{◌≡◌, ◌<◌, ◌+◌, ◌^◌, nat_le};
-ghost use Rattle.cfdp_retransmission.specs.Timers.{after, expiry, passed, restarted};
+ghost use Rattle.cfdp_retransmission.specs.Timers.{served_timer, expiry, passed, restarted};
 ghost use Rattle.cfdp_retransmission.specs.declared.timer.Expiry.TheVariants.{Again};
 
 /// A timer: the moment from which it runs, and how often it expired in a row. Moments and intervals are in ticks of the
@@ -77,7 +77,7 @@ impl Timer {
     /// more in its count, or with none where the limit was reached. Otherwise it stays as it is. In constant time.
     pub fn serve(&mut self, interval: u64, limit: u64, now: u64) -> Expiry
         ensures expiry { result ≡ expiry interval limit now self.old }
-        ensures timer { self.new ≡ after interval limit now self.old }
+        ensures timer { self.new ≡ served_timer interval limit now self.old }
     {
         let expiry = self.expiry(interval, limit, now);
         match expiry {

@@ -3,7 +3,7 @@ use Rattle.std.proofs.Common.{◌≡◌, ℕ, List, [], ◌∷◌, ◌++◌, ref
 use Rattle.std.proofs.lemmas.List.{append-nil}
 use Rattle.cfdp_receiver.specs.State.{State, AnswerFields, Input}
 use Rattle.cfdp_receiver.specs.Machine.{MachineFields, AnswerParts, answer_in}
-use Rattle.cfdp_receiver.specs.Turning.{turn, after, after_all}
+use Rattle.cfdp_receiver.specs.Turning.{turn, after_input, after_all}
 use Rattle.cfdp_reports.specs.Reports.{answer_text}
 use Rattle.cfdp_run.specs.Playing.{Plays, turn_text, played}
 
@@ -12,7 +12,7 @@ pub answered : (R : State) (i : Input) (N : MachineFields) (a : AnswerParts) →
     answer_text N.state.mib (answer_in N a) ≡ turn_text R i
 answered R i N a e = ap (λ (x : State × AnswerFields). answer_text x.0.mib x.1) (sym e)
 
-pub turned_to : (R : State) (i : Input) (N : MachineFields) (a : AnswerParts) → turn R i ≡ (N.state, answer_in N a) → N.state ≡ after R i
+pub turned_to : (R : State) (i : Input) (N : MachineFields) (a : AnswerParts) → turn R i ≡ (N.state, answer_in N a) → N.state ≡ after_input R i
 turned_to R i N a e = ap (λ (x : State × AnswerFields). x.0) (sym e)
 
 pub plays_one : (R : State) (i : Input) (N : MachineFields) (a : AnswerParts) (before text : List ℕ) → turn R i ≡ (N.state, answer_in N a) →
@@ -38,9 +38,9 @@ plays_more R i is N a M before lines text e l p =
 
 pub ends_both : (R : State) (is js : List Input) → after_all R (is ++ js) ≡ after_all (after_all R is) js
 ends_both R [] js = refl
-ends_both R (i ∷ is) js = ends_both (after R i) is js
+ends_both R (i ∷ is) js = ends_both (after_input R i) is js
 
 pub played_both : (R : State) (is js : List Input) → played R (is ++ js) ≡ played R is ++ played (after_all R is) js
 played_both R [] js = refl
-played_both R (i ∷ is) js = ap (λ (t : List ℕ). turn_text R i ++ t) (played_both (after R i) is js)
-    ∙ sym (append_assoc (turn_text R i) (played (after R i) is) (played (after_all (after R i) is) js))
+played_both R (i ∷ is) js = ap (λ (t : List ℕ). turn_text R i ++ t) (played_both (after_input R i) is js)
+    ∙ sym (append_assoc (turn_text R i) (played (after_input R i) is) (played (after_all (after_input R i) is) js))

@@ -4,7 +4,7 @@ use Rattle.std.proofs.lemmas.List.{append-nil}
 use Rattle.cfdp_transactions.specs.World.{next_runnable}
 use Rattle.cfdp_receiver.specs.Due.{first_over}
 use Rattle.cfdp_receiver.specs.State.{State, Input, Expire, Work, Finish}
-use Rattle.cfdp_receiver.specs.Turning.{after, after_all, parts}
+use Rattle.cfdp_receiver.specs.Turning.{after_input, after_all, parts}
 use Rattle.cfdp_run.specs.Playing.{Plays, played, next_settled, settled_by, settling, settled_after, is_nothing, passing}
 use Rattle.cfdp_run.proofs.Follows.{ends_both, played_both}
 
@@ -34,15 +34,16 @@ left_none R start all before text h = record { ends = h.ends; writes = sym (appe
 
 -- ---- all is settled
 
-pub settling_next : (left now : ℕ) (R : State) (i : Input) → next_settled now R ≡ Some i → settling (suc left) now R ≡ (i ∷ []) ++ settling left now (after R i)
+pub settling_next : (left now : ℕ) (R : State) (i : Input) → next_settled now R ≡ Some i → settling (suc left) now R ≡ (i ∷ []) ++ settling left now
+    (after_input R i)
 unfolding settling
-settling_next left now R i e = ap (λ (first : Option Input). settled_by first (λ j. settling left now (after R j))) e
+settling_next left now R i e = ap (λ (first : Option Input). settled_by first (λ j. settling left now (after_input R j))) e
 
 pub settling_none : (left now : ℕ) (R : State) → (left ≡ 0) ⊎ (next_settled now R ≡ None) → settling left now R ≡ []
 unfolding settling
 settling_none zero now R h = refl
 settling_none (suc left) now R (inl e) = cc e
-settling_none (suc left) now R (inr e) = ap (λ (first : Option Input). settled_by first (λ j. settling left now (after R j))) e
+settling_none (suc left) now R (inr e) = ap (λ (first : Option Input). settled_by first (λ j. settling left now (after_input R j))) e
 
 -- ---- time passes
 
@@ -76,9 +77,10 @@ pub settles_next : (left more now : ℕ) (R : State) (i : Input) (start : State)
     left ≡ suc more → next_settled now R ≡ Some i → Left R (settling left now R) start all before text → Plays R (i ∷ []) N text later →
     Left N (settling more now N) start all before later
 settles_next left more now R i start all before text N later one some h p =
-    let first : settling left now R ≡ (i ∷ []) ++ settling more now (after R i) = ap (λ (k : ℕ). settling k now R) one ∙ settling_next more now R i some in
+    let first : settling left now R ≡ (i ∷ []) ++ settling more now (after_input R i) = ap (λ (k : ℕ). settling k now R) one
+    ∙ settling_next more now R i some in
     let next =
-    left_next R (i ∷ []) (settling more now (after R i)) start all before text N later
+    left_next R (i ∷ []) (settling more now (after_input R i)) start all before text N later
     (subst (λ (is : List Input). Left R is start all before text) first h) p in
     subst (λ (Q : State). Left N (settling more now Q) start all before later) (sym p.ends) next
 

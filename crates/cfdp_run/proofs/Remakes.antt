@@ -10,7 +10,7 @@ use Rattle.cfdp_paths.specs.Paths.{Path, path_cmp, is_at_or_below}
 use Rattle.cfdp_paths.proofs.Comparing.{path_cmp-total}
 use Rattle.cfdp_paths.proofs.InOrder.{path_antisym}
 use Rattle.cfdp_actions.specs.Filestore.{Node, Directory, Filestore, node_at, tree_at}
-use Rattle.cfdp_actions.specs.Store.{entry_of, listing_of}
+use Rattle.cfdp_actions.specs.Store.{listing_entry, listing_of}
 use Rattle.cfdp_actions.specs.declared.kind.Entry.{Entry}
 use Rattle.cfdp_leases.proofs.ReadFrame.{get_kept}
 use Rattle.cfdp_leases.proofs.Rooted.{Of, tree_at-of}
@@ -20,7 +20,7 @@ use Rattle.cfdp_transactions.specs.Restart.{put_all, CanPutAll, PutBackIsSame}
 use Rattle.cfdp_transactions.specs.Sound.{Sound}
 use Rattle.cfdp_transactions.specs.World.{World, start}
 use Rattle.cfdp_transactions.specs.Entry.{Entry as Row}
-use Rattle.cfdp_run.specs.Remaking.{CanCopy}
+use Rattle.cfdp_run.specs.code.Remaking.{CanCopy}
 use Rattle.cfdp_run.proofs.Puts.{put_all-config, can_put_all-config}
 
 abbrev pub nodes_of : Filestore → List (Path × Node)
@@ -83,7 +83,7 @@ length-map f (x ∷ xs) = ap suc (length-map f xs)
 pub record IsListed (F : Filestore) (i : ℕ) (entry : Entry) : Type 0 where
   pub node : Node
   pub cut : drop i (nodes_of F) ≡ (entry.path, node) ∷ drop (i + 1) (nodes_of F)
-  pub is : entry ≡ entry_of (entry.path, node)
+  pub is : entry ≡ listing_entry (entry.path, node)
   pub there : node_at F entry.path ≡ Some node
 
 listed_at : (F : Filestore) (i : ℕ) (entry : Entry) → entry ≡ get_or (listing_of F) i entry → i < length (listing_of F) → IsListed F i entry
@@ -91,14 +91,14 @@ listed_at F i entry is within =
     let es = nodes_of F in
     let none : Path × Node = ([], Directory) in
     let e : Path × Node = get_or es i none in
-    let lt : i < length es = omega (arith, within, length-map entry_of es) in
-    let same : entry ≡ entry_of e = is ∙ get_or-map entry_of es i none entry lt in
+    let lt : i < length es = omega (arith, within, length-map listing_entry es) in
+    let same : entry ≡ listing_entry e = is ∙ get_or-map listing_entry es i none entry lt in
     let path : entry.path ≡ e.0 = ap (λ (x : Entry). x.path) same in
     let next : suc i ≡ i + 1 = omega arith in
     record {
       node = e.1;
       cut = drop-cons es i none lt ∙ ap (λ (p : Path). (p, e.1) ∷ drop (suc i) es) (sym path) ∙ ap (λ (k : ℕ). (entry.path, e.1) ∷ drop k es) next;
-      is = same ∙ ap (λ (p : Path). entry_of (p, e.1)) (sym path);
+      is = same ∙ ap (λ (p : Path). listing_entry (p, e.1)) (sym path);
       there = ap (node_at F) path ∙ at_index (λ (x : Path × Node). node_at F x.0 ≡ Some x.1) es i none (each_of F) lt;
     }
 
@@ -119,4 +119,4 @@ copied F i entry W V end listed left put =
 
 pub all_copied : (F : Filestore) (xs : List Entry) (i : ℕ) (W end : World) → xs ≡ listing_of F → length xs ≤ i → Leaves W (drop i (nodes_of F)) end → W ≡ end
 all_copied F xs i W end all done left =
-    leaves_none W end (drop i (nodes_of F)) (drop_all i (nodes_of F) (omega (arith, done, ap length all, length-map entry_of (nodes_of F)))) left
+    leaves_none W end (drop i (nodes_of F)) (drop_all i (nodes_of F) (omega (arith, done, ap length all, length-map listing_entry (nodes_of F)))) left

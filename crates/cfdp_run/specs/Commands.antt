@@ -1,16 +1,16 @@
 -- What a line of a script says, by its octets, the settings before it, and how far the head of the script is. Its texts
 -- are its words.
---     Content, Said             what a file holds that the filestore begins with;  what a line says: a command, with
+--     Content, LineMeaning      what a file holds that the filestore begins with;  what a line says: a command, with
 --                               octets as lists
---     content_of, said_of       the same of a value of the program
+--     content_of, command_meaning  the same of a value of the program
 --     first_then                something, and then more by it, or what is wrong first
 --     setting mib text          the settings with the one that a word `KEY=VALUE` writes
 --     settings_in mib texts     the same of one or more words, from the left
 --     config_in progress numbers        the configuration of five numbers
 --     only_path word texts      the path that is the only text
 --     only_name word texts      the transaction that the two texts name
---     octets_in texts           the octets that one or more texts of hexadecimal spell, at least one, if each does
---     put_in, at_in, line_in, alone     what the texts after `put` say;  after `at`;  after `expect`;
+--     octets_spelled texts      the octets that one or more texts of hexadecimal spell, at least one, if each does
+--     put_in, at_in, line_in, says_alone  what the texts after `put` say;  after `at`;  after `expect`;
 --                                       that there is none
 --     says mib progress word texts      what the texts after a word say, or what is wrong with them
 --     command_in mib progress line      what a line says; nothing of a comment and of a line without a word; or the
@@ -24,12 +24,12 @@ use Rattle.std.specs.Option.{ok_or, option_map_or}
 use Rattle.std.specs.List.{join_with_byte}
 use Rattle.cfdp_status.specs.declared.transaction.TransactionId.{TransactionId}
 use Rattle.cfdp_paths.specs.Paths.{Path, is_slash, path_of}
-use Rattle.cfdp_transactions.specs.Config.{Config, first_fault}
+use Rattle.cfdp_transactions.specs.Config.{Config, config_fault}
 use Rattle.cfdp_transactions.specs.declared.config.ConfigFault.{ConfigFault}
 use Rattle.cfdp_lines.specs.Hexadecimal.{octets_of_words}
 use Rattle.cfdp_lines.specs.Lines.{is_comment, is_overlong}
 use Rattle.cfdp_lines.specs.Words.{id_by, number_of, numbers_of, words_of}
-use Rattle.cfdp_plans.specs.Names.{name_in, path_at}
+use Rattle.cfdp_plans.specs.Names.{name_in, path_spelled}
 use Rattle.cfdp_receiver.specs.declared.mib.Mib.{Mib}
 use Rattle.cfdp_run.specs.Settings.{key_of, with_value}
 use Rattle.cfdp_run.specs.Words.{is_of_head, word_of}
@@ -53,42 +53,42 @@ pub data Content : Type 0 where
   Octets : (octets : List ℕ) → Content
   File : (name : List ℕ) → Content
 
-pub data Said : Type 0 where
-  Settings : Mib → Said
-  Configure : Config → Said
-  Protect : Path → Said
-  PutDirectory : Path → Said
-  PutFile : Path → Content → Said
-  Receive : (now : ℕ) → (octets : List ℕ) → Said
-  Cancel : (now : ℕ) → TransactionId → Said
-  Pass : (now : ℕ) → Said
-  Get : Path → Said
-  Gaps : TransactionId → Said
-  Phase : TransactionId → Said
-  ListAll : Said
-  Expect : (line : List ℕ) → Said
-  End : Said
+pub data LineMeaning : Type 0 where
+  Settings : Mib → LineMeaning
+  Configure : Config → LineMeaning
+  Protect : Path → LineMeaning
+  PutDirectory : Path → LineMeaning
+  PutFile : Path → Content → LineMeaning
+  Receive : (now : ℕ) → (octets : List ℕ) → LineMeaning
+  Cancel : (now : ℕ) → TransactionId → LineMeaning
+  Pass : (now : ℕ) → LineMeaning
+  Get : Path → LineMeaning
+  Gaps : TransactionId → LineMeaning
+  Phase : TransactionId → LineMeaning
+  ListAll : LineMeaning
+  Expect : (line : List ℕ) → LineMeaning
+  End : LineMeaning
 
 abbrev pub content_of : ContentValue → Content
 content_of content.None = Nothing
 content_of (content.Octets octets) = Octets octets.items
 content_of (content.File name) = File name.now
 
-abbrev pub said_of : Command → Said
-said_of (command.Settings mib) = Settings mib
-said_of (command.Configure config) = Configure config
-said_of (command.Protect path) = Protect path
-said_of (command.PutDirectory path) = PutDirectory path
-said_of (command.PutFile path content) = PutFile path (content_of content)
-said_of (command.Receive now octets) = Receive now octets.items
-said_of (command.Cancel now id) = Cancel now id
-said_of (command.Pass now) = Pass now
-said_of (command.Get path) = Get path
-said_of (command.Gaps id) = Gaps id
-said_of (command.Phase id) = Phase id
-said_of command.List = ListAll
-said_of (command.Expect line) = Expect line.items
-said_of command.End = End
+abbrev pub command_meaning : Command → LineMeaning
+command_meaning (command.Settings mib) = Settings mib
+command_meaning (command.Configure config) = Configure config
+command_meaning (command.Protect path) = Protect path
+command_meaning (command.PutDirectory path) = PutDirectory path
+command_meaning (command.PutFile path content) = PutFile path (content_of content)
+command_meaning (command.Receive now octets) = Receive now octets.items
+command_meaning (command.Cancel now id) = Cancel now id
+command_meaning (command.Pass now) = Pass now
+command_meaning (command.Get path) = Get path
+command_meaning (command.Gaps id) = Gaps id
+command_meaning (command.Phase id) = Phase id
+command_meaning command.List = ListAll
+command_meaning (command.Expect line) = Expect line.items
+command_meaning command.End = End
 
 abbrev pub first_then : {A B : Type 0} → Result A Wrong → (A → Result B Wrong) → Result B Wrong
 first_then (Ok first) later = later first
@@ -132,7 +132,7 @@ config_ranged (Some fault) config = Err wrong.ConfigRange
 
 abbrev pub config_of : (entity blocks cap checks journal : ℕ) → Result Config Wrong
 config_of entity blocks cap checks journal =
-    config_ranged (first_fault blocks cap checks journal)
+    config_ranged (config_fault blocks cap checks journal)
     (record { entity = entity; blocks = blocks; cap = cap; checks = checks; journal = journal; prefixes = [] })
 
 abbrev pub is_fresh : Progress → Bool
@@ -151,7 +151,7 @@ abbrev pub path_or_wrong : Option Path → Result Path Wrong
 path_or_wrong path = ok_or path wrong.NoPath
 
 abbrev pub only_path : Word → List (List ℕ) → Result Path Wrong
-only_path word (text ∷ []) = path_or_wrong (path_at text)
+only_path word (text ∷ []) = path_or_wrong (path_spelled text)
 only_path word texts = Err (wrong.Expected word)
 
 abbrev pub only_name : Word → List (List ℕ) → Result TransactionId Wrong
@@ -161,8 +161,8 @@ abbrev pub at_least_one : List ℕ → Option (List ℕ)
 at_least_one [] = None
 at_least_one (octet ∷ octets) = Some (octet ∷ octets)
 
-abbrev pub octets_in : List (List ℕ) → Option (List ℕ)
-octets_in texts = option_and_then at_least_one (octets_of_words texts)
+abbrev pub octets_spelled : List (List ℕ) → Option (List ℕ)
+octets_spelled texts = option_and_then at_least_one (octets_of_words texts)
 
 -- ---- `put`: a path, which with a `/` at its end is that of a directory; and what the file holds
 
@@ -171,11 +171,11 @@ abbrev pub before_slash : List ℕ → Option (List ℕ)
 before_slash octets =
     if is_slash (slice_index octets (length octets - 1)) then Some (take (length octets - 1) octets) else None
 
-abbrev pub directory_or_file : List ℕ → Option (List ℕ) → Result Said Wrong
+abbrev pub directory_or_file : List ℕ → Option (List ℕ) → Result LineMeaning Wrong
 directory_or_file octets (Some front) = saying PutDirectory (path_or_wrong (path_of front))
 directory_or_file octets None = saying (λ path. PutFile path Nothing) (path_or_wrong (path_of octets))
 
-abbrev pub put_alone : Option (List ℕ) → Result Said Wrong
+abbrev pub put_alone : Option (List ℕ) → Result LineMeaning Wrong
 put_alone name = first_then (ok_or name wrong.NoPath) (λ octets. directory_or_file octets (before_slash octets))
 
 abbrev pub only_file : List ℕ → List (List ℕ) → Option Content
@@ -183,7 +183,7 @@ only_file name [] = Some (File name)
 only_file name (text ∷ texts) = None
 
 abbrev pub hexadecimal_in : List (List ℕ) → Option Content
-hexadecimal_in texts = option_map Octets (octets_in texts)
+hexadecimal_in texts = option_map Octets (octets_spelled texts)
 
 -- `@` with the name of a file, and nothing else; or hexadecimal
 abbrev pub content_in : List (List ℕ) → Option Content
@@ -192,27 +192,27 @@ content_in ([] ∷ texts) = hexadecimal_in ([] ∷ texts)
 content_in ((octet ∷ name) ∷ texts) = if octet == 64 then only_file name texts
     else hexadecimal_in ((octet ∷ name) ∷ texts)
 
-abbrev pub put_with : List ℕ → Option Content → Result Said Wrong
+abbrev pub put_with : List ℕ → Option Content → Result LineMeaning Wrong
 put_with text content =
     first_then (ok_or content (wrong.Expected word.Put))
-    (λ holds. saying (λ path. PutFile path holds) (path_or_wrong (path_at text)))
+    (λ holds. saying (λ path. PutFile path holds) (path_or_wrong (path_spelled text)))
 
-abbrev pub put_in : List (List ℕ) → Result Said Wrong
+abbrev pub put_in : List (List ℕ) → Result LineMeaning Wrong
 put_in [] = Err (wrong.Expected word.Put)
 put_in (text ∷ []) = put_alone (name_in text)
 put_in (text ∷ next ∷ texts) = put_with text (content_in (next ∷ texts))
 
 -- ---- `at`: a time, and an input
 
-abbrev pub input_in : ℕ → List (List ℕ) → Result Said Wrong
+abbrev pub input_in : ℕ → List (List ℕ) → Result LineMeaning Wrong
 input_in now [] = Ok (Pass now)
 input_in now (text ∷ texts) =
     if bytes_eq text (codes "pdu") then saying (λ octets. Receive now octets)
-    (ok_or (octets_in texts) (wrong.Expected word.At))
+    (ok_or (octets_spelled texts) (wrong.Expected word.At))
     else if bytes_eq text (codes "cancel") then saying (λ id. Cancel now id) (only_name word.At texts)
     else Err (wrong.Expected word.At)
 
-abbrev pub at_in : List (List ℕ) → Result Said Wrong
+abbrev pub at_in : List (List ℕ) → Result LineMeaning Wrong
 at_in [] = Err (wrong.Expected word.At)
 at_in (text ∷ texts) = first_then (ok_or (number_of text) (wrong.Expected word.At)) (λ now. input_in now texts)
 
@@ -223,13 +223,13 @@ abbrev pub line_in : List (List ℕ) → Result (List ℕ) Wrong
 line_in [] = Err (wrong.Expected word.Expect)
 line_in (text ∷ texts) = Ok (join_with_byte 32 (text ∷ texts))
 
-abbrev pub alone : Word → Said → List (List ℕ) → Result Said Wrong
-alone word what [] = Ok what
-alone word what (text ∷ texts) = Err (wrong.Expected word)
+abbrev pub says_alone : Word → LineMeaning → List (List ℕ) → Result LineMeaning Wrong
+says_alone word what [] = Ok what
+says_alone word what (text ∷ texts) = Err (wrong.Expected word)
 
 -- ---- lines
 
-abbrev pub says : Mib → Progress → Word → List (List ℕ) → Result Said Wrong
+abbrev pub says : Mib → Progress → Word → List (List ℕ) → Result LineMeaning Wrong
 says mib how_far word.Mib texts = saying Settings (settings_in mib texts)
 says mib how_far word.Config texts = saying Configure (config_in how_far (numbers_of texts))
 says mib how_far word.Protect texts = saying Protect (only_path word.Protect texts)
@@ -238,27 +238,27 @@ says mib how_far word.At texts = at_in texts
 says mib how_far word.Get texts = saying Get (only_path word.Get texts)
 says mib how_far word.Gaps texts = saying Gaps (only_name word.Gaps texts)
 says mib how_far word.Phase texts = saying Phase (only_name word.Phase texts)
-says mib how_far word.List texts = alone word.List ListAll texts
+says mib how_far word.List texts = says_alone word.List ListAll texts
 says mib how_far word.Expect texts = saying Expect (line_in texts)
-says mib how_far word.End texts = alone word.End End texts
+says mib how_far word.End texts = says_alone word.End End texts
 
 abbrev pub is_playing : Progress → Bool
 is_playing progress.Fresh = false
 is_playing progress.Begun = false
 is_playing progress.Playing = true
 
-abbrev pub in_time : Mib → Progress → Word → List (List ℕ) → Result Said Wrong
+abbrev pub in_time : Mib → Progress → Word → List (List ℕ) → Result LineMeaning Wrong
 in_time mib how_far word texts = if is_of_head word && is_playing how_far then Err (wrong.TooLate word)
     else says mib how_far word texts
 
-abbrev pub begun_by : Mib → Progress → Option Word → List (List ℕ) → Result Said Wrong
+abbrev pub begun_by : Mib → Progress → Option Word → List (List ℕ) → Result LineMeaning Wrong
 begun_by mib how_far word texts = first_then (ok_or word wrong.UnknownWord) (λ known. in_time mib how_far known texts)
 
-abbrev pub texts_say : Mib → Progress → List (List ℕ) → Result (Option Said) Wrong
+abbrev pub texts_say : Mib → Progress → List (List ℕ) → Result (Option LineMeaning) Wrong
 texts_say mib how_far [] = Ok None
 texts_say mib how_far (text ∷ texts) = saying Some (begun_by mib how_far (word_of text) texts)
 
-abbrev pub command_in : Mib → Progress → List ℕ → Result (Option Said) Wrong
+abbrev pub command_in : Mib → Progress → List ℕ → Result (Option LineMeaning) Wrong
 command_in mib how_far line =
     if is_overlong line then Err wrong.TooLong
     else if is_comment line then Ok None
@@ -279,7 +279,7 @@ OnMemory (Err (fault.Wrong wrong)) P = ⊤
 OnMemory (Ok what) P = ⊤
 
 -- with a path, octets or a line in it
-abbrev pub takes_memory : Said → Bool
+abbrev pub takes_memory : LineMeaning → Bool
 takes_memory (Protect path) = true
 takes_memory (PutDirectory path) = true
 takes_memory (PutFile path content) = true
@@ -294,5 +294,5 @@ asks_by asks (Ok what) = asks what
 asks_by asks (Err wrong.NoPath) = true
 asks_by asks (Err others) = false
 
-abbrev pub asks_memory : Result (Option Said) Wrong → Bool
+abbrev pub asks_memory : Result (Option LineMeaning) Wrong → Bool
 asks_memory what = asks_by (λ found. option_map_or takes_memory found false) what

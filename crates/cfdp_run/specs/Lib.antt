@@ -4,10 +4,10 @@ pub mod Laws
 pub mod Playing
 pub mod Putting
 pub mod Questions
-pub mod Remaking
 pub mod Scripts
 pub mod Settings
 pub mod Stages
 pub mod Stops
 pub mod Words
 pub mod Wrongs
+pub mod code

@@ -18,7 +18,7 @@ use Rattle.cfdp_receiver.specs.State.{State, Input, Expire, Work, Finish}
 use Rattle.cfdp_receiver.specs.declared.answer.Became.{Became}
 use Rattle.cfdp_receiver.specs.declared.answer.Became.TheVariants.{Nothing}
 use Rattle.cfdp_receiver.specs.Due.{first_over}
-use Rattle.cfdp_receiver.specs.Turning.{parts, after, after_all}
+use Rattle.cfdp_receiver.specs.Turning.{parts, after_input, after_all}
 use Rattle.cfdp_reports.specs.Reports.{answer_text, dropped_line}
 
 abbrev pub turn_text : State → Input → List ℕ
@@ -26,7 +26,7 @@ turn_text R i = answer_text R.mib (parts R i).answer
 
 abbrev pub played : State → List Input → List ℕ
 played R [] = []
-played R (i ∷ is) = turn_text R i ++ played (after R i) is
+played R (i ∷ is) = turn_text R i ++ played (after_input R i) is
 
 -- ---- all is settled
 
@@ -45,10 +45,10 @@ settled_by (Some i) later = i ∷ later i
 
 unfoldable pub settling : ℕ → ℕ → State → List Input
 settling zero now R = []
-settling (suc left) now R = settled_by (next_settled now R) (λ i. settling left now (after R i))
+settling (suc left) now R = settled_by (next_settled now R) (λ i. settling left now (after_input R i))
 
 abbrev pub settled_after : ℕ → State → Input → List Input
-settled_after now R i = i ∷ settling most_settled now (after R i)
+settled_after now R i = i ∷ settling most_settled now (after_input R i)
 
 -- ---- time passes
 

@@ -8,7 +8,7 @@
 --     stage_word, name_word     how far one with a session is;  one without
 --     phase_word, phase_line    what is written of a question for it
 use Rattle.std.specs.Prelude.{ℕ, ◌==◌, if◌then◌else◌, List, [], ◌∷◌, ◌++◌, length, Option, Some, None, codes, flat_map}
-use Rattle.cfdp_status.specs.Transaction.{name_of}
+use Rattle.cfdp_status.specs.Transaction.{transaction_name}
 use Rattle.cfdp_status.specs.declared.transaction.TransactionId.{TransactionId}
 use Rattle.cfdp_texts.specs.Replies.{line, labelled}
 use Rattle.cfdp_transactions.specs.Entry.{Entry, gaps}
@@ -47,7 +47,7 @@ gaps_text W id None = codes " unknown"
 gaps_text W id (Some s) = ranges_text (missing_at W id s.stage)
 
 abbrev pub gaps_line : State → TransactionId → List ℕ
-gaps_line R id = line (name_of id ++ codes " gaps" ++ gaps_text R.world id (session_of R id))
+gaps_line R id = line (transaction_name id ++ codes " gaps" ++ gaps_text R.world id (session_of R id))
 
 -- Those that are left once all is settled have words of their own.
 abbrev pub phase_text : Phase → List ℕ
@@ -74,4 +74,4 @@ phase_word R id None = name_word (status_of R id)
 phase_word R id (Some s) = stage_word R.world id s.stage
 
 abbrev pub phase_line : State → TransactionId → List ℕ
-phase_line R id = line (name_of id ++ codes " phase " ++ phase_word R id (session_of R id))
+phase_line R id = line (transaction_name id ++ codes " phase " ++ phase_word R id (session_of R id))

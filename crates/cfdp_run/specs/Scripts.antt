@@ -1,27 +1,25 @@
 -- What each line of a script does, what a whole script writes, and where and why it stops.
---     Head, Play, Stage         what the head says so far;  a receiving entity to which inputs come;  a script between
+--     Head, Play, ScriptStage   what the head says so far;  a receiving entity to which inputs come;  a script between
 --                               two lines
---     at_first                  before the first line
+--     script_at_first           before the first line
 --     play_of stage             the head is over
---     changed, written          what a line does: the stage after it, and what it writes
+--     head_changed, written     what a line does: the stage after it, and what it writes
 --     unless wrong later        later, unless something is wrong
---     protected, put_node, put, octets_of      what `protect` and `put` do;  the octets that a file is to have
+--     head_protected, put_node, put, octets_of  what `protect` and `put` do;  the octets that a file is to have
 --     in_head word stage change     a line of the head, which is too late after it
 --     moved, heard_at, asked    octets come, or other inputs, at a time;  a question is answered
 --     is_written, expected      a line is among those that were written last;  it has to be
---     obeyed files stage said   what a command does, where the files have these octets: the stage after it and what it
---                               writes, or why the script stops
+--     command_obeyed files stage said  what a command does, where the files have these octets: the stage after it and
+--                               what it writes, or why the script stops
 --     line_step files stage line        the same of a line
 --     answer files stage line           the stage after it and what it writes, unless the script stops there
---     script_report files script        what a whole script writes, and the line at which it stops, if it does
---     why_from, script_stop             why several lines stop, if they do;  why a whole script does
+--     why_from                          why several lines stop, if they do
 use Rattle.std.specs.Prelude.{ℕ, nat_lt, max, Bool, true, false, if◌then◌else◌, List, [], ◌∷◌, ◌++◌, length, Option, Some, None, Result, Ok, Err, bytes_eq}
 use Rattle.std.specs.List.{list_any}
 use Rattle.cfdp_status.specs.declared.transaction.TransactionId.{TransactionId}
 use Rattle.cfdp_paths.specs.Paths.{Path}
 use Rattle.cfdp_actions.specs.Filestore.{Node, Directory, File, Filestore}
 use Rattle.cfdp_lines.specs.Lines.{lines_of}
-use Rattle.cfdp_lines.specs.Report.{Report, script_report as report_of}
 use Rattle.cfdp_texts.specs.Replies.{listing_text}
 use Rattle.cfdp_transactions.specs.Config.{Config}
 use Rattle.cfdp_transactions.specs.World.{World, start}
@@ -29,7 +27,7 @@ use Rattle.cfdp_receiver.specs.Heard.{heard}
 use Rattle.cfdp_receiver.specs.State.{State, Input, CancelAsked, begin}
 use Rattle.cfdp_receiver.specs.Turning.{after_all}
 use Rattle.cfdp_receiver.specs.declared.mib.Mib.{Mib}
-use Rattle.cfdp_run.specs.Commands.{Content, Nothing, Octets, File as FileNamed, Said, Settings, Configure, Protect, PutDirectory, PutFile, Receive, Cancel, Pass, Get, Gaps, Phase, ListAll, Expect, End, command_in}
+use Rattle.cfdp_run.specs.Commands.{Content, Nothing, Octets, File as FileNamed, LineMeaning, Settings, Configure, Protect, PutDirectory, PutFile, Receive, Cancel, Pass, Get, Gaps, Phase, ListAll, Expect, End, command_in}
 use Rattle.cfdp_run.specs.Contents.{get_line}
 use Rattle.cfdp_run.specs.Playing.{heard_inputs, heard_text, most_timers, passing, played, settled_after}
 use Rattle.cfdp_run.specs.Putting.{place_wrong, room_wrong, with_put}
@@ -54,31 +52,31 @@ pub record Play : Type 0 where
   pub latest : ℕ  -- the greatest time so far
   pub lines : List ℕ  -- what the last line wrote that was neither `expect` nor passed over
 
-pub data Stage : Type 0 where
-  Preparing : Head → Stage
-  Playing : Play → Stage
+pub data ScriptStage : Type 0 where
+  Preparing : Head → ScriptStage
+  Playing : Play → ScriptStage
 
-abbrev pub default_config : Config
-default_config = record { entity = 2; blocks = 64; cap = 2400; checks = 2; journal = 1000; prefixes = [] }
+abbrev pub first_config : Config
+first_config = record { entity = 2; blocks = 64; cap = 2400; checks = 2; journal = 1000; prefixes = [] }
 
 abbrev pub first_head : Head
-first_head = record { mib = default_mib; world = start default_config; has_begun = false }
+first_head = record { mib = default_mib; world = start first_config; has_begun = false }
 
-abbrev pub at_first : Stage
-at_first = Preparing first_head
+abbrev pub script_at_first : ScriptStage
+script_at_first = Preparing first_head
 
 unfoldable pub begun : Head → Play
 begun head = record { state = begin head.mib head.world; latest = 0; lines = [] }
 
-abbrev pub play_of : Stage → Play
+abbrev pub play_of : ScriptStage → Play
 play_of (Preparing head) = begun head
 play_of (Playing play) = play
 
-abbrev pub filestore_of : Stage → Filestore
-filestore_of (Preparing head) = head.world.filestore
-filestore_of (Playing play) = play.state.world.filestore
+abbrev pub stage_filestore : ScriptStage → Filestore
+stage_filestore (Preparing head) = head.world.filestore
+stage_filestore (Playing play) = play.state.world.filestore
 
-abbrev pub mib_of : Stage → Mib
+abbrev pub mib_of : ScriptStage → Mib
 mib_of (Preparing head) = head.mib
 mib_of (Playing play) = default_mib
 
@@ -86,16 +84,16 @@ abbrev pub progress_by : Bool → Progress
 progress_by true = progress.Begun
 progress_by false = progress.Fresh
 
-abbrev pub progress_of : Stage → Progress
+abbrev pub progress_of : ScriptStage → Progress
 progress_of (Preparing head) = progress_by head.has_begun
 progress_of (Playing play) = progress.Playing
 
 abbrev pub Step : Type 0
-Step = Result (Stage × List ℕ) Stop
+Step = Result (ScriptStage × List ℕ) Stop
 
-abbrev pub changed : Result Head Stop → Step
-changed (Ok head) = Ok (Preparing head, [])
-changed (Err why) = Err why
+abbrev pub head_changed : Result Head Stop → Step
+head_changed (Ok head) = Ok (Preparing head, [])
+head_changed (Err why) = Err why
 
 abbrev pub written : Play → Step
 written play = Ok (Playing play, play.lines)
@@ -116,14 +114,14 @@ with_config head config = record head {
   has_begun = true;
 }
 
-abbrev pub with_prefix : World → Path → World
-with_prefix W p = record W { config = record W.config { prefixes = W.config.prefixes ++ p ∷ [] } }
+abbrev pub world_with_prefix : World → Path → World
+world_with_prefix W p = record W { config = record W.config { prefixes = W.config.prefixes ++ p ∷ [] } }
 
 -- at most 8
-unfoldable pub protected : Head → Path → Result Head Stop
-protected head p =
+unfoldable pub head_protected : Head → Path → Result Head Stop
+head_protected head p =
     if nat_lt (length head.world.config.prefixes) 8 then Ok
-    (record head { world = with_prefix head.world p; has_begun = true })
+    (record head { world = world_with_prefix head.world p; has_begun = true })
     else Err (IsWrong TooManyProtected)
 
 unfoldable pub put_node : Head → Path → Node → Result Head Stop
@@ -146,8 +144,8 @@ put_content files head p (FileNamed name) = put_read head p name (files name)
 abbrev pub put_file : (List ℕ → Option (List ℕ)) → Head → Path → Content → Result Head Stop
 put_file files head p content = unless (place_wrong head.world.filestore p) (put_content files head p content)
 
-abbrev pub in_head : Word → Stage → (Head → Result Head Stop) → Step
-in_head word (Preparing head) change = changed (change head)
+abbrev pub in_head : Word → ScriptStage → (Head → Result Head Stop) → Step
+in_head word (Preparing head) change = head_changed (change head)
 in_head word (Playing play) change = Err (IsWrong (TooLate word))
 
 -- ---- after the head
@@ -183,51 +181,45 @@ expected play line = if is_written play.lines line then Ok (Playing play, []) el
 
 -- ---- lines
 
-abbrev pub obeyed : (List ℕ → Option (List ℕ)) → Stage → Said → Step
-obeyed files stage (Settings mib) = in_head word.Mib stage (λ head. Ok (with_mib head mib))
-obeyed files stage (Configure config) = in_head word.Config stage (λ head. Ok (with_config head config))
-obeyed files stage (Protect p) = in_head word.Protect stage (λ head. protected head p)
-obeyed files stage (PutDirectory p) = in_head word.Put stage (λ head. put head p Directory)
-obeyed files stage (PutFile p content) = in_head word.Put stage (λ head. put_file files head p content)
-obeyed files stage (Receive now octets) = written (heard_at (play_of stage) (time_of (play_of stage) now) octets)
-obeyed files stage (Cancel now id) = written (cancelled_at (play_of stage) (time_of (play_of stage) now) id)
-obeyed files stage (Pass now) = written (passed_at (play_of stage) (time_of (play_of stage) now))
-obeyed files stage (Get p) = written (asked (play_of stage) (get_line (play_of stage).state.world.filestore p))
-obeyed files stage (Gaps id) = written (asked (play_of stage) (gaps_line (play_of stage).state id))
-obeyed files stage (Phase id) = written (asked (play_of stage) (phase_line (play_of stage).state id))
-obeyed files stage ListAll = written (asked (play_of stage) (listing_text (play_of stage).state.world))
-obeyed files stage (Expect line) = expected (play_of stage) line
-obeyed files stage End = Err Ended
+abbrev pub command_obeyed : (List ℕ → Option (List ℕ)) → ScriptStage → LineMeaning → Step
+command_obeyed files stage (Settings mib) = in_head word.Mib stage (λ head. Ok (with_mib head mib))
+command_obeyed files stage (Configure config) = in_head word.Config stage (λ head. Ok (with_config head config))
+command_obeyed files stage (Protect p) = in_head word.Protect stage (λ head. head_protected head p)
+command_obeyed files stage (PutDirectory p) = in_head word.Put stage (λ head. put head p Directory)
+command_obeyed files stage (PutFile p content) = in_head word.Put stage (λ head. put_file files head p content)
+command_obeyed files stage (Receive now octets) = written (heard_at (play_of stage)
+    (time_of (play_of stage) now) octets)
+command_obeyed files stage (Cancel now id) = written (cancelled_at (play_of stage) (time_of (play_of stage) now) id)
+command_obeyed files stage (Pass now) = written (passed_at (play_of stage) (time_of (play_of stage) now))
+command_obeyed files stage (Get p) = written (asked (play_of stage) (get_line (play_of stage).state.world.filestore p))
+command_obeyed files stage (Gaps id) = written (asked (play_of stage) (gaps_line (play_of stage).state id))
+command_obeyed files stage (Phase id) = written (asked (play_of stage) (phase_line (play_of stage).state id))
+command_obeyed files stage ListAll = written (asked (play_of stage) (listing_text (play_of stage).state.world))
+command_obeyed files stage (Expect line) = expected (play_of stage) line
+command_obeyed files stage End = Err Ended
 
 -- a comment and a line without a word are passed over
-abbrev pub said_step : (List ℕ → Option (List ℕ)) → Stage → Result (Option Said) Wrong → Step
+abbrev pub said_step : (List ℕ → Option (List ℕ)) → ScriptStage → Result (Option LineMeaning) Wrong → Step
 said_step files stage (Err wrong) = Err (IsWrong wrong)
 said_step files stage (Ok None) = Ok (stage, [])
-said_step files stage (Ok (Some said)) = obeyed files stage said
+said_step files stage (Ok (Some said)) = command_obeyed files stage said
 
-abbrev pub line_step : (List ℕ → Option (List ℕ)) → Stage → List ℕ → Step
+abbrev pub line_step : (List ℕ → Option (List ℕ)) → ScriptStage → List ℕ → Step
 line_step files stage line = said_step files stage (command_in (mib_of stage) (progress_of stage) line)
 
 -- ---- whole scripts
 
-abbrev pub ok_in : Step → Option (Stage × List ℕ)
+abbrev pub ok_in : Step → Option (ScriptStage × List ℕ)
 ok_in (Ok done) = Some done
 ok_in (Err why) = None
 
-abbrev pub answer : (List ℕ → Option (List ℕ)) → Stage → List ℕ → Option (Stage × List ℕ)
+abbrev pub answer : (List ℕ → Option (List ℕ)) → ScriptStage → List ℕ → Option (ScriptStage × List ℕ)
 answer files stage line = ok_in (line_step files stage line)
 
--- its `bad_line` is the line at which the script stops
-abbrev pub script_report : (List ℕ → Option (List ℕ)) → (script : List ℕ) → Report
-script_report files script = report_of (answer files) at_first script
-
-abbrev pub why_by : Step → (Stage → Option Stop) → Option Stop
+abbrev pub why_by : Step → (ScriptStage → Option Stop) → Option Stop
 why_by (Ok done) later = later done.0
 why_by (Err why) later = Some why
 
-abbrev pub why_from : (List ℕ → Option (List ℕ)) → Stage → List (List ℕ) → Option Stop
+abbrev pub why_from : (List ℕ → Option (List ℕ)) → ScriptStage → List (List ℕ) → Option Stop
 why_from files stage [] = None
 why_from files stage (line ∷ lines) = why_by (line_step files stage line) (λ next. why_from files next lines)
-
-abbrev pub script_stop : (List ℕ → Option (List ℕ)) → (script : List ℕ) → Option Stop
-script_stop files script = why_from files at_first (lines_of script)

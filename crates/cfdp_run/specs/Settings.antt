@@ -3,11 +3,11 @@
 --     default_mib               what is set where a script sets nothing
 --     key_of word               the key that a word names
 --     key_text key              the word that names a key
---     within low high word      the number that a word writes, if it is in this range
+--     number_within low high word  the number that a word writes, if it is in this range
 --     interval_of, limit_of     a time in ticks;  a limit of expiries
 --     keep_alive_of, nak_mode_of, yes_of, handler_of      a time or none;  when lost segments are asked for;  yes or
 --                                                         no;  what is done at a fault
---     range_text key            what a value of a key has to be
+--     bounds_text key           what a value of a key has to be
 --     with_value mib key word   the base with the value, if the word is one
 use Rattle.std.specs.Prelude.{ℕ, Bool, true, false, ◌&&◌, nat_le, if◌then◌else◌, List, Option, Some, None, codes, bytes_eq}
 use Rattle.std.specs.Option.{option_map}
@@ -74,17 +74,17 @@ abbrev pub within_by : ℕ → ℕ → Option ℕ → Option ℕ
 within_by low high None = None
 within_by low high (Some number) = if nat_le low number && nat_le number high then Some number else None
 
-abbrev pub within : ℕ → ℕ → List ℕ → Option ℕ
-within low high word = within_by low high (number_of word)
+abbrev pub number_within : ℕ → ℕ → List ℕ → Option ℕ
+number_within low high word = within_by low high (number_of word)
 
 abbrev pub interval_of : List ℕ → Option ℕ
-interval_of word = within 1 4294967295 word
+interval_of word = number_within 1 4294967295 word
 
 abbrev pub limit_of : List ℕ → Option ℕ
-limit_of word = within 1 1000 word
+limit_of word = number_within 1 1000 word
 
 abbrev pub longest_of : List ℕ → Option ℕ
-longest_of word = within 72 65535 word
+longest_of word = number_within 72 65535 word
 
 abbrev pub keep_alive_of : List ℕ → Option (Option ℕ)
 keep_alive_of word = if bytes_eq word (codes "none") then Some None else option_map Some (interval_of word)
@@ -106,21 +106,21 @@ handler_of word =
     else if bytes_eq word (codes "abandon") then Some Abandon
     else None
 
-abbrev pub range_text : Key → List ℕ
-range_text key.AckInterval = codes "1 to 4294967295"
-range_text key.AckLimit = codes "1 to 1000"
-range_text key.OnAckLimit = codes "cancel, ignore or abandon"
-range_text key.NakInterval = codes "1 to 4294967295"
-range_text key.NakLimit = codes "1 to 1000"
-range_text key.OnNakLimit = codes "cancel, ignore or abandon"
-range_text key.CheckInterval = codes "1 to 4294967295"
-range_text key.OnCheckLimit = codes "cancel, ignore or abandon"
-range_text key.Inactivity = codes "1 to 4294967295"
-range_text key.OnInactivity = codes "cancel, ignore or abandon"
-range_text key.KeepAlive = codes "none or 1 to 4294967295"
-range_text key.Immediate = codes "yes or no"
-range_text key.Crc = codes "yes or no"
-range_text key.Longest = codes "72 to 65535"
+abbrev pub bounds_text : Key → List ℕ
+bounds_text key.AckInterval = codes "1 to 4294967295"
+bounds_text key.AckLimit = codes "1 to 1000"
+bounds_text key.OnAckLimit = codes "cancel, ignore or abandon"
+bounds_text key.NakInterval = codes "1 to 4294967295"
+bounds_text key.NakLimit = codes "1 to 1000"
+bounds_text key.OnNakLimit = codes "cancel, ignore or abandon"
+bounds_text key.CheckInterval = codes "1 to 4294967295"
+bounds_text key.OnCheckLimit = codes "cancel, ignore or abandon"
+bounds_text key.Inactivity = codes "1 to 4294967295"
+bounds_text key.OnInactivity = codes "cancel, ignore or abandon"
+bounds_text key.KeepAlive = codes "none or 1 to 4294967295"
+bounds_text key.Immediate = codes "yes or no"
+bounds_text key.Crc = codes "yes or no"
+bounds_text key.Longest = codes "72 to 65535"
 
 abbrev pub with_value : Mib → Key → List ℕ → Option Mib
 with_value mib key.AckInterval word = option_map (λ (n : ℕ). record mib { ack = record mib.ack { interval = n } })

@@ -1,9 +1,5 @@
 -- What the values of the program are seen as.
 --     head_of, play_from      a head, and the entity after it
---     IsFit said              a line `mib` leaves settings that a receiver takes
-use Rattle.std.specs.Prelude.{◌≡◌, None}
-use Rattle.cfdp_receiver.specs.Machine.{first_fault}
-use Rattle.cfdp_run.specs.Commands.{Said, Settings}
 use Rattle.cfdp_run.specs.Scripts.{Head, Play}
 use Rattle.cfdp_run.specs.declared.head.Head.{Head as HeadValue}
 use Rattle.cfdp_run.specs.declared.play.Play.{Play as PlayValue}
@@ -18,8 +14,3 @@ head_of head = record {
 
 abbrev pub play_from : PlayValue → Play
 play_from play = record { state = play.player.receiver.state; latest = play.latest; lines = play.lines.items }
-
--- a line `mib` leaves settings that a receiver takes
-abbrev pub IsFit : Said → Type 0
-IsFit (Settings mib) = first_fault mib ≡ None
-IsFit said = Unit {0}

@@ -4,7 +4,7 @@
 --     values_text key         of a value that a key does not have
 --     wrong_text wrong        of each bad line, without its newline
 use Rattle.std.specs.Prelude.{ℕ, List, ◌++◌, codes}
-use Rattle.cfdp_run.specs.Settings.{key_text, range_text}
+use Rattle.cfdp_run.specs.Settings.{key_text, bounds_text}
 use Rattle.cfdp_run.specs.Words.{form_of, spelling_of}
 use Rattle.cfdp_run.specs.declared.settings.Key.{Key}
 use Rattle.cfdp_run.specs.declared.words.Word.{Word}
@@ -18,7 +18,7 @@ abbrev pub expected_text : Word → List ℕ
 expected_text word = codes "expected " ++ form_of word
 
 abbrev pub values_text : Key → List ℕ
-values_text key = key_text key ++ codes " is " ++ range_text key
+values_text key = key_text key ++ codes " is " ++ bounds_text key
 
 unfoldable pub wrong_text : Wrong → List ℕ
 wrong_text wrong.TooLong = codes "longer than 200000 octets"

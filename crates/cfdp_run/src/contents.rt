@@ -1,7 +1,7 @@
 //! What a script asks for a path of the filestore.
 
 ghost use Rattle.std.specs.Prelude.{◌≡◌, ◌++◌, IsTrue, codes, length, OnOk};
-ghost use Rattle.cfdp_actions.specs.Filestore.{is_file, node_at, octets_at};
+ghost use Rattle.cfdp_actions.specs.Filestore.{is_file, node_at, file_octets_at};
 ghost use Rattle.cfdp_texts.specs.Replies.{is_plain, labelled, shown_octet, shown_path};
 ghost use Rattle.cfdp_run.specs.Contents.{get_line, octets_text};
 
@@ -61,8 +61,8 @@ fn push_content(
 ) -> Result<(), AllocError>
     requires { IsTrue (is_file (node_at entity.now.filestore path.now)) }
     ensures { OnOk result (text.new.items ≡ text.old.items
-        ++ (labelled (codes " ") (length (octets_at entity.now.filestore path.now))
-        ++ octets_text (octets_at entity.now.filestore path.now))) }
+        ++ (labelled (codes " ") (length (file_octets_at entity.now.filestore path.now))
+        ++ octets_text (file_octets_at entity.now.filestore path.now))) }
 {
     let store = entity.core().store();
     let mut octets = vec![in alloc; 0u8; store.size(path) as usize]?;

@@ -3,9 +3,9 @@
 ghost use Rattle.std.specs.Prelude.{◌≡◌, ◌≢◌, [], replicate, None, Some, Err, Ok, IfErr, IfOk, OnErr, OnOk};
 ghost use Rattle.std.specs.Option.{option_map};
 ghost use Rattle.cfdp_actions.specs.Filestore.{Directory, File};
-ghost use Rattle.cfdp_receiver.specs.Machine.{first_fault};
+ghost use Rattle.cfdp_receiver.specs.Machine.{mib_fault};
 ghost use Rattle.cfdp_run.specs.Putting.{place_wrong};
-ghost use Rattle.cfdp_run.specs.Scripts.{begun, default_config, first_head, progress_by, protected, put_node, with_config, with_mib};
+ghost use Rattle.cfdp_run.specs.Scripts.{begun, first_config, first_head, progress_by, head_protected, put_node, with_config, with_mib};
 ghost use Rattle.cfdp_run.specs.Stops.{IsWrong, NoMemory, stop_of};
 
 use crate::commands::Progress;
@@ -25,7 +25,7 @@ use std::mem;
 
 /// The configuration of a script that gives none, with nothing protected.
 fn default_config() -> Config
-    ensures { result ≡ default_config }
+    ensures { result ≡ first_config }
 {
     Config::new(2, 64, 2_400, 2, 1_000, Protected::new()).unwrap()
 }
@@ -54,7 +54,7 @@ pub struct Head {
     protected: Protected,
     /// Whether a line `config`, `protect` or `put` came.
     has_begun: bool,
-    ghost fits: { first_fault mib ≡ None },
+    ghost fits: { mib_fault mib ≡ None },
     ghost idle: { entity.table ≡ [] },
     ghost staged: { entity.filestore.staged ≡ replicate 64 [] },
 }
@@ -77,7 +77,7 @@ impl Head {
     /// The settings.
     pub fn mib(&self) -> Mib
         ensures value { result ≡ (head_of self.now).mib }
-        ensures fits { first_fault result ≡ None }
+        ensures fits { mib_fault result ≡ None }
     {
         self.mib
     }
@@ -103,7 +103,7 @@ impl Head {
     /// A line `mib`.
     #[tactic(auto, unfolding(crate::specs::Scripts::with_mib))]
     pub fn set(&mut self, mib: Mib)
-        requires { first_fault mib ≡ None }
+        requires { mib_fault mib ≡ None }
         ensures { head_of self.new ≡ with_mib (head_of self.old) mib }
     {
         self.mib = mib;
@@ -120,10 +120,10 @@ impl Head {
     }
 
     /// A line `protect`.
-    #[tactic(auto, unfolding(crate::specs::Scripts::protected))]
+    #[tactic(auto, unfolding(crate::specs::Scripts::head_protected))]
     pub fn protect(&mut self, path: Path) -> Result<(), Stop>
-        ensures ok { OnOk result (protected (head_of self.old) path ≡ Ok (head_of self.new)) }
-        ensures err { IfErr result (λ why. protected (head_of self.old) path ≡ Err (stop_of why)) }
+        ensures ok { OnOk result (head_protected (head_of self.old) path ≡ Ok (head_of self.new)) }
+        ensures err { IfErr result (λ why. head_protected (head_of self.old) path ≡ Err (stop_of why)) }
         ensures same { OnErr result (head_of self.new ≡ head_of self.old) }
     {
         let Ok(()) = self.protected.add(path) else {

@@ -6,7 +6,7 @@ ghost use Rattle.cfdp_receiver.specs.Heard.{heard};
 ghost use Rattle.cfdp_receiver.specs.Machine.{answer_in};
 ghost use Rattle.cfdp_receiver.specs.Sent.{longest_sealed};
 ghost use Rattle.cfdp_receiver.specs.State.{CancelAsked, Expire, Finish, Work};
-ghost use Rattle.cfdp_receiver.specs.Turning.{after, after_all, parts};
+ghost use Rattle.cfdp_receiver.specs.Turning.{after_input, after_all, parts};
 ghost use Rattle.cfdp_reports.specs.Reports.{answer_text};
 ghost use Rattle.cfdp_run.specs.Playing.{Plays, heard_inputs, heard_text, is_nothing, most_settled, most_timers, passing, settled_after, settling};
 

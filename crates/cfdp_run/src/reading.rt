@@ -6,7 +6,7 @@ ghost use Rattle.cfdp_lines.specs.Words.{numbers_of, words_of};
 ghost use Rattle.cfdp_paths.specs.Paths.{path_of};
 ghost use Rattle.cfdp_plans.specs.Names.{name_in};
 ghost use Rattle.cfdp_run.specs.Words.{is_of_head};
-ghost use Rattle.cfdp_run.specs.Commands.{IfWrong, OnMemory, alone, asks_by, asks_memory, at_in, before_slash, command_in, config_in, config_of, content_in, content_of, directory_or_file, in_time, input_in, is_equals, is_fresh, is_playing, line_in, octets_in, only_name, only_path, put_alone, put_in, said_of, says, setting, settings_in, takes_memory, texts_say};
+ghost use Rattle.cfdp_run.specs.Commands.{IfWrong, OnMemory, says_alone, asks_by, asks_memory, at_in, before_slash, command_in, config_in, config_of, content_in, content_of, directory_or_file, in_time, input_in, is_equals, is_fresh, is_playing, line_in, octets_spelled, only_name, only_path, put_alone, put_in, command_meaning, says, setting, settings_in, takes_memory, texts_say};
 
 use crate::commands::{Command, CommandFault, Content, Progress};
 use crate::settings::key_of;
@@ -135,9 +135,10 @@ fn read_only_path(alloc: Global, word: Word, words: &[u8]) -> Result<Path, Comma
 
 /// The octets that one or more words spell. They are decoded once, and not copied.
 fn read_octets(alloc: Global, word: Word, words: &[u8]) -> Result<Vec<u8>, CommandFault>
-    ensures ok { IfOk result (λ octets. octets_in (words_of words.now) ≡ Some octets.items) }
-    ensures wrong { IfWrong result (λ wrong. (wrong ≡ Wrong.Expected word) × (octets_in (words_of words.now) ≡ None)) }
-    ensures memory { OnMemory result (is_some (octets_in (words_of words.now)) ≡ true) }
+    ensures ok { IfOk result (λ octets. octets_spelled (words_of words.now) ≡ Some octets.items) }
+    ensures wrong { IfWrong result (λ wrong. (wrong ≡ Wrong.Expected word) ×
+        (octets_spelled (words_of words.now) ≡ None)) }
+    ensures memory { OnMemory result (is_some (octets_spelled (words_of words.now)) ≡ true) }
 {
     let mut octets = Vec::new(alloc);
     match decode_words(words, &mut octets) {
@@ -191,7 +192,7 @@ fn before_slash(octets: &[u8]) -> Option<&[u8]>
 /// A directory, by its path with a `/` at its end, or an empty file, by its path.
 fn read_directory_or_file<'a>(alloc: Global, octets: &[u8]) -> Result<Command<'a>, CommandFault>
     ensures ok { IfOk result
-        (λ command. directory_or_file octets.now (before_slash octets.now) ≡ Ok (said_of command)) }
+        (λ command. directory_or_file octets.now (before_slash octets.now) ≡ Ok (command_meaning command)) }
     ensures wrong { IfWrong result (λ wrong. directory_or_file octets.now (before_slash octets.now) ≡ Err wrong) }
 {
     match before_slash(octets) {
@@ -202,7 +203,7 @@ fn read_directory_or_file<'a>(alloc: Global, octets: &[u8]) -> Result<Command<'a
 
 /// What a line `put` with one word after its first says: an empty file, or a directory.
 fn read_empty<'a>(alloc: Global, text: &[u8]) -> Result<Command<'a>, CommandFault>
-    ensures ok { IfOk result (λ command. put_alone (name_in text.now) ≡ Ok (said_of command)) }
+    ensures ok { IfOk result (λ command. put_alone (name_in text.now) ≡ Ok (command_meaning command)) }
     ensures wrong { IfWrong result (λ wrong. put_alone (name_in text.now) ≡ Err wrong) }
     ensures memory { OnMemory result (asks_by takes_memory (put_alone (name_in text.now)) ≡ true) }
 {
@@ -214,7 +215,7 @@ fn read_empty<'a>(alloc: Global, text: &[u8]) -> Result<Command<'a>, CommandFaul
 
 /// What a line `put` says, by the words after its first.
 fn read_put<'a>(alloc: Global, words: &'a [u8]) -> Result<Command<'a>, CommandFault>
-    ensures ok { IfOk result (λ command. put_in (words_of words.entry.now) ≡ Ok (said_of command)) }
+    ensures ok { IfOk result (λ command. put_in (words_of words.entry.now) ≡ Ok (command_meaning command)) }
     ensures wrong { IfWrong result (λ wrong. put_in (words_of words.entry.now) ≡ Err wrong) }
     ensures memory { OnMemory result (asks_by takes_memory (put_in (words_of words.entry.now)) ≡ true) }
 {
@@ -247,7 +248,7 @@ fn read_only_name(word: Word, words: &[u8]) -> Result<TransactionId, CommandFaul
 
 /// What a line `at` says, by the words after its time.
 fn read_input<'a>(alloc: Global, now: u64, words: &[u8]) -> Result<Command<'a>, CommandFault>
-    ensures ok { IfOk result (λ command. input_in now (words_of words.now) ≡ Ok (said_of command)) }
+    ensures ok { IfOk result (λ command. input_in now (words_of words.now) ≡ Ok (command_meaning command)) }
     ensures wrong { IfWrong result (λ wrong. input_in now (words_of words.now) ≡ Err wrong) }
     ensures memory { OnMemory result (asks_by takes_memory (input_in now (words_of words.now)) ≡ true) }
 {
@@ -268,7 +269,7 @@ fn read_input<'a>(alloc: Global, now: u64, words: &[u8]) -> Result<Command<'a>, 
 
 /// What a line `at` says, by the words after its first.
 fn read_at<'a>(alloc: Global, words: &[u8]) -> Result<Command<'a>, CommandFault>
-    ensures ok { IfOk result (λ command. at_in (words_of words.now) ≡ Ok (said_of command)) }
+    ensures ok { IfOk result (λ command. at_in (words_of words.now) ≡ Ok (command_meaning command)) }
     ensures wrong { IfWrong result (λ wrong. at_in (words_of words.now) ≡ Err wrong) }
     ensures memory { OnMemory result (asks_by takes_memory (at_in (words_of words.now)) ≡ true) }
 {
@@ -306,8 +307,10 @@ fn read_alone<'a>(
     words: &[u8],
     command: Command<'a>,
 ) -> Result<Command<'a>, CommandFault>
-    ensures ok { IfOk result (λ read. alone word (said_of command.entry) (words_of words.now) ≡ Ok (said_of read)) }
-    ensures wrong { IfWrong result (λ wrong. alone word (said_of command.entry) (words_of words.now) ≡ Err wrong) }
+    ensures ok { IfOk result (λ read. says_alone word (command_meaning command.entry) (words_of words.now) ≡ Ok
+        (command_meaning read)) }
+    ensures wrong { IfWrong result (λ wrong. says_alone word (command_meaning command.entry) (words_of words.now)
+        ≡ Err wrong) }
     ensures never { OnMemory result ⊥ }
 {
     let mut rest = words;
@@ -325,7 +328,8 @@ fn read_words<'a>(
     mib: Mib,
     progress: Progress,
 ) -> Result<Command<'a>, CommandFault>
-    ensures ok { IfOk result (λ command. says mib progress word (words_of words.entry.now) ≡ Ok (said_of command)) }
+    ensures ok { IfOk result (λ command. says mib progress word (words_of words.entry.now) ≡ Ok
+        (command_meaning command)) }
     ensures wrong { IfWrong result (λ wrong. says mib progress word (words_of words.entry.now) ≡ Err wrong) }
     ensures memory { OnMemory result (asks_by takes_memory (says mib progress word (words_of words.entry.now)) ≡ true) }
 {
@@ -362,7 +366,8 @@ fn read_in_time<'a>(
     mib: Mib,
     progress: Progress,
 ) -> Result<Command<'a>, CommandFault>
-    ensures ok { IfOk result (λ command. in_time mib progress word (words_of words.entry.now) ≡ Ok (said_of command)) }
+    ensures ok { IfOk result (λ command. in_time mib progress word (words_of words.entry.now) ≡ Ok
+        (command_meaning command)) }
     ensures wrong { IfWrong result (λ wrong. in_time mib progress word (words_of words.entry.now) ≡ Err wrong) }
     ensures memory { OnMemory result
         (asks_by takes_memory (in_time mib progress word (words_of words.entry.now)) ≡ true) }
@@ -381,7 +386,7 @@ fn read_worded<'a>(
     progress: Progress,
 ) -> Result<Option<Command<'a>>, CommandFault>
     ensures ok { IfOk result
-        (λ command. texts_say mib progress (words_of line.entry.now) ≡ Ok (option_map said_of command)) }
+        (λ command. texts_say mib progress (words_of line.entry.now) ≡ Ok (option_map command_meaning command)) }
     ensures wrong { IfWrong result (λ wrong. texts_say mib progress (words_of line.entry.now) ≡ Err wrong) }
     ensures memory { OnMemory result (asks_memory (texts_say mib progress (words_of line.entry.now)) ≡ true) }
 {
@@ -415,7 +420,8 @@ pub fn read_command<'a>(
     mib: Mib,
     progress: Progress,
 ) -> Result<Option<Command<'a>>, CommandFault>
-    ensures ok { IfOk result (λ command. command_in mib progress line.entry.now ≡ Ok (option_map said_of command)) }
+    ensures ok { IfOk result (λ command. command_in mib progress line.entry.now ≡ Ok
+        (option_map command_meaning command)) }
     ensures wrong { IfWrong result (λ wrong. command_in mib progress line.entry.now ≡ Err wrong) }
     ensures memory { OnMemory result (asks_memory (command_in mib progress line.entry.now) ≡ true) }
 {

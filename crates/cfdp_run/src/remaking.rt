@@ -3,7 +3,7 @@
 ghost use Rattle.std.specs.Prelude.{◌≡◌, [], replicate, Some, IfOk, OnOk};
 ghost use Rattle.cfdp_actions.specs.Filestore.{Node, node_at};
 ghost use Rattle.cfdp_transactions.specs.Beginning.{with_node};
-ghost use Rattle.cfdp_run.specs.Remaking.{CanCopy};
+ghost use Rattle.cfdp_run.specs.code.Remaking.{CanCopy};
 
 use cfdp_actions::{Entry, Filestore, Kind};
 use cfdp_entity::Entity;

@@ -1,7 +1,7 @@
 //! The settings of a management information base, as the lines `mib` of a script have them.
 
 ghost use Rattle.std.specs.Prelude.{◌≡◌, ◌≤◌, Some, None, IfSome};
-ghost use Rattle.cfdp_run.specs.Settings.{default_mib, handler_of, interval_of, keep_alive_of, key_of, key_text, limit_of, longest_of, nak_mode_of, range_text, with_value, within, yes_of};
+ghost use Rattle.cfdp_run.specs.Settings.{default_mib, handler_of, interval_of, keep_alive_of, key_of, key_text, limit_of, longest_of, nak_mode_of, bounds_text, with_value, number_within, yes_of};
 
 use cfdp_lines::number_of;
 use cfdp_receiver::{Handler, Mib, NakMode, Retries, Watch};
@@ -119,7 +119,7 @@ pub fn key_of(word: &[u8]) -> Option<Key>
 
 /// The number that a word writes in decimal, if it is in this range.
 fn within(low: u32, high: u32, word: &[u8]) -> Option<u32>
-    ensures { result ≡ within low high word.now }
+    ensures { result ≡ number_within low high word.now }
 {
     let Some(number) = number_of(word) else {
         return None;
@@ -232,7 +232,7 @@ impl Key {
 
     /// What a value of it has to be, in words.
     pub fn range(self) -> &'static [u8]
-        ensures { result.now ≡ range_text self }
+        ensures { result.now ≡ bounds_text self }
     {
         match self {
             Key::AckInterval => b"1 to 4294967295",

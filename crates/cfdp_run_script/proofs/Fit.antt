@@ -8,14 +8,14 @@ use Rattle.std.proofs.lemmas.Bool.{cases_Bool, not-false, leb-true, le-ltb, ne_e
 use Rattle.cfdp_paths.specs.Paths.{path_of}
 use Rattle.cfdp_lines.specs.Lines.{is_overlong, is_comment}
 use Rattle.cfdp_lines.specs.Words.{number_of, numbers_of, words_of}
-use Rattle.cfdp_plans.specs.Names.{name_in, path_at}
-use Rattle.cfdp_receiver.specs.Machine.{first_fault, lacks_time, is_no_time, is_limit}
+use Rattle.cfdp_plans.specs.Names.{name_in, path_spelled}
+use Rattle.cfdp_receiver.specs.Machine.{mib_fault, lacks_time, is_no_time, is_limit}
 use Rattle.cfdp_receiver.specs.declared.mib.Mib.{Mib}
 use Rattle.cfdp_receiver.specs.declared.mib.MibFault.{MibFault}
 use Rattle.cfdp_receiver.specs.declared.mib.MibFault.TheVariants as faults
-use Rattle.cfdp_run.specs.Commands.{Nothing, Said, Settings, Configure, Protect, PutDirectory, PutFile, Receive, Cancel, Get, Gaps, Phase, ListAll, Expect, End, first_then, saying, is_equals, valued, setting_at, setting, settings, settings_in, config_in, path_or_wrong, only_path, only_name, octets_in, before_slash, directory_or_file, content_in, put_in, input_in, at_in, line_in, alone, says, is_playing, in_time, begun_by, texts_say, command_in}
+use Rattle.cfdp_run.specs.Commands.{Nothing, LineMeaning, Settings, Configure, Protect, PutDirectory, PutFile, Receive, Cancel, Get, Gaps, Phase, ListAll, Expect, End, first_then, saying, is_equals, valued, setting_at, setting, settings, settings_in, config_in, path_or_wrong, only_path, only_name, octets_spelled, before_slash, directory_or_file, content_in, put_in, input_in, at_in, line_in, says_alone, says, is_playing, in_time, begun_by, texts_say, command_in}
 use Rattle.cfdp_run.specs.Settings.{key_of, within_by, interval_of, limit_of, longest_of, keep_alive_of, nak_mode_of, yes_of, handler_of, with_value}
-use Rattle.cfdp_run.specs.Stages.{IsFit}
+use Rattle.cfdp_run.specs.code.Stages.{IsFit}
 use Rattle.cfdp_run.specs.Words.{is_of_head, word_of}
 use Rattle.cfdp_run.specs.declared.commands.Progress.{Progress}
 use Rattle.cfdp_run.specs.declared.settings.Key.{Key}
@@ -35,7 +35,7 @@ pub record Fits (mib : Mib) : Type 0 where
   pub nak_limit : is_limit mib.nak.limit ≡ true
   pub longest : nat_lt mib.longest_nak 72 ≡ false
 
-pub fits_none : (mib : Mib) → Fits mib → first_fault mib ≡ None
+pub fits_none : (mib : Mib) → Fits mib → mib_fault mib ≡ None
 fits_none mib f = rw (f.ack, f.nak, f.check, f.inactivity, f.alive, f.ack_limit, f.nak_limit, f.longest) refl
 
 passed : (b : Bool) (fault : MibFault) (o : Option MibFault) → (if b then Some fault else o) ≡ None → (b ≡ false) × (o ≡ None)
@@ -46,7 +46,7 @@ neither : (a b : Bool) → (a || b) ≡ false → (a ≡ false) × (b ≡ false)
 neither true b e = absurd cc
 neither false b e = (refl, e)
 
-pub none_fits : (mib : Mib) → first_fault mib ≡ None → Fits mib
+pub none_fits : (mib : Mib) → mib_fault mib ≡ None → Fits mib
 none_fits mib none =
     let one = passed (lacks_time mib) faults.Interval _ none in
     let two = passed (not (is_limit mib.ack.limit && is_limit mib.nak.limit)) faults.Limit _ one.1 in
@@ -310,7 +310,7 @@ settings_in-fits mib (text ∷ texts) f = settings-fits (text ∷ texts) mib f
 
 -- ---- lines
 
-FitsSaid : Result Said Wrong → Type 0
+FitsSaid : Result LineMeaning Wrong → Type 0
 FitsSaid (Ok said) = IsFit said
 FitsSaid (Err wrong) = Unit {0}
 
@@ -319,12 +319,12 @@ unfolding FitsAll FitsSaid
 set_fits (Ok mib) f = fits_none mib f
 set_fits (Err wrong) f = tt
 
-first_fits : {A : Type 0} (r : Result A Wrong) (later : A → Result Said Wrong) → ((x : A) → FitsSaid (later x)) → FitsSaid (first_then r later)
+first_fits : {A : Type 0} (r : Result A Wrong) (later : A → Result LineMeaning Wrong) → ((x : A) → FitsSaid (later x)) → FitsSaid (first_then r later)
 unfolding FitsSaid
 first_fits (Ok x) later h = h x
 first_fits (Err wrong) later h = tt
 
-said_fits : {A : Type 0} (say : A → Said) → ((x : A) → IsFit (say x)) → (r : Result A Wrong) → FitsSaid (saying say r)
+said_fits : {A : Type 0} (say : A → LineMeaning) → ((x : A) → IsFit (say x)) → (r : Result A Wrong) → FitsSaid (saying say r)
 unfolding FitsSaid
 said_fits say h (Ok x) = h x
 said_fits say h (Err wrong) = tt
@@ -340,16 +340,17 @@ put_in-fits (text ∷ []) =
     first_fits (ok_or (name_in text) _) (λ octets. directory_or_file octets (before_slash octets))
     (λ octets. directory_or_file-fits octets (before_slash octets))
 put_in-fits (text ∷ next ∷ texts) =
-    first_fits (ok_or (content_in (next ∷ texts)) _) (λ holds. saying (λ path. PutFile path holds) (path_or_wrong (path_at text)))
-    (λ holds. said_fits (λ path. PutFile path holds) (λ x. tt) (path_or_wrong (path_at text)))
+    first_fits (ok_or (content_in (next ∷ texts)) _) (λ holds. saying (λ path. PutFile path holds) (path_or_wrong (path_spelled text)))
+    (λ holds. said_fits (λ path. PutFile path holds) (λ x. tt) (path_or_wrong (path_spelled text)))
 
 input_in-fits : (now : ℕ) (texts : List (List ℕ)) → FitsSaid (input_in now texts)
 unfolding FitsSaid
 input_in-fits now [] = tt
 input_in-fits now (text ∷ texts) =
-    elim (bytes_eq text (codes "pdu")) as (λ b. FitsSaid (if b then saying (λ octets. Receive now octets) (ok_or (octets_in texts) (wrongs.Expected word.At))
+    elim (bytes_eq text (codes "pdu")) as (λ b. FitsSaid (if b then saying (λ octets. Receive now octets)
+    (ok_or (octets_spelled texts) (wrongs.Expected word.At))
     else if bytes_eq text (codes "cancel") then saying (λ id. Cancel now id) (only_name word.At texts) else Err (wrongs.Expected word.At))) [
-      | true ↦ said_fits (λ octets. Receive now octets) (λ x. tt) (ok_or (octets_in texts) (wrongs.Expected word.At))
+      | true ↦ said_fits (λ octets. Receive now octets) (λ x. tt) (ok_or (octets_spelled texts) (wrongs.Expected word.At))
       | false ↦ elim (bytes_eq text (codes "cancel")) as (λ b. FitsSaid (if b then saying (λ id. Cancel now id) (only_name word.At texts)
           else Err (wrongs.Expected word.At))) [
             | true ↦ said_fits (λ id. Cancel now id) (λ x. tt) (only_name word.At texts)
@@ -362,7 +363,7 @@ unfolding FitsSaid
 at_in-fits [] = tt
 at_in-fits (text ∷ texts) = first_fits (ok_or (number_of text) _) (λ now. input_in now texts) (λ now. input_in-fits now texts)
 
-alone-fits : (known : Word) (what : Said) (texts : List (List ℕ)) → IsFit what → FitsSaid (alone known what texts)
+alone-fits : (known : Word) (what : LineMeaning) (texts : List (List ℕ)) → IsFit what → FitsSaid (says_alone known what texts)
 unfolding FitsSaid
 alone-fits known what [] f = f
 alone-fits known what (text ∷ texts) f = tt
@@ -392,12 +393,12 @@ begun_by-fits : (mib : Mib) (how_far : Progress) (known : Option Word) (texts : 
 begun_by-fits mib how_far known texts f =
     first_fits (ok_or known _) (λ one. in_time mib how_far one texts) (λ one. in_time-fits mib how_far one texts f)
 
-FitsLine : Result (Option Said) Wrong → Type 0
+FitsLine : Result (Option LineMeaning) Wrong → Type 0
 FitsLine (Ok (Some said)) = IsFit said
 FitsLine (Ok None) = Unit {0}
 FitsLine (Err wrong) = Unit {0}
 
-some_fits : (r : Result Said Wrong) → FitsSaid r → FitsLine (saying Some r)
+some_fits : (r : Result LineMeaning Wrong) → FitsSaid r → FitsLine (saying Some r)
 unfolding FitsSaid FitsLine
 some_fits (Ok said) f = f
 some_fits (Err wrong) f = tt
@@ -418,7 +419,7 @@ line-fits mib how_far line f =
       ]
     ]
 
-pub command_fits : (mib : Mib) (how_far : Progress) (line : List ℕ) (said : Said) → first_fault mib ≡ None → command_in mib how_far line ≡ Ok (Some said) →
+pub command_fits : (mib : Mib) (how_far : Progress) (line : List ℕ) (said : LineMeaning) → mib_fault mib ≡ None → command_in mib how_far line ≡ Ok (Some said) →
     IsFit said
 unfolding FitsLine
 command_fits mib how_far line said none e = subst FitsLine e (line-fits mib how_far line (none_fits mib none))

@@ -6,7 +6,7 @@ use Rattle.cfdp_paths.specs.Paths.{Path}
 use Rattle.cfdp_actions.specs.Filestore.{Node, File}
 use Rattle.cfdp_run.specs.Commands.{Content, Nothing, Octets, File as Named}
 use Rattle.cfdp_run.specs.Putting.{place_wrong}
-use Rattle.cfdp_run.specs.Scripts.{Head, Play, Stage, Playing, Step, changed, in_head, put, put_content, put_file, put_node, put_read, unless, written}
+use Rattle.cfdp_run.specs.Scripts.{Head, Play, ScriptStage, Playing, Step, head_changed, in_head, put, put_content, put_file, put_node, put_read, unless, written}
 use Rattle.cfdp_run.specs.Stages.{head_of, play_from}
 use Rattle.cfdp_run.specs.Stops.{Stop, IsWrong, NoMemory, Unread, stop_of}
 use Rattle.cfdp_run.specs.declared.head.Head.{Head as HeadValue}
@@ -15,7 +15,8 @@ use Rattle.cfdp_run.specs.declared.stop.Stop.{Stop as StopValue}
 use Rattle.cfdp_run.specs.declared.words.Word.{Word}
 use Rattle.cfdp_run.specs.declared.words.Word.TheVariants as word
 use Rattle.cfdp_run.specs.declared.wrong.Wrong.{Wrong}
-use Rattle.cfdp_run_script.specs.Steps.{Does, Stops, held, held_in, stage_by}
+use Rattle.cfdp_run_script.specs.Steps.{Leads, StopsScript, stage_by}
+use Rattle.cfdp_run_script.specs.code.Steps.{held, held_in}
 
 -- ---- the head
 
@@ -23,12 +24,12 @@ pub head_step : (h g : HeadValue) (p q : Option PlayValue) (w : Word) (change : 
     ≡ Ok (head_of g) →
     in_head w (stage_by h p) change ≡ Ok (stage_by g q, [])
 unfolding stage_by
-head_step h g p q w change none same e = rw (same, none) (ap changed e)
+head_step h g p q w change none same e = rw (same, none) (ap head_changed e)
 
 pub head_stop : (h : HeadValue) (p : Option PlayValue) (w : Word) (change : Head → Result Head Stop) (why : Stop) → p ≡ None → change (head_of h) ≡ Err why →
     in_head w (stage_by h p) change ≡ Err why
 unfolding stage_by
-head_stop h p w change why none e = rw none (ap changed e)
+head_stop h p w change why none e = rw none (ap head_changed e)
 
 pub placed : (o : Option Wrong) (later : Result Head Stop) → o ≡ None → unless o later ≡ later
 placed o later none = rw none refl
@@ -92,7 +93,7 @@ put_file_misplaced files h path content why e = misplaced (place_wrong h.world.f
 
 pub written_does : (h : HeadValue) (p : Option PlayValue) (after : PlayValue) (next : Play) (before text lines : List ℕ) → p ≡ Some after → play_from after
     ≡ next →
-    lines ≡ (play_from after).lines → text ≡ before ++ lines → Does (written next) (stage_by h p) before text
+    lines ≡ (play_from after).lines → text ≡ before ++ lines → Leads (written next) (stage_by h p) before text
 unfolding stage_by
 written_does h p after next before text lines is e l a = rw is (record {
   text = lines;
@@ -102,10 +103,10 @@ written_does h p after next before text lines is e l a = rw is (record {
 
 -- ---- lines
 
-pub no_memory : (step : Step) (why : StopValue) → stop_of why ≡ NoMemory → Stops step why
+pub no_memory : (step : Step) (why : StopValue) → stop_of why ≡ NoMemory → StopsScript step why
 no_memory step why e = λ known. absurd (known e)
 
-pub silent : (step : Step) (stage : Stage) (text : List ℕ) → step ≡ Ok (stage, []) → Does step stage text text
+pub silent : (step : Step) (stage : ScriptStage) (text : List ℕ) → step ≡ Ok (stage, []) → Leads step stage text text
 silent step stage text e = record { text = []; does = e; appended = sym (append-nil text) }
 
 -- ---- where the files are known
@@ -125,14 +126,14 @@ file_put (Some map) h g p q path content octets given none kept place e same put
 
 pub file_misplaced : (told : Told) (h : HeadValue) (p : Option PlayValue) (path : Path) (content : Content) (why : StopValue) → p ≡ None →
     (stop_of why ≢ NoMemory → option_map IsWrong (place_wrong (head_of h).world.filestore path) ≡ Some (stop_of why)) →
-    IfSome told (λ map. Stops (PutStep map h p path content) why)
+    IfSome told (λ map. StopsScript (PutStep map h p path content) why)
 file_misplaced None h p path content why none e = tt
 file_misplaced (Some map) h p path content why none e = λ known.
     head_stop h p word.Put (λ head. put_file map head path content) (stop_of why) none (put_file_misplaced map (head_of h) path content (stop_of why) (e known))
 
 pub file_unread : (told : Told) (h : HeadValue) (p : Option PlayValue) (path : Path) (content : Content) (why : StopValue) → p ≡ None →
     place_wrong (head_of h).world.filestore path ≡ None → IfSome told (λ map. stop_of why ≢ NoMemory → held map content ≡ Err (stop_of why)) →
-    IfSome told (λ map. Stops (PutStep map h p path content) why)
+    IfSome told (λ map. StopsScript (PutStep map h p path content) why)
 file_unread None h p path content why none place e = tt
 file_unread (Some map) h p path content why none place e = λ known.
     head_stop h p word.Put (λ head. put_file map head path content) (stop_of why) none
@@ -140,18 +141,18 @@ file_unread (Some map) h p path content why none place e = λ known.
 
 pub file_not_put : (told : Told) (h : HeadValue) (p : Option PlayValue) (path : Path) (content : Content) (octets given : List ℕ) (why : StopValue) → p ≡ None →
     place_wrong (head_of h).world.filestore path ≡ None → IfSome told (λ map. held map content ≡ Ok octets) → given ≡ octets →
-    (stop_of why ≢ NoMemory → put_node (head_of h) path (File given) ≡ Err (stop_of why)) → IfSome told (λ map. Stops (PutStep map h p path content) why)
+    (stop_of why ≢ NoMemory → put_node (head_of h) path (File given) ≡ Err (stop_of why)) → IfSome told (λ map. StopsScript (PutStep map h p path content) why)
 file_not_put None h p path content octets given why none place e same put = tt
 file_not_put (Some map) h p path content octets given why none place e same put = λ known.
     head_stop h p word.Put (λ head. put_file map head path content) (stop_of why) none
     (put_file_held map (head_of h) path content octets given place e same ∙ put known)
 
 -- a line that writes nothing
-pub quiet : (told : Told) (steps : (List ℕ → Option (List ℕ)) → Step) (stage : Stage) (text : List ℕ) → IfSome told (λ map. steps map ≡ Ok (stage, [])) →
-    IfSome told (λ map. Does (steps map) stage text text)
+pub quiet : (told : Told) (steps : (List ℕ → Option (List ℕ)) → Step) (stage : ScriptStage) (text : List ℕ) → IfSome told (λ map. steps map ≡ Ok (stage, [])) →
+    IfSome told (λ map. Leads (steps map) stage text text)
 quiet None steps stage text e = tt
 quiet (Some map) steps stage text e = silent (steps map) stage text e
 
-pub always : (told : Told) (step : Step) (stage : Stage) (text : List ℕ) → step ≡ Ok (stage, []) → IfSome told (λ map. Does step stage text text)
+pub always : (told : Told) (step : Step) (stage : ScriptStage) (text : List ℕ) → step ≡ Ok (stage, []) → IfSome told (λ map. Leads step stage text text)
 always None step stage text e = tt
 always (Some map) step stage text e = silent step stage text e

@@ -8,66 +8,68 @@ use Rattle.cfdp_lines.specs.Report.{stopped_at}
 use Rattle.cfdp_lines.specs.Session.{place, report_at, StopsBad}
 use Rattle.cfdp_lines.proofs.Feeding.{Adds-gather, Stops-overlong}
 use Rattle.cfdp_lines.proofs.Moving.{StopsBad-overlong}
-use Rattle.cfdp_run.specs.Scripts.{Stage, answer, line_step}
+use Rattle.cfdp_run.specs.Scripts.{ScriptStage, answer, line_step}
 use Rattle.cfdp_run.specs.Stops.{IsWrong, NoMemory, stop_of}
 use Rattle.cfdp_run.specs.declared.stop.Stop.{Stop as StopValue}
 use Rattle.cfdp_run.specs.declared.wrong.Wrong.TheVariants.{TooLong}
-use Rattle.cfdp_run_script.specs.Sessions.{Ends, GoesOn, StopsFor, why_at}
-use Rattle.cfdp_run_script.specs.Steps.{Does, Stops}
+use Rattle.cfdp_run_script.specs.Sessions.{EndsScript, ScriptGoesOn, StopsFor, why_at}
+use Rattle.cfdp_run_script.specs.Steps.{Leads, StopsScript}
 use Rattle.cfdp_run_script.proofs.Carrying as carrying
 use Rattle.cfdp_run_script.proofs.Steps.{Told}
 
 -- ---- a line ends
 
-pub adds : (told : Told) (n : ℕ) (s after : Stage) (line octets given before text : List ℕ) (at : ℕ) → IsOneLine (line ++ take at octets) → at < length octets →
-    is_newline (get_or octets at 0) ≡ true → given ≡ line ++ take at octets → IfSome told (λ map. Does (line_step map s given) after before text) →
+pub adds : (told : Told) (n : ℕ) (s after : ScriptStage) (line octets given before text : List ℕ) (at : ℕ) → IsOneLine (line ++ take at octets) →
+    at < length octets →
+    is_newline (get_or octets at 0) ≡ true → given ≡ line ++ take at octets → IfSome told (λ map. Leads (line_step map s given) after before text) →
     IfSome told (λ map. Adds (answer map) (place n s line) (place (n + 1) after []) (take (at + 1) octets) before text)
 adds None n s after line octets given before text at one within newline same d = tt
 adds (Some map) n s after line octets given before text at one within newline same d =
-    carrying.adds map n s after line octets before text at one within newline (subst (λ (l : List ℕ). Does (line_step map s l) after before text) same d)
+    carrying.adds map n s after line octets before text at one within newline (subst (λ (l : List ℕ). Leads (line_step map s l) after before text) same d)
 
-pub goes_on : (told : Told) (n : ℕ) (s after : Stage) (line octets given before text : List ℕ) (at : ℕ) → IsOneLine (line ++ take at octets) →
+pub goes_on : (told : Told) (n : ℕ) (s after : ScriptStage) (line octets given before text : List ℕ) (at : ℕ) → IsOneLine (line ++ take at octets) →
     at < length octets →
-    is_newline (get_or octets at 0) ≡ true → given ≡ line ++ take at octets → IfSome told (λ map. Does (line_step map s given) after before text) →
-    IfSome told (λ map. GoesOn map (place n s line) (place (n + 1) after []) (take (at + 1) octets))
+    is_newline (get_or octets at 0) ≡ true → given ≡ line ++ take at octets → IfSome told (λ map. Leads (line_step map s given) after before text) →
+    IfSome told (λ map. ScriptGoesOn map (place n s line) (place (n + 1) after []) (take (at + 1) octets))
 goes_on None n s after line octets given before text at one within newline same d = tt
 goes_on (Some map) n s after line octets given before text at one within newline same d =
-    carrying.goes_on map n s after line octets before text at one within newline (subst (λ (l : List ℕ). Does (line_step map s l) after before text) same d)
+    carrying.goes_on map n s after line octets before text at one within newline (subst (λ (l : List ℕ). Leads (line_step map s l) after before text) same d)
 
-pub stops : (told : Told) (n : ℕ) (s : Stage) (line octets given : List ℕ) (at : ℕ) (why : StopValue) → IsOneLine (line ++ take at octets) →
+pub stops : (told : Told) (n : ℕ) (s : ScriptStage) (line octets given : List ℕ) (at : ℕ) (why : StopValue) → IsOneLine (line ++ take at octets) →
     at < length octets →
-    is_newline (get_or octets at 0) ≡ true → given ≡ line ++ take at octets → IfSome told (λ map. Stops (line_step map s given) why) → stop_of why ≢ NoMemory →
+    is_newline (get_or octets at 0) ≡ true → given ≡ line ++ take at octets → IfSome told (λ map. StopsScript (line_step map s given) why) →
+    stop_of why ≢ NoMemory →
     IfSome told (λ map. StopsBad (answer map) (place n s line) octets [] n)
 stops None n s line octets given at why one within newline same d known = tt
 stops (Some map) n s line octets given at why one within newline same d known =
-    carrying.stops_at map n s line octets at why one within newline (subst (λ (l : List ℕ). Stops (line_step map s l) why) same d) known
+    carrying.stops_at map n s line octets at why one within newline (subst (λ (l : List ℕ). StopsScript (line_step map s l) why) same d) known
 
-pub stops_for : (told : Told) (n : ℕ) (s : Stage) (line octets given : List ℕ) (at : ℕ) (why : StopValue) → IsOneLine (line ++ take at octets) →
+pub stops_for : (told : Told) (n : ℕ) (s : ScriptStage) (line octets given : List ℕ) (at : ℕ) (why : StopValue) → IsOneLine (line ++ take at octets) →
     at < length octets →
-    is_newline (get_or octets at 0) ≡ true → given ≡ line ++ take at octets → IfSome told (λ map. Stops (line_step map s given) why) →
+    is_newline (get_or octets at 0) ≡ true → given ≡ line ++ take at octets → IfSome told (λ map. StopsScript (line_step map s given) why) →
     IfSome told (λ map. StopsFor map (place n s line) octets why)
 stops_for None n s line octets given at why one within newline same d = tt
 stops_for (Some map) n s line octets given at why one within newline same d =
-    carrying.stops_for map n s line octets at why one within newline (subst (λ (l : List ℕ). Stops (line_step map s l) why) same d)
+    carrying.stops_for map n s line octets at why one within newline (subst (λ (l : List ℕ). StopsScript (line_step map s l) why) same d)
 
 -- ---- octets of a line that does not end
 
-pub gathers : (told : Told) (n : ℕ) (s : Stage) (line octets text : List ℕ) →
+pub gathers : (told : Told) (n : ℕ) (s : ScriptStage) (line octets text : List ℕ) →
     IfSome told (λ map. Adds (answer map) (place n s line) (place n s (line ++ octets)) octets text text)
 gathers None n s line octets text = tt
-gathers (Some map) n s line octets text = Adds-gather Stage (answer map) n s line octets text
+gathers (Some map) n s line octets text = Adds-gather ScriptStage (answer map) n s line octets text
 
-pub goes_nowhere : (told : Told) (n : ℕ) (s : Stage) (line octets : List ℕ) →
-    IfSome told (λ map. GoesOn map (place n s line) (place n s (line ++ octets)) octets)
+pub goes_nowhere : (told : Told) (n : ℕ) (s : ScriptStage) (line octets : List ℕ) →
+    IfSome told (λ map. ScriptGoesOn map (place n s line) (place n s (line ++ octets)) octets)
 goes_nowhere None n s line octets = tt
 goes_nowhere (Some map) n s line octets = carrying.goes_nowhere map n s line octets
 
-pub long : (told : Told) (n : ℕ) (s : Stage) (line octets : List ℕ) → IsOneLine line → IsOneLine octets → line_limit < length line + length octets →
+pub long : (told : Told) (n : ℕ) (s : ScriptStage) (line octets : List ℕ) → IsOneLine line → IsOneLine octets → line_limit < length line + length octets →
     IfSome told (λ map. StopsBad (answer map) (place n s line) octets [] n)
 long None n s line octets one two over = tt
-long (Some map) n s line octets one two over = StopsBad-overlong Stage (answer map) n s line octets one two over
+long (Some map) n s line octets one two over = StopsBad-overlong ScriptStage (answer map) n s line octets one two over
 
-pub long_for : (told : Told) (n : ℕ) (s : Stage) (line octets : List ℕ) (why : StopValue) → IsOneLine (line ++ octets) →
+pub long_for : (told : Told) (n : ℕ) (s : ScriptStage) (line octets : List ℕ) (why : StopValue) → IsOneLine (line ++ octets) →
     (stop_of why ≢ NoMemory → line_limit < length line + length octets) → (stop_of why ≢ NoMemory → stop_of why ≡ IsWrong TooLong) →
     IfSome told (λ map. StopsFor map (place n s line) octets why)
 long_for None n s line octets why one over is = tt
@@ -76,12 +78,12 @@ long_for (Some map) n s line octets why one over is =
 
 -- the same of octets before a newline
 
-pub long_before : (told : Told) (n : ℕ) (s : Stage) (line octets : List ℕ) (at : ℕ) → IsOneLine line → IsOneLine (take at octets) →
+pub long_before : (told : Told) (n : ℕ) (s : ScriptStage) (line octets : List ℕ) (at : ℕ) → IsOneLine line → IsOneLine (take at octets) →
     line_limit < length line + length (take at octets) → IfSome told (λ map. StopsBad (answer map) (place n s line) octets [] n)
 long_before None n s line octets at one two over = tt
-long_before (Some map) n s line octets at one two over = Stops-overlong Stage (answer map) n s line octets at one two over
+long_before (Some map) n s line octets at one two over = Stops-overlong ScriptStage (answer map) n s line octets at one two over
 
-pub long_for_before : (told : Told) (n : ℕ) (s : Stage) (line octets : List ℕ) (at : ℕ) (why : StopValue) → IsOneLine (line ++ take at octets) →
+pub long_for_before : (told : Told) (n : ℕ) (s : ScriptStage) (line octets : List ℕ) (at : ℕ) (why : StopValue) → IsOneLine (line ++ take at octets) →
     (stop_of why ≢ NoMemory → line_limit < length line + length (take at octets)) → (stop_of why ≢ NoMemory → stop_of why ≡ IsWrong TooLong) →
     IfSome told (λ map. StopsFor map (place n s line) octets why)
 long_for_before None n s line octets at why one over is = tt
@@ -91,28 +93,28 @@ long_for_before (Some map) n s line octets at why one over is =
 
 -- ---- the script ends
 
-pub ends : (told : Told) (n : ℕ) (s after : Stage) (line given before text : List ℕ) → IsOneLine line → 0 < length line → given ≡ line →
-    IfSome told (λ map. Does (line_step map s given) after before text) → IfSome told (λ map. Ends map (place n s line) before text)
+pub ends : (told : Told) (n : ℕ) (s after : ScriptStage) (line given before text : List ℕ) → IsOneLine line → 0 < length line → given ≡ line →
+    IfSome told (λ map. Leads (line_step map s given) after before text) → IfSome told (λ map. EndsScript map (place n s line) before text)
 ends None n s after line given before text one few same d = tt
 ends (Some map) n s after line given before text one few same d =
-    carrying.ends_line map n s after line before text one few (subst (λ (l : List ℕ). Does (line_step map s l) after before text) same d)
+    carrying.ends_line map n s after line before text one few (subst (λ (l : List ℕ). Leads (line_step map s l) after before text) same d)
 
-pub ends_well : (told : Told) (n : ℕ) (s after : Stage) (line given before text : List ℕ) → IsOneLine line → 0 < length line → given ≡ line →
-    IfSome told (λ map. Does (line_step map s given) after before text) → IfSome told (λ map. why_at map true (place n s line) [] ≡ None)
+pub ends_well : (told : Told) (n : ℕ) (s after : ScriptStage) (line given before text : List ℕ) → IsOneLine line → 0 < length line → given ≡ line →
+    IfSome told (λ map. Leads (line_step map s given) after before text) → IfSome told (λ map. why_at map true (place n s line) [] ≡ None)
 ends_well None n s after line given before text one few same d = tt
 ends_well (Some map) n s after line given before text one few same d =
-    carrying.goes_well map n s after line before text one few (subst (λ (l : List ℕ). Does (line_step map s l) after before text) same d)
+    carrying.goes_well map n s after line before text one few (subst (λ (l : List ℕ). Leads (line_step map s l) after before text) same d)
 
-pub ends_stopped : (told : Told) (n : ℕ) (s : Stage) (line given : List ℕ) (why : StopValue) → IsOneLine line → 0 < length line → given ≡ line →
-    IfSome told (λ map. Stops (line_step map s given) why) → stop_of why ≢ NoMemory →
+pub ends_stopped : (told : Told) (n : ℕ) (s : ScriptStage) (line given : List ℕ) (why : StopValue) → IsOneLine line → 0 < length line → given ≡ line →
+    IfSome told (λ map. StopsScript (line_step map s given) why) → stop_of why ≢ NoMemory →
     IfSome told (λ map. report_at (answer map) true (place n s line) [] ≡ stopped_at n)
 ends_stopped None n s line given why one few same d known = tt
 ends_stopped (Some map) n s line given why one few same d known =
-    carrying.stops_last map n s line why one few (subst (λ (l : List ℕ). Stops (line_step map s l) why) same d) known
+    carrying.stops_last map n s line why one few (subst (λ (l : List ℕ). StopsScript (line_step map s l) why) same d) known
 
-pub ends_why : (told : Told) (n : ℕ) (s : Stage) (line given : List ℕ) (why : StopValue) → IsOneLine line → 0 < length line → given ≡ line →
-    IfSome told (λ map. Stops (line_step map s given) why) → stop_of why ≢ NoMemory →
+pub ends_why : (told : Told) (n : ℕ) (s : ScriptStage) (line given : List ℕ) (why : StopValue) → IsOneLine line → 0 < length line → given ≡ line →
+    IfSome told (λ map. StopsScript (line_step map s given) why) → stop_of why ≢ NoMemory →
     IfSome told (λ map. why_at map true (place n s line) [] ≡ Some (stop_of why))
 ends_why None n s line given why one few same d known = tt
 ends_why (Some map) n s line given why one few same d known =
-    carrying.why_last map n s line why one few (subst (λ (l : List ℕ). Stops (line_step map s l) why) same d) known
+    carrying.why_last map n s line why one few (subst (λ (l : List ℕ). StopsScript (line_step map s l) why) same d) known

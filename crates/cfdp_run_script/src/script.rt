@@ -2,17 +2,19 @@
 
 ghost use Rattle.std.specs.Prelude.{◌≡◌, ◌≢◌, ℕ, List, [], Option, None, Some, Ok, Err, Result, IfErr, IfOk, IfSome, IsSome, OnErr, OnOk};
 ghost use Rattle.cfdp_actions.specs.Filestore.{Directory, File};
-ghost use Rattle.cfdp_receiver.specs.Machine.{first_fault};
+ghost use Rattle.cfdp_receiver.specs.Machine.{mib_fault};
 ghost use Rattle.cfdp_texts.specs.Replies.{listing_text};
-ghost use Rattle.cfdp_run.specs.Commands.{content_of, said_of};
+ghost use Rattle.cfdp_run.specs.Commands.{content_of, command_meaning};
 ghost use Rattle.cfdp_run.specs.Contents.{get_line};
 ghost use Rattle.cfdp_run.specs.Questions.{gaps_line, phase_line};
-ghost use Rattle.cfdp_run.specs.Scripts.{Head as SaidInHead, asked, at_first, begun, cancelled_at, expected, filestore_of, heard_at, in_head, line_step, mib_of, obeyed, passed_at, play_of, progress_of, protected, put, put_file, time_of, with_config, with_mib, written};
-ghost use Rattle.cfdp_run.specs.Stages.{IsFit, head_of, play_from};
+ghost use Rattle.cfdp_run.specs.Scripts.{Head as SaidInHead, asked, script_at_first, begun, cancelled_at, expected, stage_filestore, heard_at, in_head, line_step, mib_of, command_obeyed, passed_at, play_of, progress_of, head_protected, put, put_file, time_of, with_config, with_mib, written};
+ghost use Rattle.cfdp_run.specs.Stages.{head_of, play_from};
+ghost use Rattle.cfdp_run.specs.code.Stages.{IsFit};
 ghost use Rattle.cfdp_run.specs.Stops.{NoMemory, Stop as Why, stop_of};
 ghost use Rattle.cfdp_run.specs.declared.commands.Progress.TheVariants as progress;
 ghost use Rattle.cfdp_run.specs.declared.words.Word.TheVariants as word;
-ghost use Rattle.cfdp_run_script.specs.Steps.{Does, Stops, held, script_of};
+ghost use Rattle.cfdp_run_script.specs.Steps.{Leads, StopsScript, script_of};
+ghost use Rattle.cfdp_run_script.specs.code.Steps.{held};
 
 use crate::files::{Files, Unread};
 use cfdp_entity::Entity;
@@ -61,7 +63,7 @@ impl Script {
     /// [`AllocError`] when out of memory. Cost: an entity of 64 blocks.
     #[tactic(auto, unfolding(crate::specs::Steps::stage_by))]
     pub fn new(alloc: Global) -> Result<Script, AllocError>
-        ensures { IfOk result (λ script. script_of script ≡ at_first) }
+        ensures { IfOk result (λ script. script_of script ≡ script_at_first) }
     {
         let head = Head::new(alloc)?;
         Ok(Script { head, play: None })
@@ -71,7 +73,7 @@ impl Script {
     #[tactic(auto, unfolding(crate::specs::Steps::stage_by))]
     fn mib(&self) -> Mib
         ensures value { result ≡ mib_of (script_of self.now) }
-        ensures fits { first_fault result ≡ None }
+        ensures fits { mib_fault result ≡ None }
     {
         match &self.play {
             None => self.head.mib(),
@@ -106,10 +108,11 @@ impl Script {
     /// A line `mib`.
     #[tactic(auto, unfolding(crate::specs::Steps::stage_by))]
     fn set(&mut self, mib: Mib) -> Result<(), Stop>
-        requires { first_fault mib ≡ None }
+        requires { mib_fault mib ≡ None }
         ensures ok { OnOk result (in_head word.Mib (script_of self.old) (λ head. Ok (with_mib head mib))
             ≡ Ok (script_of self.new, [])) }
-        ensures err { IfErr result (Stops (in_head word.Mib (script_of self.old) (λ head. Ok (with_mib head mib)))) }
+        ensures err { IfErr result (StopsScript (in_head word.Mib (script_of self.old)
+            (λ head. Ok (with_mib head mib)))) }
     {
         self.in_head(Word::Mib)?;
         self.head.set(mib);
@@ -121,7 +124,7 @@ impl Script {
     fn configure(&mut self, alloc: Global, config: Config) -> Result<(), Stop>
         ensures ok { OnOk result (in_head word.Config (script_of self.old) (λ head. Ok (with_config head config))
             ≡ Ok (script_of self.new, [])) }
-        ensures err { IfErr result (Stops (in_head word.Config (script_of self.old)
+        ensures err { IfErr result (StopsScript (in_head word.Config (script_of self.old)
             (λ head. Ok (with_config head config)))) }
     {
         self.in_head(Word::Config)?;
@@ -131,9 +134,10 @@ impl Script {
     /// A line `protect`.
     #[tactic(auto, unfolding(crate::specs::Steps::stage_by))]
     fn protect(&mut self, path: Path) -> Result<(), Stop>
-        ensures ok { OnOk result (in_head word.Protect (script_of self.old) (λ head. protected head path)
+        ensures ok { OnOk result (in_head word.Protect (script_of self.old) (λ head. head_protected head path)
             ≡ Ok (script_of self.new, [])) }
-        ensures err { IfErr result (Stops (in_head word.Protect (script_of self.old) (λ head. protected head path))) }
+        ensures err { IfErr result (StopsScript (in_head word.Protect (script_of self.old)
+            (λ head. head_protected head path))) }
     {
         self.in_head(Word::Protect)?;
         self.head.protect(path)
@@ -143,7 +147,7 @@ impl Script {
     fn put_directory(&mut self, alloc: Global, path: &Path) -> Result<(), Stop>
         ensures ok { OnOk result (in_head word.Put (script_of self.old) (λ head. put head path.now Directory)
             ≡ Ok (script_of self.new, [])) }
-        ensures err { IfErr result (Stops (in_head word.Put (script_of self.old)
+        ensures err { IfErr result (StopsScript (in_head word.Put (script_of self.old)
             (λ head. put head path.now Directory))) }
     {
         self.in_head(Word::Put)?;
@@ -163,7 +167,7 @@ impl Script {
             in_head word.Put (script_of self.old) (λ head. put_file map head path.now (content_of content.entry))
             ≡ Ok (script_of self.new, []))) }
         ensures err { IfErr result (λ why. IfSome (F.told files.old) (λ map.
-            Stops (in_head word.Put (script_of self.old) (λ head.
+            StopsScript (in_head word.Put (script_of self.old) (λ head.
             put_file map head path.now (content_of content.entry))) why)) }
         ensures same { F.told files.new ≡ F.told files.old }
     {
@@ -206,10 +210,10 @@ impl Script {
         octets: &mut [u8],
         text: &mut Vec<u8>,
     ) -> Result<(), Stop>
-        ensures ok { OnOk result (Does (written (heard_at (play_of (script_of self.old))
+        ensures ok { OnOk result (Leads (written (heard_at (play_of (script_of self.old))
             (time_of (play_of (script_of self.old)) now) octets.old))
             (script_of self.new) text.old.items text.new.items) }
-        ensures err { IfErr result (Stops (written (heard_at (play_of (script_of self.old))
+        ensures err { IfErr result (StopsScript (written (heard_at (play_of (script_of self.old))
             (time_of (play_of (script_of self.old)) now) octets.old))) }
         ensures kept { OnErr result (text.new.items ≡ text.old.items) }
     {
@@ -229,9 +233,9 @@ impl Script {
         id: TransactionId,
         text: &mut Vec<u8>,
     ) -> Result<(), Stop>
-        ensures ok { OnOk result (Does (written (cancelled_at (play_of (script_of self.old))
+        ensures ok { OnOk result (Leads (written (cancelled_at (play_of (script_of self.old))
             (time_of (play_of (script_of self.old)) now) id)) (script_of self.new) text.old.items text.new.items) }
-        ensures err { IfErr result (Stops (written (cancelled_at (play_of (script_of self.old))
+        ensures err { IfErr result (StopsScript (written (cancelled_at (play_of (script_of self.old))
             (time_of (play_of (script_of self.old)) now) id))) }
         ensures kept { OnErr result (text.new.items ≡ text.old.items) }
     {
@@ -245,9 +249,9 @@ impl Script {
 
     /// Time passes.
     fn pass(&mut self, alloc: Global, now: u64, text: &mut Vec<u8>) -> Result<(), Stop>
-        ensures ok { OnOk result (Does (written (passed_at (play_of (script_of self.old))
+        ensures ok { OnOk result (Leads (written (passed_at (play_of (script_of self.old))
             (time_of (play_of (script_of self.old)) now))) (script_of self.new) text.old.items text.new.items) }
-        ensures err { IfErr result (Stops (written (passed_at (play_of (script_of self.old))
+        ensures err { IfErr result (StopsScript (written (passed_at (play_of (script_of self.old))
             (time_of (play_of (script_of self.old)) now)))) }
         ensures kept { OnErr result (text.new.items ≡ text.old.items) }
     {
@@ -261,10 +265,10 @@ impl Script {
 
     /// What there is at a path is asked for.
     fn get(&mut self, alloc: Global, path: &Path, text: &mut Vec<u8>) -> Result<(), Stop>
-        ensures ok { OnOk result (Does (written (asked (play_of (script_of self.old))
+        ensures ok { OnOk result (Leads (written (asked (play_of (script_of self.old))
             (get_line (play_of (script_of self.old)).state.world.filestore path.now)))
             (script_of self.new) text.old.items text.new.items) }
-        ensures err { IfErr result (Stops (written (asked (play_of (script_of self.old))
+        ensures err { IfErr result (StopsScript (written (asked (play_of (script_of self.old))
             (get_line (play_of (script_of self.old)).state.world.filestore path.now)))) }
         ensures kept { OnErr result (text.new.items ≡ text.old.items) }
     {
@@ -278,9 +282,9 @@ impl Script {
 
     /// What is missing of a transaction is asked for.
     fn gaps(&mut self, alloc: Global, id: TransactionId, text: &mut Vec<u8>) -> Result<(), Stop>
-        ensures ok { OnOk result (Does (written (asked (play_of (script_of self.old))
+        ensures ok { OnOk result (Leads (written (asked (play_of (script_of self.old))
             (gaps_line (play_of (script_of self.old)).state id))) (script_of self.new) text.old.items text.new.items) }
-        ensures err { IfErr result (Stops (written (asked (play_of (script_of self.old))
+        ensures err { IfErr result (StopsScript (written (asked (play_of (script_of self.old))
             (gaps_line (play_of (script_of self.old)).state id)))) }
         ensures kept { OnErr result (text.new.items ≡ text.old.items) }
     {
@@ -294,9 +298,9 @@ impl Script {
 
     /// How far a transaction is, is asked for.
     fn phase(&mut self, alloc: Global, id: TransactionId, text: &mut Vec<u8>) -> Result<(), Stop>
-        ensures ok { OnOk result (Does (written (asked (play_of (script_of self.old))
+        ensures ok { OnOk result (Leads (written (asked (play_of (script_of self.old))
             (phase_line (play_of (script_of self.old)).state id))) (script_of self.new) text.old.items text.new.items) }
-        ensures err { IfErr result (Stops (written (asked (play_of (script_of self.old))
+        ensures err { IfErr result (StopsScript (written (asked (play_of (script_of self.old))
             (phase_line (play_of (script_of self.old)).state id)))) }
         ensures kept { OnErr result (text.new.items ≡ text.old.items) }
     {
@@ -310,10 +314,10 @@ impl Script {
 
     /// All of the filestore is asked for.
     fn list(&mut self, alloc: Global, text: &mut Vec<u8>) -> Result<(), Stop>
-        ensures ok { OnOk result (Does (written (asked (play_of (script_of self.old))
+        ensures ok { OnOk result (Leads (written (asked (play_of (script_of self.old))
             (listing_text (play_of (script_of self.old)).state.world)))
             (script_of self.new) text.old.items text.new.items) }
-        ensures err { IfErr result (Stops (written (asked (play_of (script_of self.old))
+        ensures err { IfErr result (StopsScript (written (asked (play_of (script_of self.old))
             (listing_text (play_of (script_of self.old)).state.world)))) }
         ensures kept { OnErr result (text.new.items ≡ text.old.items) }
     {
@@ -329,7 +333,7 @@ impl Script {
     #[tactic(auto, unfolding(crate::specs::Steps::stage_by))]
     fn expect(&mut self, alloc: Global, line: Vec<u8>) -> Result<(), Stop>
         ensures ok { OnOk result (expected (play_of (script_of self.old)) line.items ≡ Ok (script_of self.new, [])) }
-        ensures err { IfErr result (Stops (expected (play_of (script_of self.old)) line.items)) }
+        ensures err { IfErr result (StopsScript (expected (play_of (script_of self.old)) line.items)) }
     {
         self.begin(alloc)?;
         let Some(play) = &self.play else {
@@ -350,12 +354,12 @@ impl Script {
         command: Command<'_>,
         text: &mut Vec<u8>,
     ) -> Result<(), Stop>
-        requires { IsFit (said_of command) }
+        requires { IsFit (command_meaning command) }
         ensures ok { OnOk result (IfSome (F.told files.old) (λ map.
-            Does (obeyed map (script_of self.old) (said_of command.entry))
+            Leads (command_obeyed map (script_of self.old) (command_meaning command.entry))
             (script_of self.new) text.old.items text.new.items)) }
         ensures err { IfErr result (λ why. IfSome (F.told files.old)
-            (λ map. Stops (obeyed map (script_of self.old) (said_of command.entry)) why)) }
+            (λ map. StopsScript (command_obeyed map (script_of self.old) (command_meaning command.entry)) why)) }
         ensures kept { OnErr result (text.new.items ≡ text.old.items) }
         ensures same { F.told files.new ≡ F.told files.old }
     {
@@ -397,9 +401,9 @@ impl Script {
         text: &mut Vec<u8>,
     ) -> Result<(), Stop>
         ensures ok { OnOk result (IfSome (F.told files.old) (λ map.
-            Does (line_step map (script_of self.old) line.now) (script_of self.new) text.old.items text.new.items)) }
+            Leads (line_step map (script_of self.old) line.now) (script_of self.new) text.old.items text.new.items)) }
         ensures err { IfErr result (λ why. IfSome (F.told files.old)
-            (λ map. Stops (line_step map (script_of self.old) line.now) why)) }
+            (λ map. StopsScript (line_step map (script_of self.old) line.now) why)) }
         ensures kept { OnErr result (text.new.items ≡ text.old.items) }
         ensures same { F.told files.new ≡ F.told files.old }
     {
@@ -413,7 +417,7 @@ impl Script {
     /// The entity, for its filestore. Costs nothing.
     #[tactic(auto, unfolding(crate::specs::Steps::stage_by))]
     pub fn entity(&self) -> &Entity
-        ensures { result.now.filestore ≡ filestore_of (script_of self.now) }
+        ensures { result.now.filestore ≡ stage_filestore (script_of self.now) }
     {
         match &self.play {
             None => self.head.entity(),

@@ -5,7 +5,7 @@ ghost use Rattle.cfdp_lines.specs.Answers.{Adds};
 ghost use Rattle.cfdp_lines.specs.Lines.{IsOneLine, line_limit};
 ghost use Rattle.cfdp_lines.specs.Report.{stopped_at};
 ghost use Rattle.cfdp_lines.specs.Session.{StopsBad, report_at};
-ghost use Rattle.cfdp_run.specs.Scripts.{answer, at_first, line_step};
+ghost use Rattle.cfdp_run.specs.Scripts.{answer, script_at_first, line_step};
 ghost use Rattle.cfdp_run.specs.Stops.{IsWrong, NoMemory, stop_of};
 ghost use Rattle.cfdp_run.specs.declared.wrong.Wrong.TheVariants.{TooLong};
 
@@ -29,8 +29,8 @@ pub struct Session {
 }
 
 impl Session {
-    ghost use Rattle.cfdp_run_script.specs.Sessions.{Ends, GoesOn, StopsFor, place_of, why_at};
-    ghost use Rattle.cfdp_run_script.specs.Steps.{Does, Stops, script_of};
+    ghost use Rattle.cfdp_run_script.specs.Sessions.{EndsScript, ScriptGoesOn, StopsFor, script_place, why_at};
+    ghost use Rattle.cfdp_run_script.specs.Steps.{Leads, StopsScript, script_of};
 
     /// Before the first octet.
     ///
@@ -38,9 +38,9 @@ impl Session {
     ///
     /// [`AllocError`] when out of memory.
     pub fn new(alloc: Global) -> Result<Session, AllocError>
-        ensures state { IfOk result (λ session. (place_of session).state ≡ at_first) }
-        ensures line { IfOk result (λ session. (place_of session).line ≡ []) }
-        ensures number { IfOk result (λ session. (place_of session).number ≡ 1) }
+        ensures state { IfOk result (λ session. (script_place session).state ≡ script_at_first) }
+        ensures line { IfOk result (λ session. (script_place session).line ≡ []) }
+        ensures number { IfOk result (λ session. (script_place session).number ≡ 1) }
     {
         Ok(Session {
             script: Script::new(alloc)?,
@@ -51,7 +51,7 @@ impl Session {
 
     /// The script.
     pub fn script(&self) -> &Script
-        ensures { script_of result.now ≡ (place_of self.now).state }
+        ensures { script_of result.now ≡ (script_place self.now).state }
     {
         &self.script
     }
@@ -59,7 +59,7 @@ impl Session {
     /// The number of the line that is being read, counted from 1. Where the script has stopped, it is that of the line
     /// at which it did.
     pub fn number(&self) -> u64
-        ensures { result ≡ (place_of self.now).number }
+        ensures { result ≡ (script_place self.now).number }
     {
         self.number
     }
@@ -90,10 +90,10 @@ impl Session {
     ) -> Result<(), Stop>
         requires { self.old.number + 1 < 2 ^ 64 }
         ensures ok { OnOk result (IfSome (F.told files.old) (λ map.
-            Does (line_step map (script_of self.old.script) line.now)
+            Leads (line_step map (script_of self.old.script) line.now)
             (script_of self.new.script) text.old.items text.new.items)) }
         ensures err { IfErr result (λ why. IfSome (F.told files.old)
-            (λ map. Stops (line_step map (script_of self.old.script) line.now) why)) }
+            (λ map. StopsScript (line_step map (script_of self.old.script) line.now) why)) }
         ensures kept { OnErr result (text.new.items ≡ text.old.items) }
         ensures same { F.told files.new ≡ F.told files.old }
         ensures line { self.new.line ≡ self.old.line }
@@ -114,10 +114,10 @@ impl Session {
     ) -> Result<(), Stop>
         requires { self.old.number + 1 < 2 ^ 64 }
         ensures ok { OnOk result (IfSome (F.told files.old) (λ map.
-            Does (line_step map (script_of self.old.script) self.old.line.items)
+            Leads (line_step map (script_of self.old.script) self.old.line.items)
             (script_of self.new.script) text.old.items text.new.items)) }
         ensures err { IfErr result (λ why. IfSome (F.told files.old) (λ map.
-            Stops (line_step map (script_of self.old.script) self.old.line.items) why)) }
+            StopsScript (line_step map (script_of self.old.script) self.old.line.items) why)) }
         ensures kept { OnErr result (text.new.items ≡ text.old.items) }
         ensures same { F.told files.new ≡ F.told files.old }
         ensures line { OnOk result (self.new.line.items ≡ []) }
@@ -145,23 +145,23 @@ impl Session {
         text: &mut Vec<u8>,
     ) -> Result<usize, Stop>
         requires some { 0 < length octets.now }
-        requires number { (place_of self.old).number + 1 < 2 ^ 64 }
+        requires number { (script_place self.old).number + 1 < 2 ^ 64 }
         ensures some { IfOk result (λ n. 0 < n) }
         ensures count { IfOk result (λ n. n ≤ length octets.now) }
-        ensures number { OnOk result ((place_of self.new).number ≤ (place_of self.old).number + 1) }
+        ensures number { OnOk result ((script_place self.new).number ≤ (script_place self.old).number + 1) }
         // The state of the script moves on by these octets, and what it writes is theirs.
         ensures ok { IfOk result (λ n. IfSome (F.told files.old) (λ map.
-            Adds (answer map) (place_of self.old) (place_of self.new)
+            Adds (answer map) (script_place self.old) (script_place self.new)
             (take n octets.now) text.old.items text.new.items)) }
         ensures goes_on { IfOk result (λ n. IfSome (F.told files.old)
-            (λ map. GoesOn map (place_of self.old) (place_of self.new) (take n octets.now))) }
+            (λ map. ScriptGoesOn map (script_place self.old) (script_place self.new) (take n octets.now))) }
         // It stops at this line, whatever comes after these octets.
         ensures stops { IfErr result (λ why. stop_of why ≢ NoMemory → IfSome (F.told files.old) (λ map.
-            StopsBad (answer map) (place_of self.old) octets.now [] (place_of self.old).number)) }
+            StopsBad (answer map) (script_place self.old) octets.now [] (script_place self.old).number)) }
         ensures why { IfErr result (λ why. IfSome (F.told files.old)
-            (λ map. StopsFor map (place_of self.old) octets.now why)) }
+            (λ map. StopsFor map (script_place self.old) octets.now why)) }
         ensures kept { OnErr result (text.new.items ≡ text.old.items) }
-        ensures stays { OnErr result ((place_of self.new).number ≡ (place_of self.old).number) }
+        ensures stays { OnErr result ((script_place self.new).number ≡ (script_place self.old).number) }
         ensures same { F.told files.new ≡ F.told files.old }
     {
         let Some(at) = memchr(NEWLINE, octets) else {
@@ -190,14 +190,15 @@ impl Session {
         text: &mut Vec<u8>,
     ) -> Result<(), Stop>
         ensures ok { OnOk result (IfSome (F.told files.old)
-            (λ map. Ends map (place_of self.old) text.old.items text.new.items)) }
-        ensures well { OnOk result (IfSome (F.told files.old) (λ map. why_at map true (place_of self.old) [] ≡ None)) }
+            (λ map. EndsScript map (script_place self.old) text.old.items text.new.items)) }
+        ensures well { OnOk result (IfSome (F.told files.old)
+            (λ map. why_at map true (script_place self.old) [] ≡ None)) }
         ensures stops { IfErr result (λ why. stop_of why ≢ NoMemory → IfSome (F.told files.old) (λ map.
-            report_at (answer map) true (place_of self.old) [] ≡ stopped_at (place_of self.old).number)) }
+            report_at (answer map) true (script_place self.old) [] ≡ stopped_at (script_place self.old).number)) }
         ensures why { IfErr result (λ why. stop_of why ≢ NoMemory → IfSome (F.told files.old) (λ map.
-            why_at map true (place_of self.old) [] ≡ Some (stop_of why))) }
+            why_at map true (script_place self.old) [] ≡ Some (stop_of why))) }
         ensures kept { OnErr result (text.new.items ≡ text.old.items) }
-        ensures stays { (place_of self.new).number ≡ (place_of self.old).number }
+        ensures stays { (script_place self.new).number ≡ (script_place self.old).number }
         ensures same { F.told files.new ≡ F.told files.old }
     {
         if self.line.is_empty() {

@@ -4,7 +4,8 @@ use Rattle.std.specs.Prelude.{slice_get, slice_set, remove}
 use Rattle.std.proofs.lemmas.Bool.{cond-true, cond-false, cases_Bool}
 use Rattle.cfdp_status.specs.declared.transaction.TransactionId.{TransactionId}
 use Rattle.cfdp_leases.specs.Leases.{is_same}
-use Rattle.cfdp_sessions.specs.Sessions.{SessionFields, name_of, found, IsFound, place_of, replaced, without, AreDistinct}
+use Rattle.cfdp_sessions.specs.Sessions.{SessionFields, session_id, found, replaced, without_session, AreDistinct}
+use Rattle.cfdp_sessions.specs.code.Sessions.{IsFound, session_index}
 use Rattle.cfdp_sessions.proofs.Names.{same_self, same_is, found_first, found_either, no_some}
 
 -- by whether the first one has the name
@@ -13,9 +14,9 @@ found_if : (b : Bool) (s : SessionFields) (ss : List SessionFields) (place : ℕ
 found_if true s ss place rest e = refl
 found_if false s ss place rest e = e
 
-pub found_at : (ss : List SessionFields) (id : TransactionId) → found ss id ≡ slice_get ss (place_of ss id)
+pub found_at : (ss : List SessionFields) (id : TransactionId) → found ss id ≡ slice_get ss (session_index ss id)
 found_at [] id = refl
-found_at (s ∷ ss) id = found_if (is_same (name_of s) id) s ss (place_of ss id) (found ss id) (found_at ss id)
+found_at (s ∷ ss) id = found_if (is_same (session_id s) id) s ss (session_index ss id) (found ss id) (found_at ss id)
 
 put_if : (b : Bool) (s new : SessionFields) (ss rest : List SessionFields) (place : ℕ) → (if b then 0 else suc place) < suc (length ss) →
     (place < length ss → slice_set ss place new ≡ rest) →
@@ -23,10 +24,12 @@ put_if : (b : Bool) (s new : SessionFields) (ss rest : List SessionFields) (plac
 put_if true s new ss rest place h e = refl
 put_if false s new ss rest place h e = ap (λ (xs : List SessionFields). s ∷ xs) (e (omega (arith, h)))
 
-pub replaced_at : (ss : List SessionFields) (new : SessionFields) → place_of ss (name_of new) < length ss → slice_set ss (place_of ss (name_of new)) new
+pub replaced_at : (ss : List SessionFields) (new : SessionFields) → session_index ss (session_id new) < length ss → slice_set ss
+    (session_index ss (session_id new)) new
     ≡ replaced ss new
 replaced_at [] new h = absurd (omega arith)
-replaced_at (s ∷ ss) new h = put_if (is_same (name_of s) (name_of new)) s new ss (replaced ss new) (place_of ss (name_of new)) h (replaced_at ss new)
+replaced_at (s ∷ ss) new h = put_if (is_same (session_id s) (session_id new)) s new ss (replaced ss new) (session_index ss (session_id new)) h
+    (replaced_at ss new)
 
 past_if : (b : Bool) (s : SessionFields) (first ss rest : List SessionFields) (place : ℕ) → suc (length ss) ≤ (if b then 0 else suc place) →
     (length ss ≤ place → ss ≡ rest) →
@@ -34,14 +37,14 @@ past_if : (b : Bool) (s : SessionFields) (first ss rest : List SessionFields) (p
 past_if true s first ss rest place h e = absurd (omega (arith, h))
 past_if false s first ss rest place h e = ap (λ (xs : List SessionFields). s ∷ xs) (e (omega (arith, h)))
 
-pub replaced_past : (ss : List SessionFields) (new : SessionFields) → length ss ≤ place_of ss (name_of new) → ss ≡ replaced ss new
+pub replaced_past : (ss : List SessionFields) (new : SessionFields) → length ss ≤ session_index ss (session_id new) → ss ≡ replaced ss new
 replaced_past [] new h = refl
-replaced_past (s ∷ ss) new h = past_if (is_same (name_of s) (name_of new)) s (new ∷ ss) ss (replaced ss new) (place_of ss (name_of new)) h
+replaced_past (s ∷ ss) new h = past_if (is_same (session_id s) (session_id new)) s (new ∷ ss) ss (replaced ss new) (session_index ss (session_id new)) h
     (replaced_past ss new)
 
-pub without_past : (ss : List SessionFields) (id : TransactionId) → length ss ≤ place_of ss id → ss ≡ without ss id
+pub without_past : (ss : List SessionFields) (id : TransactionId) → length ss ≤ session_index ss id → ss ≡ without_session ss id
 without_past [] id h = refl
-without_past (s ∷ ss) id h = past_if (is_same (name_of s) id) s ss ss (without ss id) (place_of ss id) h (without_past ss id)
+without_past (s ∷ ss) id h = past_if (is_same (session_id s) id) s ss ss (without_session ss id) (session_index ss id) h (without_past ss id)
 
 cut_if : (b : Bool) (s : SessionFields) (ss rest : List SessionFields) (place : ℕ) → (if b then 0 else suc place) < suc (length ss) →
     (place < length ss → remove ss place ≡ rest) →
@@ -49,9 +52,9 @@ cut_if : (b : Bool) (s : SessionFields) (ss rest : List SessionFields) (place : 
 cut_if true s ss rest place h e = refl
 cut_if false s ss rest place h e = ap (λ (xs : List SessionFields). s ∷ xs) (e (omega (arith, h)))
 
-pub without_at : (ss : List SessionFields) (id : TransactionId) → place_of ss id < length ss → remove ss (place_of ss id) ≡ without ss id
+pub without_at : (ss : List SessionFields) (id : TransactionId) → session_index ss id < length ss → remove ss (session_index ss id) ≡ without_session ss id
 without_at [] id h = absurd (omega arith)
-without_at (s ∷ ss) id h = cut_if (is_same (name_of s) id) s ss (without ss id) (place_of ss id) h (without_at ss id)
+without_at (s ∷ ss) id h = cut_if (is_same (session_id s) id) s ss (without_session ss id) (session_index ss id) h (without_at ss id)
 
 some_if : (b : Bool) (s d : SessionFields) (ss : List SessionFields) (place : ℕ) (rest : Option SessionFields) →
     (if b then 0 else suc place) < suc (length ss) →
@@ -59,19 +62,19 @@ some_if : (b : Bool) (s d : SessionFields) (ss : List SessionFields) (place : �
 some_if true s d ss place rest h e = refl
 some_if false s d ss place rest h e = e (omega (arith, h))
 
-pub found_some : (ss : List SessionFields) (id : TransactionId) (d : SessionFields) → place_of ss id < length ss → found ss id
-    ≡ Some (get_or ss (place_of ss id) d)
+pub found_some : (ss : List SessionFields) (id : TransactionId) (d : SessionFields) → session_index ss id < length ss → found ss id
+    ≡ Some (get_or ss (session_index ss id) d)
 found_some [] id d h = absurd (omega arith)
-found_some (s ∷ ss) id d h = some_if (is_same (name_of s) id) s d ss (place_of ss id) (found ss id) h (found_some ss id d)
+found_some (s ∷ ss) id d h = some_if (is_same (session_id s) id) s d ss (session_index ss id) (found ss id) h (found_some ss id d)
 
 none_if : (b : Bool) (s : SessionFields) (ss : List SessionFields) (place : ℕ) (rest : Option SessionFields) → suc (length ss) ≤ (if b then 0 else suc place) →
     (length ss ≤ place → rest ≡ None) → (if b then Some s else rest) ≡ None
 none_if true s ss place rest h e = absurd (omega (arith, h))
 none_if false s ss place rest h e = e (omega (arith, h))
 
-pub found_none : (ss : List SessionFields) (id : TransactionId) → length ss ≤ place_of ss id → found ss id ≡ None
+pub found_none : (ss : List SessionFields) (id : TransactionId) → length ss ≤ session_index ss id → found ss id ≡ None
 found_none [] id h = refl
-found_none (s ∷ ss) id h = none_if (is_same (name_of s) id) s ss (place_of ss id) (found ss id) h (found_none ss id)
+found_none (s ∷ ss) id h = none_if (is_same (session_id s) id) s ss (session_index ss id) (found ss id) h (found_none ss id)
 
 -- ---- by index, where the names are distinct
 
@@ -79,39 +82,39 @@ pub some_same : (x s : SessionFields) → Some x ≡ Some s → x ≡ s
 some_same x s e = cc
 
 -- a session at an index is found by its name
-pub found_by_name : (ss : List SessionFields) (i : ℕ) (s : SessionFields) → slice_get ss i ≡ Some s → IsFound ss (name_of s)
+pub found_by_name : (ss : List SessionFields) (i : ℕ) (s : SessionFields) → slice_get ss i ≡ Some s → IsFound ss (session_id s)
 found_by_name [] i s e = absurd cc
 found_by_name (x ∷ xs) zero s e =
-    found_first x xs (name_of s) (ap (λ (t : SessionFields). is_same (name_of t) (name_of s)) (some_same x s e) ∙ same_self (name_of s))
-found_by_name (x ∷ xs) (suc i) s e = found_either x xs (name_of s) (found_by_name xs i s e)
+    found_first x xs (session_id s) (ap (λ (t : SessionFields). is_same (session_id t) (session_id s)) (some_same x s e) ∙ same_self (session_id s))
+found_by_name (x ∷ xs) (suc i) s e = found_either x xs (session_id s) (found_by_name xs i s e)
 
 -- and one of the same name that is set there replaces it
-pub set_replaced : (ss : List SessionFields) (i : ℕ) (s new : SessionFields) → AreDistinct ss → slice_get ss i ≡ Some s → name_of s ≡ name_of new →
+pub set_replaced : (ss : List SessionFields) (i : ℕ) (s new : SessionFields) → AreDistinct ss → slice_get ss i ≡ Some s → session_id s ≡ session_id new →
     slice_set ss i new ≡ replaced ss new
 set_replaced [] i s new d e same = absurd cc
 set_replaced (x ∷ xs) zero s new d e same =
-    let here : is_same (name_of x) (name_of new) ≡ true =
-    ap (λ (n : TransactionId). is_same n (name_of new)) (ap name_of (some_same x s e) ∙ same) ∙ same_self (name_of new) in
-    sym (cond-true (is_same (name_of x) (name_of new)) (new ∷ xs) (x ∷ replaced xs new) here)
-set_replaced (x ∷ xs) (suc i) s new d e same = elim (cases_Bool (is_same (name_of x) (name_of new))) [
+    let here : is_same (session_id x) (session_id new) ≡ true =
+    ap (λ (n : TransactionId). is_same n (session_id new)) (ap session_id (some_same x s e) ∙ same) ∙ same_self (session_id new) in
+    sym (cond-true (is_same (session_id x) (session_id new)) (new ∷ xs) (x ∷ replaced xs new) here)
+set_replaced (x ∷ xs) (suc i) s new d e same = elim (cases_Bool (is_same (session_id x) (session_id new))) [
   | inl here ↦
       let later = found_by_name xs i s e in
-      absurd (no_some later.0 (sym d.0 ∙ ap (found xs) (same_is (name_of x) (name_of new) here ∙ sym same) ∙ later.1))
+      absurd (no_some later.0 (sym d.0 ∙ ap (found xs) (same_is (session_id x) (session_id new) here ∙ sym same) ∙ later.1))
   | inr there ↦
       ap (λ (ys : List SessionFields). x ∷ ys) (set_replaced xs i s new d.1 e same)
-      ∙ sym (cond-false (is_same (name_of x) (name_of new)) (new ∷ xs) (x ∷ replaced xs new) there)
+      ∙ sym (cond-false (is_same (session_id x) (session_id new)) (new ∷ xs) (x ∷ replaced xs new) there)
 ]
 
 -- a session at an index is at the index of its name
-pub place_here : (ss : List SessionFields) (i : ℕ) (s : SessionFields) (id : TransactionId) → AreDistinct ss → slice_get ss i ≡ Some s → name_of s ≡ id →
-    place_of ss id ≡ i
+pub place_here : (ss : List SessionFields) (i : ℕ) (s : SessionFields) (id : TransactionId) → AreDistinct ss → slice_get ss i ≡ Some s → session_id s ≡ id →
+    session_index ss id ≡ i
 place_here [] i s id d e same = absurd cc
 place_here (x ∷ xs) zero s id d e same =
-    let here : is_same (name_of x) id ≡ true = ap (λ (n : TransactionId). is_same n id) (ap name_of (some_same x s e) ∙ same) ∙ same_self id in
-    cond-true (is_same (name_of x) id) 0 (suc (place_of xs id)) here
-place_here (x ∷ xs) (suc i) s id d e same = elim (cases_Bool (is_same (name_of x) id)) [
+    let here : is_same (session_id x) id ≡ true = ap (λ (n : TransactionId). is_same n id) (ap session_id (some_same x s e) ∙ same) ∙ same_self id in
+    cond-true (is_same (session_id x) id) 0 (suc (session_index xs id)) here
+place_here (x ∷ xs) (suc i) s id d e same = elim (cases_Bool (is_same (session_id x) id)) [
   | inl here ↦
       let later = found_by_name xs i s e in
-      absurd (no_some later.0 (sym d.0 ∙ ap (found xs) (same_is (name_of x) id here ∙ sym same) ∙ later.1))
-  | inr there ↦ cond-false (is_same (name_of x) id) 0 (suc (place_of xs id)) there ∙ ap suc (place_here xs i s id d.1 e same)
+      absurd (no_some later.0 (sym d.0 ∙ ap (found xs) (same_is (session_id x) id here ∙ sym same) ∙ later.1))
+  | inr there ↦ cond-false (is_same (session_id x) id) 0 (suc (session_index xs id)) there ∙ ap suc (place_here xs i s id d.1 e same)
 ]

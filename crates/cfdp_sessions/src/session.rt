@@ -2,7 +2,7 @@
 
 ghost use Rattle.std.specs.Prelude.{◌≡◌};
 ghost use Rattle.cfdp_leases.specs.Leases.{is_same};
-ghost use Rattle.cfdp_sessions.specs.Sessions.{name_of};
+ghost use Rattle.cfdp_sessions.specs.Sessions.{session_id};
 
 use cfdp_pdus::{Eof, Header};
 use cfdp_retransmission::Timer;
@@ -57,7 +57,7 @@ pub struct Session {
 impl Model for Session {
     ghost use Rattle.cfdp_sessions.specs.Sessions.{SessionFields};
     ghost use Rattle.std.specs.Prelude.{vec_len};
-    ghost use Rattle.cfdp_sessions.specs.Sessions.{IsSessionWith};
+    ghost use Rattle.cfdp_sessions.specs.code.Sessions.{IsSessionWith};
 
     ghost Value = { SessionFields };
 
@@ -77,7 +77,7 @@ impl Model for Session {
 impl Session {
     /// The name of its transaction: source entity ID and transaction sequence number (CCSDS 727.0-B-5 §5.1).
     pub fn name(&self) -> TransactionId
-        ensures { result ≡ name_of self.now }
+        ensures { result ≡ session_id self.now }
     {
         transaction_of(&self.header)
     }
@@ -85,7 +85,7 @@ impl Session {
     /// Whether it is the session of this transaction. The number is compared first: of one sender all transactions have
     /// one source.
     pub(crate) fn has_name(&self, id: TransactionId) -> bool
-        ensures { result ≡ is_same (name_of self.now) id }
+        ensures { result ≡ is_same (session_id self.now) id }
     {
         self.header.number == id.number && self.header.source == id.source
     }

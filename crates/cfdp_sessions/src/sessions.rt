@@ -2,8 +2,9 @@
 
 ghost use Rattle.std.specs.Prelude.{◌≡◌, ◌<◌, ◌≤◌, ◌++◌, ◌∷◌, [], length, nat_le, slice_get, vec_len};
 ghost use Rattle.std.specs.Prelude.{IfSome, IfOk, IfNone, Some, None, true};
-ghost use Rattle.cfdp_sessions.specs.Sessions.{AreDistinct, IsEnding, SessionFields, found, name_of};
-ghost use Rattle.cfdp_sessions.specs.Sessions.{place_of, replaced, without};
+ghost use Rattle.cfdp_sessions.specs.Sessions.{AreDistinct, IsEnding, SessionFields, found, session_id};
+ghost use Rattle.cfdp_sessions.specs.Sessions.{replaced, without_session};
+ghost use Rattle.cfdp_sessions.specs.code.Sessions.{session_index};
 ghost use Rattle.cfdp_sessions.specs.declared.session.Stage.TheVariants.{Over, Waiting};
 ghost use Rattle.cfdp_transactions.specs.Writable.{longest_finished};
 
@@ -75,14 +76,14 @@ impl Sessions {
 
     /// Whether the session with this index is there, and is that of this transaction.
     fn is_at(&self, index: usize, id: TransactionId) -> bool
-        ensures { result ≡ true → place_of self.now id ≡ index }
+        ensures { result ≡ true → session_index self.now id ≡ index }
     {
         index < self.list.len() && self.list[index].has_name(id)
     }
 
     /// The index of a transaction's session: the number of sessions where it has none.
     fn place(&self, id: TransactionId) -> usize
-        ensures { result ≡ place_of self.now id }
+        ensures { result ≡ session_index self.now id }
     {
         if self.is_at(self.recent, id) {
             return self.recent;
@@ -220,7 +221,7 @@ impl Sessions {
     /// Adds a session of a new name after the others, where there are fewer than 64. Takes no memory. In constant time.
     pub fn add(&mut self, session: Session)
         requires room { length self.old < 64 }
-        requires new { found self.old (name_of session) ≡ None }
+        requires new { found self.old (session_id session) ≡ None }
         ensures { self.new ≡ self.old ++ session ∷ [] }
     {
         self.list.push_reserved(session);
@@ -239,7 +240,7 @@ impl Sessions {
     /// Removes a transaction's session, if it has one, and keeps the order of the others. Takes no memory. Cost: as
     /// [`Sessions::get`], and a move of the sessions after it.
     pub fn close(&mut self, id: TransactionId)
-        ensures { self.new ≡ without self.old id }
+        ensures { self.new ≡ without_session self.old id }
     {
         let place = self.place(id);
         if place < self.list.len() {

@@ -2,10 +2,11 @@
 ghost use Rattle.std.specs.Prelude.{◌≡◌, ◌≢◌, ◌↔◌, ℕ, ◌≤◌, true, length, map, None, Err, IfNone, IfOk, IfErr, IsOk, OnErr, OnOk};
 ghost use Rattle.std.specs.List.{AllByRecursion};
 ghost use Rattle.cfdp_transactions.specs.World.{start};
-ghost use Rattle.cfdp_engine.specs.Sharing.{told_of};
+ghost use Rattle.cfdp_engine.specs.Sharing.{receipt_events};
 ghost use Rattle.cfdp_engine.specs.Working.{BringAll, passed_over};
 ghost use Rattle.cfdp_lines.specs.Lines.{input_limit};
-ghost use Rattle.cfdp_commands.specs.Linked.{Agree, AllNumbered, AreHanded, fault_of, first_stop, Handed, HasReadable, IsHeard, IsLinkLost, IsLinkRun, IsLinked, IsLinkedBy, IsRunFault, IsWork, IsWorkFault, Stops, took_of};
+ghost use Rattle.cfdp_commands.specs.Linked.{AllNumbered, AreHanded, Handed, HasReadable, IsHeard, IsLinkLost, IsLinkRun, IsLinked, IsLinkedBy, IsWork, Stops};
+ghost use Rattle.cfdp_commands.specs.code.Linked.{Agree, link_fault_of, first_stop, IsRunFault, IsWorkFault, took_of};
 ghost use Rattle.cfdp_commands.specs.Links.{link_files, said_of};
 ghost use Rattle.cfdp_lines.specs.declared.faults.LinkFault.TheVariants.{BadLine, ReceiptsDiffer, Write};
 
@@ -31,7 +32,7 @@ impl Gate for Open {
 
 /// What a stop of a worker is to the whole run.
 fn fault_of(stop: Stop) -> LinkFault
-    ensures { result ≡ fault_of stop }
+    ensures { result ≡ link_fault_of stop }
 {
     match stop {
         Stop::Memory => LinkFault::Memory,
@@ -58,11 +59,12 @@ fn first_stop(workers: &[Worked]) -> Option<Stop>
 ///
 /// [`LinkFault::ReceiptsDiffer`] exactly where it took something else.
 fn settle(worked: Worked, messages: &[Message]) -> Result<(Seat, u64), LinkFault>
-    requires brought { BringAll worked.taken.items (told_of worked.seat.receipts) }
+    requires brought { BringAll worked.taken.items (receipt_events worked.seat.receipts) }
     requires dropped { worked.dropped ≡ passed_over worked.taken.items }
     requires heard { AllByRecursion IsHeard (map said_of messages.now) }
     ensures seat { IfOk result (λ settled. settled.0 ≡ worked.seat) }
-    ensures handed { IfOk result (λ settled. Handed (map said_of messages.now) (told_of settled.0.receipts) settled.1) }
+    ensures handed { IfOk result (λ settled. Handed (map said_of messages.now)
+        (receipt_events settled.0.receipts) settled.1) }
     ensures readable { IfOk result (λ settled. HasReadable settled.0) }
     ensures exactly { IsOk result ↔ (map said_of worked.taken.items ≡ map said_of messages.now) }
     ensures differs { OnErr result (result ≡ Err ReceiptsDiffer) }
@@ -94,7 +96,7 @@ fn settle_all(
     requires works { AllNumbered IsWork 0 workers.items }
     requires finished { AllByRecursion (λ worked. worked.stopped ≡ None) workers.items }
     requires heard { AllByRecursion (λ file. AllByRecursion IsHeard (map said_of file.items)) files.now }
-    ensures handed { IfOk result (λ settled. AreHanded (λ seat. told_of seat.receipts) 0
+    ensures handed { IfOk result (λ settled. AreHanded (λ seat. receipt_events seat.receipts) 0
         (map (λ file. map said_of file.items) files.now) settled.0.items settled.1.items) }
     ensures readable { IfOk result (λ settled. AllByRecursion HasReadable settled.0.items) }
     ensures seats { IfOk result (λ settled. settled.0.items ≡ map (λ worked. worked.seat) workers.items) }

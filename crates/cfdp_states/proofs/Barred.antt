@@ -7,7 +7,8 @@ use Rattle.cfdp_status.specs.declared.status.Status.TheVariants.{NotAllowed}
 use Rattle.cfdp_status.specs.declared.action.Action.{Action}
 use Rattle.cfdp_actions.specs.Filestore.{Filestore, after}
 use Rattle.cfdp_actions.specs.Actions.{Request, Perform, Performed, Outcome, succeeded, action_in, table, free_row, bars, denied, row}
-use Rattle.cfdp_states.specs.Sketching.{Extents, IsOutline, Does, DoesOrNot, Performs, PerformsOrNot}
+use Rattle.cfdp_states.specs.Sketching.{Extents}
+use Rattle.cfdp_states.specs.code.Sketching.{IsOutline, Does, DoesOrNot, Performs, PerformsOrNot}
 
 row_barred : (prefixes : List Path) (F : Filestore) (request : Request) → bars prefixes request ≡ true → row prefixes F 0 (Perform request)
     ≡ denied (Perform request)

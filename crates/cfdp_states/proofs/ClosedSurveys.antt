@@ -21,9 +21,11 @@ use Rattle.cfdp_leases.proofs.Sets.{stands, stands-append_right, stands-append_c
 use Rattle.cfdp_states.specs.declared.extent.Extent.{Extent}
 use Rattle.cfdp_states.specs.declared.extent.Extent.TheVariants as extent
 use Rattle.cfdp_states.specs.Alone.{alone}
-use Rattle.cfdp_states.specs.Sketching.{most_octets, extent_in, extent_at, Extents, Adds, total_blocks, IsOutline}
+use Rattle.cfdp_states.specs.Sketching.{most_octets, extent_in, extent_at, Extents}
+use Rattle.cfdp_states.specs.code.Sketching.{AddsWhere, total_blocks, IsOutline}
 use Rattle.cfdp_states.specs.Views.{most_count, most_need, only}
-use Rattle.cfdp_states.specs.Closed.{is_inside, Knows, Reaches, ReachesIn, AreAlike, IsPartStandIn, IsPartSurvey, Closes, IsPartViewOf}
+use Rattle.cfdp_states.specs.Closed.{is_inside, Knows, Reaches, AreAlike, IsPartStandIn, IsPartViewOf}
+use Rattle.cfdp_states.specs.code.Closed.{ReachesIn, IsPartSurvey, Closes}
 use Rattle.cfdp_actions.proofs.Order.{paths_total, paths_exact, same_path-true, same_path-refl, same_path-is}
 use Rattle.cfdp_actions.proofs.Moves.{find-tree_at}
 use Rattle.cfdp_states.proofs.Trees.{short, weights-small}
@@ -96,7 +98,8 @@ node_there : (a : Option Node) → is_some (extent_in a) ≡ true → is_some a 
 node_there None h = h
 node_there (Some node) h = refl
 
-pub adds_closed : (known : Bool) (m n : Extents) (closed : List Path) (A B : Path → Bool) (F : Filestore) → IsPartSurvey known m closed A F → Adds B F m n →
+pub adds_closed : (known : Bool) (m n : Extents) (closed : List Path) (A B : Path → Bool) (F : Filestore) → IsPartSurvey known m closed A F → AddsWhere B F m n
+    →
     IsPartSurvey known n closed (λ p. A p || B p) F
 adds_closed known m n closed A B F s adds = record {
   told = λ p free. adds p ∙ ap (λ v. if B p && is_some (extent_at F p) then extent_at F p else v) (s.told p free) ∙ either (A p) (B p) (extent_at F p);
@@ -343,7 +346,8 @@ module _ (known : Bool) (m m' : Extents) (closed : List Path) (A : Path → Bool
 
 -- ---- all exclusive paths, and the shared ones
 
-pub next_root : (known : Bool) (m : Extents) (closed : List Path) (roots : List Path) (i : ℕ) (root : Path) (F : Filestore) → i < length roots → root ≡ get_or roots i root →
+pub next_root : (known : Bool) (m : Extents) (closed : List Path) (roots : List Path) (i : ℕ) (root : Path) (F : Filestore) → i < length roots → root
+    ≡ get_or roots i root →
     IsPartSurvey known m closed (λ p. below_one (take i roots) p || is_at_or_below p root) F → IsPartSurvey known m closed (below_one (take (i + 1) roots)) F
 next_root known m closed roots i root F within is s =
     as_closed known m closed (λ p. below_one (take i roots) p || is_at_or_below p root) (below_one (take (i + 1) roots)) F s (λ p.
@@ -351,7 +355,7 @@ next_root known m closed roots i root F within is s =
 
 pub whole_closed : (known : Bool) (roots paths : List Path) (i : ℕ) (fp : Footprint) (F : Filestore) (m n : Extents) (closed : List Path) → set.from_list roots
     ≡ fp.exclusive → set.from_list paths ≡ fp.shared → length roots ≤ i →
-    IsPartSurvey known m closed (below_one (take i roots)) F → Adds (one_of paths) F m n → IsPartSurvey known n closed (is_covered fp) F
+    IsPartSurvey known m closed (below_one (take i roots)) F → AddsWhere (one_of paths) F m n → IsPartSurvey known n closed (is_covered fp) F
 whole_closed known roots paths i fp F m n closed exclusive shared all s adds =
     as_closed known n closed (λ p. below_one (take i roots) p || one_of paths p) (is_covered fp) F
     (adds_closed known m n closed (below_one (take i roots)) (one_of paths) F s adds)
@@ -427,7 +431,8 @@ total-is total now one two = omega arith
 none_needed : (n most : ℕ) → 0 ≡ min (n - n) most
 none_needed n most = omega arith
 
-module _ (known : Bool) (fp : Footprint) (F : Filestore) (prefixes : List Path) (m : Extents) (closed : List Path) (s : IsPartSurvey known m closed (is_covered fp) F)
+module _ (known : Bool) (fp : Footprint) (F : Filestore) (prefixes : List Path) (m : Extents) (closed : List Path)
+    (s : IsPartSurvey known m closed (is_covered fp) F)
     (few : blocks F ≤ 65536) (small : total_blocks m ≤ 65536) where
   outlines : IsOutline m (filestore_of m)
   unfolding node_in node_of

@@ -8,9 +8,10 @@ use Rattle.cfdp_actions.specs.Filestore.{blocks_of, blocks}
 use Rattle.cfdp_actions.specs.Actions.{Request, Install, Perform, Performed, succeeded}
 use Rattle.cfdp_leases.specs.Items.{performed}
 use Rattle.cfdp_states.specs.Alone.{alone}
-use Rattle.cfdp_states.specs.Sketching.{IsOutline}
+use Rattle.cfdp_states.specs.code.Sketching.{IsOutline}
 use Rattle.cfdp_states.specs.Views.{Sketch, IsViewOf, Tells, TellsInstall}
-use Rattle.cfdp_states.specs.Closed.{is_inside, after_request, looks_inside, is_enough, TellsPart, TellsPartInstall}
+use Rattle.cfdp_states.specs.Closed.{is_inside, looks_inside, is_enough, TellsPart, TellsPartInstall}
+use Rattle.cfdp_states.specs.code.Closed.{after_request}
 use Rattle.cfdp_states.proofs.Installing.{staged_more}
 use Rattle.cfdp_states.proofs.StandInRows.{Both, request-standin, bound-standin, install-standin, install_bound-standin}
 
@@ -22,7 +23,8 @@ later_peak : (peak most h k first start : ℕ) → peak + first ≡ most + start
 later_peak peak most h k first start before now = omega arith
 
 module _ (known : Bool) (v w : Sketch) (closed now : List Path) (request : Request) (status : Status) where
-  pub tells_closed : is_enough known closed request ≡ true → looks_inside closed v.extents request ≡ false → (is_successful status ≡ true → now ≡ after_request request closed) →
+  pub tells_closed : is_enough known closed request ≡ true → looks_inside closed v.extents request ≡ false →
+      (is_successful status ≡ true → now ≡ after_request request closed) →
       (is_successful status ≡ false → now ≡ closed) →
       Tells v w (Perform request) (Performed status) → TellsPart known v closed w now (Perform request) (Performed status)
   tells_closed enough free moved stayed tells F start peak taken c =

@@ -17,7 +17,8 @@ use Rattle.cfdp_paths.specs.Paths.{Path, path_cmp, same_path, is_at_or_below, re
 use Rattle.cfdp_paths.specs.PathMaps.{IsOrdered, without, tree_in, rest_in, moved_to, puts, is_too_deep}
 use Rattle.cfdp_paths.proofs.Moving.{tree_all, tree_ordered}
 use Rattle.cfdp_states.specs.declared.extent.Extent.{Extent}
-use Rattle.cfdp_states.specs.Sketching.{extent_weight, weight_in, total_weight, total_blocks, Extents, AreSmall, IsCounted, rehomed}
+use Rattle.cfdp_states.specs.Sketching.{Extents}
+use Rattle.cfdp_states.specs.code.Sketching.{extent_weight, weight_in, total_weight, total_blocks, AreSmall, IsCounted, rehomed}
 use Rattle.cfdp_actions.proofs.Order.{paths_total, paths_exact, same_path-true, same_path-refl}
 use Rattle.cfdp_actions.proofs.Weights.{rises, below_rest, sorted_rest, find_below, find_later, entries-remove, totals, weighed, totals-put, totals-without}
 use Rattle.cfdp_actions.proofs.Prefixes.{append_below, rebased-below, same_rebased}

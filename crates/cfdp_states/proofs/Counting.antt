@@ -6,7 +6,8 @@ use Rattle.cfdp_paths.specs.Paths.{Path, same_path}
 use Rattle.cfdp_actions.specs.Filestore.{Node, Directory, File, Filestore, node_at, blocks_of, weight, weights, blocks}
 use Rattle.cfdp_actions.specs.Actions.{CreateFile, DeleteFile, RenameFile, AppendFile, ReplaceFile, CreateDirectory, RemoveDirectory, DenyFile, DenyDirectory, Item, Install, Perform}
 use Rattle.cfdp_leases.specs.Items.{content, step_bound}
-use Rattle.cfdp_states.specs.Sketching.{most_octets, extent_of, extent_in, extent_weight, content_in, weight_in, Extents, total_weight, total_blocks, bound_on, IsOutline}
+use Rattle.cfdp_states.specs.Sketching.{most_octets, extent_of, extent_in, Extents}
+use Rattle.cfdp_states.specs.code.Sketching.{extent_weight, content_blocks, weight_in, total_weight, total_blocks, bound_on, IsOutline}
 use Rattle.cfdp_states.proofs.Sketched.{outlines, entries-outlined}
 
 -- 2 ^ 33
@@ -17,7 +18,7 @@ capped : (n : ℕ) → min (blocks_of n) enough ≡ min (blocks_of (min n most_o
 unfolding blocks_of
 capped n = omega arith
 
-content-counted : (a : Option Node) → min (content a) enough ≡ min (content_in (extent_in a)) enough
+content-counted : (a : Option Node) → min (content a) enough ≡ min (content_blocks (extent_in a)) enough
 content-counted None = refl
 content-counted (Some Directory) = refl
 content-counted (Some (File octets)) = capped (length octets)
@@ -52,8 +53,8 @@ pub bound-counted : (m : Extents) (F : Filestore) → IsOutline m F → (item : 
 unfolding step_bound
 bound-counted m F h item = by_item item
   where
-    told : (p : Path) → min (content (node_at F p)) enough ≡ min (content_in (get m p)) enough
-    told p = content-counted (node_at F p) ∙ ap (λ a. min (content_in a) enough) (sym (h.found p))
+    told : (p : Path) → min (content (node_at F p)) enough ≡ min (content_blocks (get m p)) enough
+    told p = content-counted (node_at F p) ∙ ap (λ a. min (content_blocks a) enough) (sym (h.found p))
 
     weighed : (p : Path) → min (weight (node_at F p)) enough ≡ min (weight_in (get m p)) enough
     weighed p = weight-counted (node_at F p) ∙ ap (λ a. min (weight_in a) enough) (sym (h.found p))
@@ -67,7 +68,7 @@ bound-counted m F h item = by_item item
     by_item (Perform (ReplaceFile p q)) =
         let e = told p in
         let f = told q in
-        elim (same_path p q) as (λ b. min (if b then 0 else content_in (get m p) + 2 * content_in (get m q)) enough
+        elim (same_path p q) as (λ b. min (if b then 0 else content_blocks (get m p) + 2 * content_blocks (get m q)) enough
         ≡ min (if b then 0 else content (node_at F p) + 2 * content (node_at F q)) enough) [
           | true ↦ refl
           | false ↦ omega (arith, e, f)

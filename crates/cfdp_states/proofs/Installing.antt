@@ -7,7 +7,8 @@ use Rattle.cfdp_leases.specs.Items.{step_bound}
 use Rattle.cfdp_states.specs.declared.extent.Extent.TheVariants as extent
 use Rattle.std.specs.FinMap.{insert, get-insert}
 use Rattle.cfdp_states.specs.Alone.{alone}
-use Rattle.cfdp_states.specs.Sketching.{most_octets, extent_in, extent_at, Extents, total_blocks, bound_on, gives_way, can_install, IsOutline}
+use Rattle.cfdp_states.specs.Sketching.{most_octets, extent_in, extent_at, Extents}
+use Rattle.cfdp_states.specs.code.Sketching.{total_blocks, bound_on, gives_way, can_install, IsOutline}
 use Rattle.cfdp_states.specs.Views.{most_count, most_need, Sketch, IsViewOf, TellsInstall}
 use Rattle.cfdp_actions.proofs.Order.{paths_total, node_at-becomes}
 use Rattle.cfdp_states.proofs.Sketched.{extent-cond, good_parent-is}

@@ -11,7 +11,7 @@ use Rattle.std.specs.FinMap.{entries, entries_sorted, get-entries, retain_keys, 
 use Rattle.std.specs.FinMap.Entries.{below_all, is_sorted, find}
 use Rattle.cfdp_paths.specs.Paths.{Path, path_cmp, same_path, is_at_or_below, is_below, parent, rebased}
 use Rattle.cfdp_actions.specs.Filestore.{Node, Directory, File, Filestore, node_at, staged_in, blocks_of, weight, weights, blocks, Change, Becomes, Stages, changed, after, inside, has_entries, is_directory, is_good, is_root, parent_is_good, tree_at}
-use Rattle.cfdp_actions.specs.Actions.{vacated, settled, is_too_deep}
+use Rattle.cfdp_actions.specs.Actions.{vacating, settled, is_tree_too_deep}
 use Rattle.cfdp_actions.proofs.Order.{paths_total, paths_exact, same_path-refl, node_at-becomes}
 use Rattle.cfdp_actions.proofs.Weights.{below_rest, sorted_rest, below_less, find_below, find_later}
 use Rattle.cfdp_actions.proofs.Growth.{blocks_of-le}
@@ -96,7 +96,7 @@ longer-weights [] (f ∷ fs) h = absurd h
 longer-weights (e ∷ es) [] h = absurd h
 longer-weights (e ∷ es) (f ∷ fs) h = add-le-add (longer-weight h.1) (longer-weights es fs h.2)
 
-pub longer-depth : (p q : Path) (es fs : List (Path × Node)) → LongerEntries es fs → is_too_deep p q es ≡ is_too_deep p q fs
+pub longer-depth : (p q : Path) (es fs : List (Path × Node)) → LongerEntries es fs → is_tree_too_deep p q es ≡ is_tree_too_deep p q fs
 longer-depth p q [] [] h = refl
 longer-depth p q [] (f ∷ fs) h = absurd h
 longer-depth p q (e ∷ es) [] h = absurd h
@@ -123,7 +123,7 @@ longer-append slot other [] (d ∷ ds) us vs h k = absurd h
 longer-append slot other (c ∷ cs) [] us vs h k = absurd h
 longer-append slot other (c ∷ cs) (d ∷ ds) us vs h k = (h.0, longer-append slot other cs ds us vs h.1 k)
 
-pub longer-vacated : (slot other : ℕ) (es fs : List (Path × Node)) → LongerEntries es fs → LongerChanges slot other (vacated es) (vacated fs)
+pub longer-vacated : (slot other : ℕ) (es fs : List (Path × Node)) → LongerEntries es fs → LongerChanges slot other (vacating es) (vacating fs)
 longer-vacated slot other [] [] h = tt
 longer-vacated slot other [] (f ∷ fs) h = absurd h
 longer-vacated slot other (e ∷ es) [] h = absurd h

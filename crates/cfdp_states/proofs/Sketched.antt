@@ -14,9 +14,10 @@ use Rattle.cfdp_paths.specs.Paths.{Path, path_cmp, parent, same_path, is_at_or_b
 use Rattle.cfdp_paths.specs.PathMaps.{any_below, tree_in, is_too_deep as is_deep}
 use Rattle.cfdp_status.specs.declared.status.Status.{Status}
 use Rattle.cfdp_actions.specs.Filestore.{Node, Directory, File, Filestore, node_at, inside, Change, Becomes, changed, after, has_entries, is_directory, is_good, parent_is_good, tree_at}
-use Rattle.cfdp_actions.specs.Actions.{Request, Performed, Outcome, vacated, settled, is_too_deep, table}
+use Rattle.cfdp_actions.specs.Actions.{Request, Performed, Outcome, vacating, settled, is_tree_too_deep, table}
 use Rattle.cfdp_states.specs.declared.extent.Extent.{Extent}
-use Rattle.cfdp_states.specs.Sketching.{extent_of, extent_in, extent_at, Extents, rehomed, is_folder, good_among, good_parent, IsOutline, Does}
+use Rattle.cfdp_states.specs.Sketching.{extent_of, extent_in, extent_at, Extents}
+use Rattle.cfdp_states.specs.code.Sketching.{rehomed, is_folder, good_among, good_parent, IsOutline, Does}
 use Rattle.cfdp_actions.proofs.Order.{paths_total, paths_exact, node_at-becomes, same_path-true}
 use Rattle.cfdp_actions.proofs.Weights.{entries-retain_keys}
 use Rattle.cfdp_actions.proofs.Prefixes.{rebased-below}
@@ -68,7 +69,7 @@ where-outlines test (e ∷ es) =
       | false ↦ where-outlines test es
     ]
 
-deep-outlines : (p q : Path) (es : List (Path × Node)) → is_deep p q (outlines es) ≡ is_too_deep p q es
+deep-outlines : (p q : Path) (es : List (Path × Node)) → is_deep p q (outlines es) ≡ is_tree_too_deep p q es
 deep-outlines p q [] = refl
 deep-outlines p q (e ∷ es) = ap (λ b. nat_lt 8 (length (rebased p q e.0)) || b) (deep-outlines p q es)
 
@@ -105,12 +106,12 @@ module _ (m : Extents) (F : Filestore) (h : IsOutline m F) where
       ∙ ap (λ es. not (length es == 0)) (sym (entries-retain_keys paths_total paths_exact F.nodes (λ q. is_below q p)))
       ∙ ap (λ n. not (n == 0)) (sym (len-entries (inside F p)))
 
-  pub depth-is : (p q : Path) → is_deep p q (tree_in p (entries m)) ≡ is_too_deep p q (tree_at F p)
+  pub depth-is : (p q : Path) → is_deep p q (tree_in p (entries m)) ≡ is_tree_too_deep p q (tree_at F p)
   depth-is p q =
       ap (λ es. is_deep p q (tree_in p es)) (entries-outlined m F h)
       ∙ ap (is_deep p q) (where-outlines (λ x. is_at_or_below x p) (entries F.nodes))
       ∙ deep-outlines p q (where_key path_cmp (λ x. is_at_or_below x p) (entries F.nodes))
-      ∙ ap (is_too_deep p q) (sym (entries-retain_keys paths_total paths_exact F.nodes (λ x. is_at_or_below x p)))
+      ∙ ap (is_tree_too_deep p q) (sym (entries-retain_keys paths_total paths_exact F.nodes (λ x. is_at_or_below x p)))
 
 -- ---- no change, and one path that changes
 
@@ -167,20 +168,20 @@ pub moved_where : (F : Filestore) (p q x : Path) →
 moved_where F p q x =
     let es = tree_at F p in
     let y = rebased q p x in
-    ap (λ G. node_at G x) (after-append F (vacated es) (settled p q es))
-    ∙ elim (is_at_or_below x q) as (λ b. is_at_or_below x q ≡ b → node_at (after (after F (vacated es)) (settled p q es)) x
+    ap (λ G. node_at G x) (after-append F (vacating es) (settled p q es))
+    ∙ elim (is_at_or_below x q) as (λ b. is_at_or_below x q ≡ b → node_at (after (after F (vacating es)) (settled p q es)) x
     ≡ cond b (cond (is_some (node_at F y)) (node_at F y) (cond (is_at_or_below x p) None (node_at F x))) (cond (is_at_or_below x p) None (node_at F x))) [
-      | true ↦ λ at. node_at-settled p q (after F (vacated es)) es (tree_at-sorted F p) (tree_at-all F p) x at
-          ∙ ap (λ v. cond (is_some v) v (node_at (after F (vacated es)) x)) (find-tree_at F p y ∙ ap (λ b. cond b (node_at F y) None) (rebased-below q p x))
+      | true ↦ λ at. node_at-settled p q (after F (vacating es)) es (tree_at-sorted F p) (tree_at-all F p) x at
+          ∙ ap (λ v. cond (is_some v) v (node_at (after F (vacating es)) x)) (find-tree_at F p y ∙ ap (λ b. cond b (node_at F y) None) (rebased-below q p x))
           ∙ ap (λ v. cond (is_some (node_at F y)) (node_at F y) v) (vacant es)
-      | false ↦ λ at. node_at-settled_apart p q (after F (vacated es)) es x at ∙ vacant es
+      | false ↦ λ at. node_at-settled_apart p q (after F (vacating es)) es x at ∙ vacant es
     ] refl
   where
     gone : (v : Option Node) → cond (is_some v) None v ≡ None
     gone None = refl
     gone (Some n) = refl
 
-    vacant : (es : List (Path × Node)) → node_at (after F (vacated (tree_at F p))) x ≡ cond (is_at_or_below x p) None (node_at F x)
+    vacant : (es : List (Path × Node)) → node_at (after F (vacating (tree_at F p))) x ≡ cond (is_at_or_below x p) None (node_at F x)
     vacant es = node_at-vacated F (tree_at F p) x
         ∙ ap (λ v. cond (is_some v) None (node_at F x)) (find-tree_at F p x)
         ∙ elim (is_at_or_below x p) as (λ b. cond (is_some (cond b (node_at F x) None)) None (node_at F x) ≡ cond b None (node_at F x)) [
@@ -188,7 +189,7 @@ moved_where F p q x =
           | false ↦ refl
         ]
 
-staged-vacated : (F : Filestore) (es : List (Path × Node)) → (after F (vacated es)).staged ≡ F.staged
+staged-vacated : (F : Filestore) (es : List (Path × Node)) → (after F (vacating es)).staged ≡ F.staged
 staged-vacated F [] = refl
 staged-vacated F (e ∷ es) = staged-vacated (changed F (Becomes e.0 None)) es
 
@@ -197,11 +198,11 @@ staged-settled p q F [] = refl
 staged-settled p q F (e ∷ es) = staged-settled p q (changed F (Becomes (rebased p q e.0) (Some e.1))) es
 
 pub staged-moved : (F : Filestore) (p q : Path) → (moved F p q).staged ≡ F.staged
-staged-moved F p q = ap (λ (G : Filestore). G.staged) (after-append F (vacated (tree_at F p)) (settled p q (tree_at F p)))
-    ∙ staged-settled p q (after F (vacated (tree_at F p))) (tree_at F p) ∙ staged-vacated F (tree_at F p)
+staged-moved F p q = ap (λ (G : Filestore). G.staged) (after-append F (vacating (tree_at F p)) (settled p q (tree_at F p)))
+    ∙ staged-settled p q (after F (vacating (tree_at F p))) (tree_at F p) ∙ staged-vacated F (tree_at F p)
 
 pub follows-moved : (m : Extents) (F : Filestore) (o : Outcome) (told : Status) (p q : Path) → IsOutline m F → Performed told ≡ o.answer → o.changes
-    ≡ vacated (tree_at F p) ++ settled p q (tree_at F p) → Follows (rehomed p q m) F o told
+    ≡ vacating (tree_at F p) ++ settled p q (tree_at F p) → Follows (rehomed p q m) F o told
 follows-moved m F o told p q h answer changes = record {
   status = answer;
   outlines = subst (λ (cs : List Change). IsOutline (rehomed p q m) (after F cs)) (sym changes) (record {

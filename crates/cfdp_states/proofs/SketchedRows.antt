@@ -4,12 +4,13 @@ use Rattle.std.proofs.Common.{◌≡◌, refl, sym, ◌∙◌, ap, subst, ◌⊎
 use Rattle.std.specs.FinMap.{get, insert, remove, get-insert, get-remove}
 use Rattle.cfdp_paths.specs.Paths.{Path, same_path}
 use Rattle.cfdp_status.specs.declared.status.Status.TheVariants.{Successful}
-use Rattle.cfdp_actions.specs.Filestore.{Node, Directory, File, Filestore, node_at, Becomes, is_file, octets_in, octets_at}
+use Rattle.cfdp_actions.specs.Filestore.{Node, Directory, File, Filestore, node_at, Becomes, is_file, octets_in, file_octets_at}
 use Rattle.cfdp_actions.specs.Actions.{Request, CreateFile, DeleteFile, RenameFile, AppendFile, ReplaceFile, CreateDirectory, RemoveDirectory, DenyFile, DenyDirectory, action_in, Performed, Outcome, table}
 use Rattle.cfdp_actions.proofs.Allowed.{Allowed, Makes, file_made, directory_made, removed, denied, moved, appended, replaced, successful}
 use Rattle.cfdp_states.specs.declared.extent.Extent.{Extent}
 use Rattle.cfdp_states.specs.declared.extent.Extent.TheVariants as extent
-use Rattle.cfdp_states.specs.Sketching.{most_octets, extent_in, extent_at, Extents, size_in, resized, rehomed, IsOutline, Does}
+use Rattle.cfdp_states.specs.Sketching.{most_octets, extent_in, extent_at, Extents}
+use Rattle.cfdp_states.specs.code.Sketching.{size_in, resized, rehomed, IsOutline, Does}
 use Rattle.cfdp_actions.proofs.Order.{paths_total, same_path-true}
 use Rattle.cfdp_states.proofs.Sketched.{Follows, does-at, follows-same, follows-one, follows-moved, kept}
 
@@ -97,9 +98,10 @@ module _ (m : Extents) (request : Request) (allowed : (F : Filestore) → IsOutl
       ≡ resized p n m → Does m m' request (Successful (action_in request))
   appends m' p q n e sum now = does-at m m' request (Successful (action_in request)) (λ F h.
       let row = appended F request p q (allowed F h) e in
-      let long : n ≡ min (length (octets_at F p ++ octets_at F q)) most_octets =
+      let long : n ≡ min (length (file_octets_at F p ++ file_octets_at F q)) most_octets =
       sum ∙ (λ i. min (size_in (h.found p i) + size_in (h.found q i)) most_octets) ∙ (λ i. min (size-in (node_at F p) i + size-in (node_at F q) i) most_octets)
-      ∙ sym (ap (λ n. min n most_octets) (length-append (octets_at F p) (octets_at F q)) ∙ together (length (octets_at F p)) (length (octets_at F q))) in
+      ∙ sym (ap (λ n. min n most_octets) (length-append (file_octets_at F p) (file_octets_at F q)) ∙ together (length (file_octets_at F p))
+      (length (file_octets_at F q))) in
       follows-one m m' F (table F request) (Successful (action_in request)) p _ h (answer F h) row.row.changes
       (λ x. at_size m' F p n h row.first now x ∙ ap (λ n. cond (same_path x p) (Some (extent.File n)) (get m x)) long))
 
@@ -111,12 +113,12 @@ module _ (m : Extents) (request : Request) (allowed : (F : Filestore) → IsOutl
     where
       by_same : (m' : Extents) (p q : Path) (n : ℕ) → m' ≡ resized p n m → (F : Filestore) → IsOutline m F → is_file (node_at F p) ≡ true → n
           ≡ size_in (extent_at F q) → (o : Outcome) → Performed (Successful (action_in request)) ≡ o.answer → (same : Bool) → same_path p q ≡ same →
-          o.changes ≡ (if same then [] else Becomes p (Some (File (octets_at F q))) ∷ []) → Follows m' F o (Successful (action_in request))
+          o.changes ≡ (if same then [] else Becomes p (Some (File (file_octets_at F q))) ∷ []) → Follows m' F o (Successful (action_in request))
       by_same m' p q n now F h file size o answer true e changes =
           follows-same m' F o (Successful (action_in request)) answer changes (kept m m' F p (Some (extent.File n)) h
           (file-extent (node_at F p) file ∙ ap (λ x. Some (extent.File (size_in (extent_at F x)))) (same_path-true p q e)
           ∙ ap (λ n. Some (extent.File n)) (sym size))
           (at_size m' F p n h file now))
       by_same m' p q n now F h file size o answer false e changes =
-          follows-one m m' F o (Successful (action_in request)) p (Some (File (octets_at F q))) h answer changes
+          follows-one m m' F o (Successful (action_in request)) p (Some (File (file_octets_at F q))) h answer changes
           (λ x. at_size m' F p n h file now x ∙ ap (λ n. cond (same_path x p) (Some (extent.File n)) (get m x)) (size ∙ size-in (node_at F q)))

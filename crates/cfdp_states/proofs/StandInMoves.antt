@@ -8,7 +8,8 @@ use Rattle.cfdp_paths.specs.Paths.{Path, same_name, same_path, is_at_or_below, i
 use Rattle.cfdp_paths.proofs.Below.{at_or_below-trans, is_below-Decides, length-rebased, length-at_or_below}
 use Rattle.cfdp_actions.specs.Filestore.{Node, Filestore, node_at, blocks, has_entries}
 use Rattle.cfdp_leases.proofs.Sets.{stands, any_at, any_from}
-use Rattle.cfdp_states.specs.Closed.{is_inside, Knows, Reaches, AreAlike, IsPartStandIn, moved_path, moved_closed}
+use Rattle.cfdp_states.specs.Closed.{is_inside, Knows, Reaches, AreAlike, IsPartStandIn}
+use Rattle.cfdp_states.specs.code.Closed.{moved_path, moved_closed}
 use Rattle.cfdp_actions.proofs.Order.{same_path-true, same_path-refl, same_path-is}
 use Rattle.cfdp_actions.proofs.Prefixes.{same_name-refl, rebased-below, rebased_back}
 use Rattle.cfdp_actions.proofs.Moves.{none_unless, moved, blocks-moved_free}

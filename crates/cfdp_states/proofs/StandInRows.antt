@@ -16,11 +16,13 @@ use Rattle.cfdp_status.specs.declared.status.Status.{Status}
 use Rattle.cfdp_status.specs.declared.status.Status.TheVariants.{NotAllowed}
 use Rattle.cfdp_status.specs.Codes.{is_successful}
 use Rattle.cfdp_actions.specs.Filestore.{Node, Directory, File, Filestore, node_at, staged_in, blocks_of, weight, blocks, Change, Becomes, Stages, changed, after, has_entries, parent_is_good, tree_at}
-use Rattle.cfdp_actions.specs.Actions.{Request, CreateFile, DeleteFile, RenameFile, AppendFile, ReplaceFile, CreateDirectory, RemoveDirectory, DenyFile, DenyDirectory, Install, Perform, Answer, NotInstalled, Outcome, unchanged, refused, succeeds, vacated, settled, is_too_deep, create, delete_file, rename, append, replace, remove_directory, deny_file, deny_directory, installs, install, table, free_row, bars, is_protected, denied, succeeded, row}
+use Rattle.cfdp_actions.specs.Actions.{Request, CreateFile, DeleteFile, RenameFile, AppendFile, ReplaceFile, CreateDirectory, RemoveDirectory, DenyFile, DenyDirectory, Install, Perform, Answer, NotInstalled, Outcome, unchanged, refused, succeeds, vacating, settled, is_tree_too_deep, create, delete_file, rename, append, replace, remove_directory, deny_file, deny_directory, install_outcome, install, table, free_row, bars, is_protected, denied, succeeded, row}
 use Rattle.cfdp_leases.specs.Items.{step_bound}
 use Rattle.cfdp_leases.proofs.Sets.{any_at}
-use Rattle.cfdp_states.specs.Sketching.{Extents, IsOutline}
-use Rattle.cfdp_states.specs.Closed.{is_inside, Reaches, AreAlike, IsPartStandIn, after_request, looks_inside, is_cramped, is_enough}
+use Rattle.cfdp_states.specs.Sketching.{Extents}
+use Rattle.cfdp_states.specs.code.Sketching.{IsOutline}
+use Rattle.cfdp_states.specs.Closed.{is_inside, Reaches, AreAlike, IsPartStandIn, looks_inside, is_cramped, is_enough}
+use Rattle.cfdp_states.specs.code.Closed.{after_request}
 use Rattle.cfdp_actions.proofs.Order.{node_at-becomes, node_at-becomes_apart, same_path-true}
 use Rattle.cfdp_actions.proofs.Weights.{blocks-becomes, blocks-stages}
 use Rattle.cfdp_states.proofs.Sketched.{entries-is}
@@ -54,7 +56,8 @@ both_ways_on f g h = ((λ a. h.0 (g.0 (f.0 a))), (λ d. f.1 (g.1 (h.1 d))))
 turned : {A B : Type 0} → A ↔ B → B ↔ A
 turned f = (f.1, f.0)
 
-becomes-standin : (known : Bool) (closed : List Path) (F G : Filestore) (p : Path) (a b : Option Node) → IsPartStandIn known closed F G → is_inside closed p ≡ false → Like a b →
+becomes-standin : (known : Bool) (closed : List Path) (F G : Filestore) (p : Path) (a b : Option Node) → IsPartStandIn known closed F G → is_inside closed p
+    ≡ false → Like a b →
     IsPartStandIn known closed (changed F (Becomes p a)) (changed G (Becomes p b))
 becomes-standin known closed F G p a b h free same = record {
   staged = h.staged;
@@ -68,7 +71,8 @@ becomes-standin known closed F G p a b h free same = record {
     at : (x : Path) → is_inside closed x ≡ false → AreAlike (cond (same_path x p) a (node_at F x)) (cond (same_path x p) b (node_at G x))
     at x f = elim (same_path x p) as (λ t. AreAlike (cond t a (node_at F x)) (cond t b (node_at G x))) [ true ↦ alike same | false ↦ h.alike x f ]
 
-becomes-blocks : (known : Bool) (closed : List Path) (F G : Filestore) (p : Path) (a b : Option Node) → IsPartStandIn known closed F G → is_inside closed p ≡ false → Like a b →
+becomes-blocks : (known : Bool) (closed : List Path) (F G : Filestore) (p : Path) (a b : Option Node) → IsPartStandIn known closed F G → is_inside closed p
+    ≡ false → Like a b →
     blocks (changed F (Becomes p a)) + blocks G ≡ blocks (changed G (Becomes p b)) + blocks F
 becomes-blocks known closed F G p a b h free same =
     as_much (blocks F) (blocks (changed F (Becomes p a))) (blocks G) (blocks (changed G (Becomes p b))) (weight (node_at F p)) (weight (node_at G p)) (weight a)
@@ -108,7 +112,8 @@ pub data Goes (p : Path) : List Change → List Change → Type 0 where
   still : Goes p [] []
   becomes : {a b : Option Node} → Like a b → Goes p (Becomes p a ∷ []) (Becomes p b ∷ [])
 
-goes-standin : (known : Bool) (closed : List Path) (F G : Filestore) (p : Path) → IsPartStandIn known closed F G → is_inside closed p ≡ false → {cs ds : List Change} → Goes p cs ds →
+goes-standin : (known : Bool) (closed : List Path) (F G : Filestore) (p : Path) → IsPartStandIn known closed F G → is_inside closed p ≡ false →
+    {cs ds : List Change} → Goes p cs ds →
     Both known closed F G (after F cs) (after G ds)
 goes-standin known closed F G p h free still = record { one = h; blocks = omega arith }
 goes-standin known closed F G p h free (becomes {a = a} {b = b} same) = record {
@@ -187,27 +192,27 @@ module _ (p : Path) where
 data Renames (p q : Path) (below : Bool) (d : Option Node) (es fs : List (Path × Node)) : Outcome → Outcome → Type 0 where
   refuses : (status : Status) → is_successful status ≡ false → Renames p q below d es fs (refused status) (refused status)
   moves : below ≡ false → d ≡ None → Renames p q below d es fs
-      (succeeds action.RenameFile (vacated es ++ settled p q es) 0 0 0) (succeeds action.RenameFile (vacated fs ++ settled p q fs) 0 0 0)
+      (succeeds action.RenameFile (vacating es ++ settled p q es) 0 0 0) (succeeds action.RenameFile (vacating fs ++ settled p q fs) 0 0 0)
 
 -- by how deep the paths would be
-by_depth : (p q : Path) (es fs : List (Path × Node)) → is_too_deep p q es ≡ is_too_deep p q fs →
+by_depth : (p q : Path) (es fs : List (Path × Node)) → is_tree_too_deep p q es ≡ is_tree_too_deep p q fs →
     Renames p q false None es fs
-    (if is_too_deep p q es then refused (NotAllowed action.RenameFile) else succeeds action.RenameFile (vacated es ++ settled p q es) 0 0 0)
-    (if is_too_deep p q fs then refused (NotAllowed action.RenameFile) else succeeds action.RenameFile (vacated fs ++ settled p q fs) 0 0 0)
+    (if is_tree_too_deep p q es then refused (NotAllowed action.RenameFile) else succeeds action.RenameFile (vacating es ++ settled p q es) 0 0 0)
+    (if is_tree_too_deep p q fs then refused (NotAllowed action.RenameFile) else succeeds action.RenameFile (vacating fs ++ settled p q fs) 0 0 0)
 by_depth p q es fs same =
-    subst (λ deep. Renames p q false None es fs (if is_too_deep p q es then refused (NotAllowed action.RenameFile)
-    else succeeds action.RenameFile (vacated es ++ settled p q es) 0 0 0) (if deep then refused (NotAllowed action.RenameFile)
-    else succeeds action.RenameFile (vacated fs ++ settled p q fs) 0 0 0))
+    subst (λ deep. Renames p q false None es fs (if is_tree_too_deep p q es then refused (NotAllowed action.RenameFile)
+    else succeeds action.RenameFile (vacating es ++ settled p q es) 0 0 0) (if deep then refused (NotAllowed action.RenameFile)
+    else succeeds action.RenameFile (vacating fs ++ settled p q fs) 0 0 0))
     same
-    (elim (is_too_deep p q es) as (λ deep. Renames p q false None es fs (if deep then refused (NotAllowed action.RenameFile)
-    else succeeds action.RenameFile (vacated es ++ settled p q es) 0 0 0) (if deep then refused (NotAllowed action.RenameFile)
-    else succeeds action.RenameFile (vacated fs ++ settled p q fs) 0 0 0)) [
+    (elim (is_tree_too_deep p q es) as (λ deep. Renames p q false None es fs (if deep then refused (NotAllowed action.RenameFile)
+    else succeeds action.RenameFile (vacating es ++ settled p q es) 0 0 0) (if deep then refused (NotAllowed action.RenameFile)
+    else succeeds action.RenameFile (vacating fs ++ settled p q fs) 0 0 0)) [
       | true ↦ refuses (NotAllowed action.RenameFile) refl
       | false ↦ moves refl refl
     ])
 
-rename-alike : (p q : Path) {a b c d : Option Node} (good below : Bool) (es fs : List (Path × Node)) → Like a b → Like c d → is_too_deep p q es
-    ≡ is_too_deep p q fs →
+rename-alike : (p q : Path) {a b c d : Option Node} (good below : Bool) (es fs : List (Path × Node)) → Like a b → Like c d → is_tree_too_deep p q es
+    ≡ is_tree_too_deep p q fs →
     Renames p q below d es fs (rename p q a c good below es) (rename p q b d good below fs)
 unfolding rename
 rename-alike p q good below es fs nothing more same = refuses _ refl
@@ -234,7 +239,8 @@ pub record GoesOn (known : Bool) (closed moved : List Path) (F G : Filestore) (o
   pub done : succeeded r.answer ≡ true → Both known moved F G (after F o.changes) (after G r.changes)
   pub not_done : succeeded r.answer ≡ false → Both known closed F G (after F o.changes) (after G r.changes)
 
-stays_on : (known : Bool) (closed : List Path) (F G : Filestore) (p : Path) → IsPartStandIn known closed F G → is_inside closed p ≡ false → {o r : Outcome} → IsLikeOutcome p o r →
+stays_on : (known : Bool) (closed : List Path) (F G : Filestore) (p : Path) → IsPartStandIn known closed F G → is_inside closed p ≡ false → {o r : Outcome} →
+    IsLikeOutcome p o r →
     GoesOn known closed closed F G o r
 stays_on known closed F G p h free same = record {
   answer = same.answer;
@@ -262,7 +268,11 @@ module _ (known : Bool) (closed : List Path) (F G : Filestore) (h : IsPartStandI
       let bare : has_entries G q ≡ false = sym (entries-is m G here q) ∙ b.1 in
       record {
         answer = refl;
-        done = λ _. record { one = moved-standin known closed F G h p q movable d.0 d.1 c.1 absent bare; blocks = moved-blocks known closed F G h p q movable d.0 d.1 c.1 absent bare };
+        done = λ _. record {
+          one = moved-standin known closed F G h p q movable d.0 d.1 c.1 absent bare;
+          blocks =
+              moved-blocks known closed F G h p q movable d.0 d.1 c.1 absent bare;
+        };
         not_done = λ bad. not_both true refl bad;
       }
 
@@ -272,7 +282,8 @@ module _ (known : Bool) (closed : List Path) (F G : Filestore) (h : IsPartStandI
     | inr n ↦ inr (λ c s. false_from_ne_true _ (λ at. true≢false (sym n ∙ ap not (any_at (λ c. is_at_or_below c p) closed c s at))))
   ]
 
-  table_on : (request : Request) → is_enough known closed request ≡ true → looks_inside closed m request ≡ false → GoesOn known closed (after_request request closed) F G (table F request) (table G request)
+  table_on : (request : Request) → is_enough known closed request ≡ true → looks_inside closed m request ≡ false → GoesOn known closed
+      (after_request request closed) F G (table F request) (table G request)
   unfolding table
   table_on (CreateFile p) enough free = stays_on known closed F G p h free (along (parent-alike known closed F G h p free)
       (create action.CreateFile (File []) p (node_at F p) (parent_is_good F p)) (λ good. create action.CreateFile (File []) p (node_at G p) good)
@@ -303,14 +314,16 @@ module _ (known : Bool) (closed : List Path) (F G : Filestore) (h : IsPartStandI
       (remove_directory p (node_at F p) (has_entries F p)) (λ entries. remove_directory p (node_at G p) entries)
       (remove_directory-alike p (has_entries F p) (nodes known closed F G h p free)))
   table_on (DenyFile p) enough free = stays_on known closed F G p h free (deny_file-alike p (nodes known closed F G h p free))
-  table_on (DenyDirectory p) enough free = stays_on known closed F G p h free (along (entries-alike known closed F G h p free) (deny_directory p (node_at F p) (has_entries F p))
+  table_on (DenyDirectory p) enough free = stays_on known closed F G p h free (along (entries-alike known closed F G h p free)
+      (deny_directory p (node_at F p) (has_entries F p))
       (λ entries. deny_directory p (node_at G p) entries) (deny_directory-alike p (has_entries F p) (nodes known closed F G h p free)))
 
   pub request-standin : (prefixes : List Path) (request : Request) → is_enough known closed request ≡ true → looks_inside closed m request ≡ false →
       GoesOn known closed (after_request request closed) F G (row prefixes F 0 (Perform request)) (row prefixes G 0 (Perform request))
   unfolding row free_row
   request-standin prefixes request enough free =
-      elim (bars prefixes request) as (λ b. GoesOn known closed (after_request request closed) F G (if b then denied (Perform request) else table F request) (if b
+      elim (bars prefixes request) as (λ b. GoesOn known closed (after_request request closed) F G (if b then denied (Perform request) else table F request)
+      (if b
       then denied (Perform request) else table G request)) [
         | true ↦ refuses_on (after_request request closed) _ refl
         | false ↦ table_on request enough free
@@ -335,7 +348,7 @@ module _ (known : Bool) (closed : List Path) (F G : Filestore) (h : IsPartStandI
 
 data Installs (p : Path) (x : List ℕ) : Outcome → Outcome → Type 0 where
   stays : Installs p x (unchanged NotInstalled) (unchanged NotInstalled)
-  comes : (taken given taken' given' : ℕ) → Installs p x (installs 0 p x taken given) (installs 0 p x taken' given')
+  comes : (taken given taken' given' : ℕ) → Installs p x (install_outcome 0 p x taken given) (install_outcome 0 p x taken' given')
 
 install-alike : (p : Path) (x : List ℕ) {a b : Option Node} (good : Bool) → Like a b → Installs p x (install 0 p x a good) (install 0 p x b good)
 unfolding install
@@ -370,7 +383,8 @@ pub record AnswersAlike (known : Bool) (closed : List Path) (F G : Filestore) (o
 both_again : (known : Bool) (closed : List Path) (F G H K L M : Filestore) → Both known closed F G H K → Both known closed H K L M → Both known closed F G L M
 both_again known closed F G H K L M one two = let a = one.blocks in let b = two.blocks in record { one = two.one; blocks = omega (arith, a, b) }
 
-module _ (known : Bool) (closed : List Path) (F G : Filestore) (h : IsPartStandIn known closed F G) (p : Path) (free : is_inside closed p ≡ false) (x : List ℕ) where
+module _ (known : Bool) (closed : List Path) (F G : Filestore) (h : IsPartStandIn known closed F G) (p : Path) (free : is_inside closed p ≡ false)
+    (x : List ℕ) where
   pub staged-standin : IsPartStandIn known closed (alone F x) (alone G x)
   staged-standin = record {
     staged = refl;

@@ -14,7 +14,7 @@ use Rattle.std.specs.FinMap.Entries.{find}
 use Rattle.cfdp_paths.specs.Paths.{Path, path_cmp, same_path, is_at_or_below, is_below, parent, rebased}
 use Rattle.cfdp_paths.proofs.Below.{at_or_below-itself, at_or_below-trans, at_or_below-antisym, prefixes_compare, parent_at_or_below, is_below-Decides, length-rebased}
 use Rattle.cfdp_actions.specs.Filestore.{Node, Directory, File, Filestore, node_at, blocks_of, weight, inside, has_entries, is_directory, is_good, is_root, parent_is_good, tree_at}
-use Rattle.cfdp_actions.specs.Actions.{is_too_deep}
+use Rattle.cfdp_actions.specs.Actions.{is_tree_too_deep}
 use Rattle.cfdp_leases.specs.Items.{content}
 use Rattle.cfdp_leases.proofs.Sets.{stands, by_truth, any_at, any_from}
 use Rattle.cfdp_states.specs.Closed.{is_inside, Knows, Reaches, AreAlike, IsPartStandIn}
@@ -205,7 +205,7 @@ pub found-has_entries : (F : Filestore) (p x : Path) → is_below x p ≡ true �
 found-has_entries F p x below there =
     entries-any F p ∙ found-any (λ x. true) (entries (inside F p)) x refl (ap is_some (find-inside F p x ∙ ap (λ b. cond b (node_at F x) None) below) ∙ there)
 
-deep-any : (p q : Path) (es : List (Path × Node)) → is_too_deep p q es ≡ list_any (λ (e : Path × Node). nat_lt 8 (length (rebased p q e.0))) es
+deep-any : (p q : Path) (es : List (Path × Node)) → is_tree_too_deep p q es ≡ list_any (λ (e : Path × Node). nat_lt 8 (length (rebased p q e.0))) es
 deep-any p q [] = refl
 deep-any p q (e ∷ es) = ap (λ b. nat_lt 8 (length (rebased p q e.0)) || b) (deep-any p q es)
 
@@ -215,13 +215,13 @@ pub record TooDeep (F : Filestore) (p q : Path) : Type 0 where
   pub there : is_some (node_at F path) ≡ true
   pub deep : nat_lt 8 (length (rebased p q path)) ≡ true
 
-pub too_deep-found : (F : Filestore) (p q : Path) → is_too_deep p q (tree_at F p) ≡ true → TooDeep F p q
+pub too_deep-found : (F : Filestore) (p q : Path) → is_tree_too_deep p q (tree_at F p) ≡ true → TooDeep F p q
 too_deep-found F p q h =
     let found = any-found (λ x. nat_lt 8 (length (rebased p q x))) (tree_at F p) (sym (deep-any p q (tree_at F p)) ∙ h) in
     let kept = kept_some (is_at_or_below found.0 p) (node_at F found.0) (ap is_some (sym (find-tree_at F p found.0)) ∙ found.2) in
     record { path = found.0; at = kept.0; there = kept.1; deep = found.1 }
 
-pub found-too_deep : (F : Filestore) (p q : Path) → TooDeep F p q → is_too_deep p q (tree_at F p) ≡ true
+pub found-too_deep : (F : Filestore) (p q : Path) → TooDeep F p q → is_tree_too_deep p q (tree_at F p) ≡ true
 found-too_deep F p q d =
     deep-any p q (tree_at F p)
     ∙ found-any (λ x. nat_lt 8 (length (rebased p q x))) (tree_at F p) d.path d.deep
@@ -277,7 +277,7 @@ module _ (known : Bool) (closed : List Path) (F G : Filestore) (h : IsPartStandI
       let f = back p r.path free (below-at r.path p r.below) r.there in
       found-has_entries F p f.path (f.below r.below) f.there)
 
-  pub depth-alike : (p q : Path) → Movable known closed p → is_inside closed p ≡ false → is_too_deep p q (tree_at F p) ≡ is_too_deep p q (tree_at G p)
+  pub depth-alike : (p q : Path) → Movable known closed p → is_inside closed p ≡ false → is_tree_too_deep p q (tree_at F p) ≡ is_tree_too_deep p q (tree_at G p)
   depth-alike p q movable free = by_truth _ _
       (λ e. let d = too_deep-found F p q e in
       let f = there_deep p d.path movable free d.at d.there in

@@ -9,7 +9,8 @@ use Rattle.cfdp_actions.specs.Filestore.{Node, Filestore, node_at, weights, bloc
 use Rattle.cfdp_leases.specs.Footprint.{Footprint, any_in, is_covered}
 use Rattle.cfdp_leases.proofs.Sets.{any_in-from_list}
 use Rattle.cfdp_states.specs.Alone.{alone}
-use Rattle.cfdp_states.specs.Sketching.{extent_in, Extents, total_blocks, IsOutline, Adds, IsSurvey}
+use Rattle.cfdp_states.specs.Sketching.{extent_in, Extents}
+use Rattle.cfdp_states.specs.code.Sketching.{total_blocks, IsOutline, AddsWhere, IsSurvey}
 use Rattle.cfdp_states.specs.Views.{most_count, most_need, only, IsViewOf}
 use Rattle.cfdp_actions.proofs.Order.{paths_total, paths_exact}
 use Rattle.cfdp_actions.proofs.Weights.{entries-retain_keys}
@@ -27,7 +28,7 @@ covered-lent xs ys fp p exclusive shared =
 
 -- all that the footprint covers
 pub whole_survey : (xs ys : List Path) (fp : Footprint) (F : Filestore) (m : Extents) → set.from_list xs ≡ fp.exclusive → set.from_list ys ≡ fp.shared →
-    Adds (λ p. below_one xs p || one_of ys p) F empty m → IsSurvey m (is_covered fp) F
+    AddsWhere (λ p. below_one xs p || one_of ys p) F empty m → IsSurvey m (is_covered fp) F
 whole_survey xs ys fp F m exclusive shared adds =
     surveyed (is_covered fp) F m (adds_as (λ p. below_one xs p || one_of ys p) (is_covered fp) F empty m adds (λ p. covered-lent xs ys fp p exclusive shared))
 

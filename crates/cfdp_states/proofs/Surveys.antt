@@ -13,7 +13,8 @@ use Rattle.cfdp_paths.specs.Paths.{Path, path_cmp, same_path, is_at_or_below}
 use Rattle.cfdp_paths.proofs.Below.{at_or_below-trans}
 use Rattle.cfdp_actions.specs.Filestore.{Filestore}
 use Rattle.cfdp_states.specs.declared.extent.Extent.{Extent}
-use Rattle.cfdp_states.specs.Sketching.{extent_at, Extents, Adds, IsSurvey}
+use Rattle.cfdp_states.specs.Sketching.{extent_at, Extents}
+use Rattle.cfdp_states.specs.code.Sketching.{AddsWhere, IsSurvey}
 use Rattle.cfdp_actions.proofs.Order.{paths_total, same_path-true}
 
 abbrev pub below_one : List Path → Path → Bool
@@ -33,13 +34,14 @@ seen-none : (b : Bool) (w : Option Extent) → seen b None w ≡ w
 seen-none true w = refl
 seen-none false w = refl
 
-pub adds_nothing : (F : Filestore) (m : Extents) → Adds (λ p. false) F m m
+pub adds_nothing : (F : Filestore) (m : Extents) → AddsWhere (λ p. false) F m m
 adds_nothing F m p = refl
 
-pub adds_as : (A C : Path → Bool) (F : Filestore) (m n : Extents) → Adds A F m n → ((p : Path) → C p ≡ A p) → Adds C F m n
+pub adds_as : (A C : Path → Bool) (F : Filestore) (m n : Extents) → AddsWhere A F m n → ((p : Path) → C p ≡ A p) → AddsWhere C F m n
 adds_as A C F m n one same p = one p ∙ ap (λ b. seen b (extent_at F p) (get m p)) (sym (same p))
 
-pub adds_both : (A B C : Path → Bool) (F : Filestore) (l m n : Extents) → Adds A F l m → Adds B F m n → ((p : Path) → C p ≡ (A p || B p)) → Adds C F l n
+pub adds_both : (A B C : Path → Bool) (F : Filestore) (l m n : Extents) → AddsWhere A F l m → AddsWhere B F m n → ((p : Path) → C p ≡ (A p || B p)) →
+    AddsWhere C F l n
 adds_both A B C F l m n one two same p =
     two p ∙ ap (seen (B p) (extent_at F p)) (one p) ∙ either (A p) (B p) (extent_at F p) (get l p) ∙ ap (λ b. seen b (extent_at F p) (get l p)) (sym (same p))
   where
@@ -51,7 +53,7 @@ adds_both A B C F l m n one two same p =
     either false true (Some e) w = refl
     either false false v w = refl
 
-pub adds_one : (F : Filestore) (m : Extents) (path : Path) (e : Extent) → extent_at F path ≡ Some e → Adds (λ p. same_path p path) F m (insert m path e)
+pub adds_one : (F : Filestore) (m : Extents) (path : Path) (e : Extent) → extent_at F path ≡ Some e → AddsWhere (λ p. same_path p path) F m (insert m path e)
 adds_one F m path e here p =
     get-insert paths_total m path e p
     ∙ elim (same_path p path) as (λ b. same_path p path ≡ b → cond b (Some e) (get m p) ≡ seen b (extent_at F p) (get m p)) [
@@ -59,7 +61,7 @@ adds_one F m path e here p =
       | false ↦ λ t. refl
     ] refl
 
-pub adds_none : (F : Filestore) (m : Extents) (path : Path) → extent_at F path ≡ None → Adds (λ p. same_path p path) F m m
+pub adds_none : (F : Filestore) (m : Extents) (path : Path) → extent_at F path ≡ None → AddsWhere (λ p. same_path p path) F m m
 adds_none F m path gone p =
     elim (same_path p path) as (λ b. same_path p path ≡ b → get m p ≡ seen b (extent_at F p) (get m p)) [
       | true ↦ λ t. sym (ap (λ v. seen true v (get m p)) (ap (extent_at F) (same_path-true p path t) ∙ gone))
@@ -72,7 +74,7 @@ pub one_more : (paths : List Path) (i : ℕ) (path : Path) → i < length paths 
 one_more paths i path within is p = list_any_more (same_path p) paths i path within ∙ ap (λ q. one_of (take i paths) p || same_path p q) (sym is)
 
 pub adds_paths : (paths : List Path) (i : ℕ) (path : Path) (F : Filestore) (l m n : Extents) → i < length paths → path ≡ get_or paths i path →
-    Adds (one_of (take i paths)) F l m → Adds (λ p. same_path p path) F m n → Adds (one_of (take (i + 1) paths)) F l n
+    AddsWhere (one_of (take i paths)) F l m → AddsWhere (λ p. same_path p path) F m n → AddsWhere (one_of (take (i + 1) paths)) F l n
 adds_paths paths i path F l m n within is one two = adds_both (one_of (take i paths)) (λ p. same_path p path) (one_of (take (i + 1) paths)) F l m n one two
     (one_more paths i path within is)
 
@@ -108,7 +110,8 @@ lower (r ∷ rs) root p below above =
 
 module _ (roots paths : List Path) (i k more : ℕ) (root : Path) (F : Filestore) (within : i < length roots) (is : root ≡ get_or roots i root) where
   -- the paths before the root
-  before : (l m n : Extents) → Adds (up_to roots paths i k) F l m → Adds (one_of (take more (drop k paths))) F m n → Adds (up_to roots paths i (k + more)) F l n
+  before : (l m n : Extents) → AddsWhere (up_to roots paths i k) F l m → AddsWhere (one_of (take more (drop k paths))) F m n → AddsWhere
+      (up_to roots paths i (k + more)) F l n
   before l m n one two =
       adds_both (up_to roots paths i k) (one_of (take more (drop k paths))) (up_to roots paths i (k + more)) F l m n one two (λ p.
       ap (λ b. below_one (take i roots) p || b) (ap (λ ps. one_of ps p) (take-add k more paths)
@@ -123,8 +126,8 @@ module _ (roots paths : List Path) (i k more : ℕ) (root : Path) (F : Filestore
   next p = list_any_more (λ root. is_at_or_below p root) roots i root within ∙ ap (λ r. below_one (take i roots) p || is_at_or_below p r) (sym is)
 
   -- and its tree
-  pub adds_root : (l m n o : Extents) → Adds (up_to roots paths i k) F l m → Adds (one_of (take more (drop k paths))) F m n →
-      Adds (λ p. is_at_or_below p root) F n o → Adds (up_to roots paths (i + 1) (k + more)) F l o
+  pub adds_root : (l m n o : Extents) → AddsWhere (up_to roots paths i k) F l m → AddsWhere (one_of (take more (drop k paths))) F m n →
+      AddsWhere (λ p. is_at_or_below p root) F n o → AddsWhere (up_to roots paths (i + 1) (k + more)) F l o
   adds_root l m n o one two three =
       adds_both (up_to roots paths i (k + more)) (λ p. is_at_or_below p root) (up_to roots paths (i + 1) (k + more)) F l n o (before l m n one two) three (λ p.
       ap (λ b. b || one_of (take (k + more) paths) p) (next p) ∙ turned (below_one (take i roots) p) (is_at_or_below p root) (one_of (take (k + more) paths) p))
@@ -137,8 +140,9 @@ module _ (roots paths : List Path) (i k more : ℕ) (root : Path) (F : Filestore
       turned false false false = refl
 
   -- or nothing more, where the root is inside an earlier one
-  pub adds_inside : (l m n : Extents) → Adds (up_to roots paths i k) F l m → Adds (one_of (take more (drop k paths))) F m n → below_one (take i roots) root
-      ≡ true → Adds (up_to roots paths (i + 1) (k + more)) F l n
+  pub adds_inside : (l m n : Extents) → AddsWhere (up_to roots paths i k) F l m → AddsWhere (one_of (take more (drop k paths))) F m n → below_one
+      (take i roots) root
+      ≡ true → AddsWhere (up_to roots paths (i + 1) (k + more)) F l n
   adds_inside l m n one two inside =
       adds_as (up_to roots paths i (k + more)) (up_to roots paths (i + 1) (k + more)) F l n (before l m n one two) (λ p.
       ap (λ b. b || one_of (take (k + more) paths) p) (next p ∙ absorbs (below_one (take i roots) p) (is_at_or_below p root)
@@ -150,12 +154,12 @@ module _ (roots paths : List Path) (i k more : ℕ) (root : Path) (F : Filestore
       absorbs false false h = refl
 
 -- at first, and in the end
-pub adds_start : (roots paths : List Path) (F : Filestore) (m : Extents) → Adds (up_to roots paths 0 0) F m m
+pub adds_start : (roots paths : List Path) (F : Filestore) (m : Extents) → AddsWhere (up_to roots paths 0 0) F m m
 adds_start roots paths F m p = refl
 
-pub adds_rest : (roots paths : List Path) (i k : ℕ) (F : Filestore) (l m n : Extents) → length roots ≤ i → Adds (up_to roots paths i k) F l m →
-    Adds (one_of (drop k paths)) F m n →
-    Adds (λ p. below_one roots p || one_of paths p) F l n
+pub adds_rest : (roots paths : List Path) (i k : ℕ) (F : Filestore) (l m n : Extents) → length roots ≤ i → AddsWhere (up_to roots paths i k) F l m →
+    AddsWhere (one_of (drop k paths)) F m n →
+    AddsWhere (λ p. below_one roots p || one_of paths p) F l n
 adds_rest roots paths i k F l m n all one two =
     adds_both (up_to roots paths i k) (one_of (drop k paths)) (λ p. below_one roots p || one_of paths p) F l m n one two (λ p.
     ap (λ rs. below_one rs p || one_of paths p) (sym (take_all i roots all))
@@ -171,13 +175,13 @@ adds_rest roots paths i k F l m n all one two =
 pub behind : (paths : List Path) (k : ℕ) → between k (length paths) paths ≡ drop k paths
 behind paths k = between_to_end paths k (length paths) (omega arith)
 
-pub adds_before : (paths : List Path) (k more : ℕ) (F : Filestore) (m n : Extents) → Adds (one_of (take more (between k (length paths) paths))) F m n →
-    Adds (one_of (take more (drop k paths))) F m n
+pub adds_before : (paths : List Path) (k more : ℕ) (F : Filestore) (m n : Extents) → AddsWhere (one_of (take more (between k (length paths) paths))) F m n →
+    AddsWhere (one_of (take more (drop k paths))) F m n
 adds_before paths k more F m n two = adds_as (one_of (take more (between k (length paths) paths))) (one_of (take more (drop k paths))) F m n two
     (λ p. ap (λ ps. one_of (take more ps) p) (sym (behind paths k)))
 
-pub adds_behind : (paths : List Path) (k : ℕ) (F : Filestore) (m n : Extents) → Adds (one_of (between k (length paths) paths)) F m n →
-    Adds (one_of (drop k paths)) F m n
+pub adds_behind : (paths : List Path) (k : ℕ) (F : Filestore) (m n : Extents) → AddsWhere (one_of (between k (length paths) paths)) F m n →
+    AddsWhere (one_of (drop k paths)) F m n
 adds_behind paths k F m n two = adds_as (one_of (between k (length paths) paths)) (one_of (drop k paths)) F m n two
     (λ p. ap (λ ps. one_of ps p) (sym (behind paths k)))
 
@@ -185,7 +189,7 @@ pub next_within : (paths : List Path) (k more : ℕ) → k ≤ length paths → 
 next_within paths k more within bound = omega (arith, within, bound, ap length (behind paths k), length-drop k paths)
 
 -- of no map, what was put in is all
-pub surveyed : (test : Path → Bool) (F : Filestore) (m : Extents) → Adds test F empty m → IsSurvey m test F
+pub surveyed : (test : Path → Bool) (F : Filestore) (m : Extents) → AddsWhere test F empty m → IsSurvey m test F
 surveyed test F m one p = one p ∙ ap (seen (test p) (extent_at F p)) (get-empty path_cmp p) ∙ alone (test p) (extent_at F p)
   where
     alone : (b : Bool) (v : Option Extent) → seen b v None ≡ (if b then v else None)

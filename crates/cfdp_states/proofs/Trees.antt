@@ -9,7 +9,8 @@ use Rattle.cfdp_paths.specs.Paths.{Path, path_cmp, same_path, is_at_or_below}
 use Rattle.cfdp_actions.specs.Filestore.{Node, Directory, File, Filestore, node_at, blocks_of, weight, weights, blocks, tree_at}
 use Rattle.cfdp_actions.specs.Store.{standing_of, standings_of}
 use Rattle.cfdp_states.specs.declared.extent.Extent.TheVariants as extent
-use Rattle.cfdp_states.specs.Sketching.{most_octets, extent_of, extent_in, Extents, extent_standing, added, Adds}
+use Rattle.cfdp_states.specs.Sketching.{most_octets, extent_of, extent_in, Extents}
+use Rattle.cfdp_states.specs.code.Sketching.{extent_standing, added, AddsWhere}
 use Rattle.cfdp_actions.proofs.Order.{paths_total, paths_exact}
 use Rattle.cfdp_actions.proofs.Weights.{entries-retain_keys, sorted_rest, find_later}
 use Rattle.cfdp_actions.proofs.Moves.{tree_at-sorted, find-tree_at}
@@ -64,7 +65,7 @@ tree-small F root le =
     let all = weights-small F le in
     omega (arith, kept, fewer, all)
 
-pub tree_added : (F : Filestore) (root : Path) (m : Extents) → blocks F ≤ 65536 → Adds (λ x. is_at_or_below x root) F m (added (standings_of F root) m)
+pub tree_added : (F : Filestore) (root : Path) (m : Extents) → blocks F ≤ 65536 → AddsWhere (λ x. is_at_or_below x root) F m (added (standings_of F root) m)
 tree_added F root m le x =
     get-added (tree_at F root) (tree-small F root le) (tree_at-sorted F root) m x
     ∙ ap (λ a. cond (is_some a) (extent_in a) (get m x)) (find-tree_at F root x)

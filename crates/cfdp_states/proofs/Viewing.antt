@@ -5,7 +5,8 @@ use Rattle.cfdp_status.specs.declared.status.Status.{Status}
 use Rattle.cfdp_actions.specs.Filestore.{Filestore, blocks_of, blocks}
 use Rattle.cfdp_actions.specs.Actions.{Request, Perform, Performed, succeeded, row}
 use Rattle.cfdp_leases.specs.Items.{performed, step_bound}
-use Rattle.cfdp_states.specs.Sketching.{Extents, total_blocks, bound_on, IsOutline, makes_path, Performs}
+use Rattle.cfdp_states.specs.Sketching.{Extents, makes_path}
+use Rattle.cfdp_states.specs.code.Sketching.{total_blocks, bound_on, IsOutline, Performs}
 use Rattle.cfdp_states.specs.Views.{most_count, most_need, Sketch, IsViewOf, Makes, Tells}
 use Rattle.cfdp_actions.proofs.Growth.{blocks_of-zero}
 use Rattle.cfdp_states.proofs.Counting.{enough, blocks-counted, bound-counted}

@@ -1,16 +1,12 @@
 -- Views in which directories stay closed: what is below such a directory is not looked at. Instead of it the view has
 -- one directory, which is as deep as the deepest path there.
 --     is_inside closed p              p is below one of these directories
---     Reaches F p n, ReachesIn m p n  something is below p, and its path has n names or more: in a filestore, in a map
---     Knows known n                   what is known of the paths of n names or more in a closed directory: whether there
---                                     is one; or only whether there is any path
---     IsPartSurvey known m closed test F     the map says what is in F at the paths that pass the test, these directories
---                                     closed, and how deep they are if that is known;  IsClosedSurvey: it is known
---     IsFiller p n d, Closes m p n m' d is below p and has n names;  the map with p as a directory, and with one such d
+--     Reaches F p n                   something is below p in a filestore, and its path has n names or more
+--     Knows known n                   what is known of the paths of n names or more in a closed directory: whether
+--                                     there is one; or only whether there is any path
 --     AreAlike a b                    what is at two paths: of one kind, and files of one length
---     IsPartStandIn known closed F G  with these directories closed, F and G are one, and each directory is as deep in both
---                                     if that is known;  IsStandIn: it is known
---     moved_closed p q closed         the closed directories once each p/r is at q/r;  after_request: after a request
+--     IsPartStandIn known closed F G  with these directories closed, F and G are one, and each directory is as deep in
+--                                     both if that is known;  IsStandIn: it is known
 --     looks_inside closed m request   the request names something in a closed directory, or moves onto what is there
 --     moves_closed closed request     the request names a path to move at or below which a directory is closed
 --     is_enough known closed request  what is known of the depths is enough for the request
@@ -18,17 +14,16 @@
 --                                                        IsClosedViewOf: and it is as deep in each of them
 --     TellsPart, TellsPartInstall     how such a view goes on with an item, and with the install;  TellsClosed,
 --                                     TellsClosedInstall: where the depths are known
-use Rattle.std.specs.Prelude.{◌≡◌, ⊤, ℕ, ◌+◌, ◌≤◌, max, Bool, true, false, not, ◌&&◌, ◌||◌, nat_lt, IsTrue, IsFalse, IsSome, ◌↔◌, ◌⊎◌, if◌then◌else◌, List, map, length, Option, Some, None}
+use Rattle.std.specs.Prelude.{◌≡◌, ⊤, ℕ, ◌+◌, ◌≤◌, max, Bool, true, false, not, ◌&&◌, ◌||◌, nat_lt, IsTrue, IsFalse, IsSome, ◌↔◌, List, length, Option, Some, None}
 use Rattle.std.specs.List.{list_any}
 use Rattle.std.specs.FinMap as finite
-use Rattle.cfdp_paths.specs.Paths.{Path, same_path, is_at_or_below, is_below, rebased}
+use Rattle.cfdp_paths.specs.Paths.{Path, same_path, is_at_or_below, is_below}
 use Rattle.cfdp_paths.specs.PathMaps.{any_below}
 use Rattle.cfdp_actions.specs.Filestore.{Node, Directory, File, Filestore, node_at, blocks}
 use Rattle.cfdp_actions.specs.Actions.{Request, CreateFile, DeleteFile, RenameFile, AppendFile, ReplaceFile, CreateDirectory, RemoveDirectory, DenyFile, DenyDirectory, Item, Install, Answer, row}
 use Rattle.cfdp_leases.specs.Items.{performed, step_bound}
 use Rattle.cfdp_states.specs.Alone.{alone}
-use Rattle.cfdp_states.specs.declared.extent.Extent.TheVariants as extent
-use Rattle.cfdp_states.specs.Sketching.{Extents, extent_at}
+use Rattle.cfdp_states.specs.Sketching.{Extents}
 use Rattle.cfdp_states.specs.Views.{Sketch, IsViewOf, installed_if}
 
 abbrev pub is_inside : List Path → Path → Bool
@@ -41,37 +36,10 @@ pub record Reaches (F : Filestore) (p : Path) (n : ℕ) : Type 0 where
   pub there : IsSome (node_at F path)
   pub deep : n ≤ length path
 
-pub record ReachesIn (m : Extents) (p : Path) (n : ℕ) : Type 0 where
-  pub path : Path
-  pub below : IsTrue (is_below path p)
-  pub there : IsSome (finite.get m path)
-  pub deep : n ≤ length path
-
 -- of a depth of 0 names: whether anything is there
 abbrev pub Knows : Bool → ℕ → Type 0
 Knows true n = ⊤
 Knows false n = n ≡ 0
-
-pub record IsPartSurvey (known : Bool) (m : Extents) (closed : List Path) (test : Path → Bool) (F : Filestore) : Type 0 where
-  pub told : (p : Path) → IsFalse (is_inside closed p) → finite.get m p ≡ (if test p then extent_at F p else None)
-  -- a file is one of the filestore, whether it is in a closed directory or not
-  pub kept : (p : Path) → (finite.get m p ≡ None) ⊎ ((finite.get m p ≡ Some extent.Directory)
-      ⊎ (finite.get m p ≡ extent_at F p))
-  pub there : (c : Path) → IsTrue (list_any (same_path c) closed) → IsSome (finite.get m c)
-  pub covered : (c p : Path) → IsTrue (list_any (same_path c) closed) → IsTrue (is_below p c) → IsTrue (test p)
-  -- it is as deep in each closed directory as the filestore, and no deeper
-  pub deep : (c : Path) (n : ℕ) → Knows known n → IsTrue (list_any (same_path c) closed) →
-      Reaches F c n ↔ ReachesIn m c n
-
-abbrev pub IsClosedSurvey : Extents → List Path → (Path → Bool) → Filestore → Type 0
-IsClosedSurvey = IsPartSurvey true
-
-abbrev pub IsFiller : Path → ℕ → Path → Type 0
-IsFiller p n d = IsTrue (is_below d p) × (length d ≡ n)
-
-abbrev pub Closes : Extents → Path → ℕ → Extents → Type 0
-Closes m p n m' = (d : Path) × IsFiller p n d × (m' ≡ finite.insert
-    (finite.insert m p extent.Directory) d extent.Directory)
 
 -- nothing and nothing, two directories, or two files of one length
 abbrev pub AreAlike : Option Node → Option Node → Type 0
@@ -88,28 +56,6 @@ pub record IsPartStandIn (known : Bool) (closed : List Path) (F G : Filestore) :
   pub staged : G.staged ≡ F.staged
   pub alike : (p : Path) → IsFalse (is_inside closed p) → AreAlike (node_at F p) (node_at G p)
   pub deep : (c : Path) (n : ℕ) → Knows known n → IsTrue (list_any (same_path c) closed) → Reaches F c n ↔ Reaches G c n
-
-abbrev pub IsStandIn : List Path → Filestore → Filestore → Type 0
-IsStandIn = IsPartStandIn true
-
--- a directory once each p/r is at q/r
-abbrev pub moved_path : Path → Path → Path → Path
-moved_path p q c = if is_at_or_below c p then rebased p q c else c
-
-abbrev pub moved_closed : Path → Path → List Path → List Path
-moved_closed p q closed = map (moved_path p q) closed
-
--- the closed directories after a request that is successful
-abbrev pub after_request : Request → List Path → List Path
-after_request (RenameFile p q) closed = moved_closed p q closed
-after_request (CreateFile p) closed = closed
-after_request (DeleteFile p) closed = closed
-after_request (AppendFile p q) closed = closed
-after_request (ReplaceFile p q) closed = closed
-after_request (CreateDirectory p) closed = closed
-after_request (RemoveDirectory p) closed = closed
-after_request (DenyFile p) closed = closed
-after_request (DenyDirectory p) closed = closed
 
 -- a closed directory would have more than 8 names
 abbrev pub is_cramped : Path → Path → Path → Bool
@@ -146,7 +92,8 @@ is_enough known closed request = known || not (moves_closed closed request)
 
 -- the view describes a filestore that is one with F but for the closed directories, and that has more or fewer blocks
 -- by what is in them
-pub record IsPartViewOf (known : Bool) (v : Sketch) (closed : List Path) (F : Filestore) (start peak taken : ℕ) : Type 0 where
+pub record IsPartViewOf (known : Bool) (v : Sketch) (closed : List Path) (F : Filestore)
+    (start peak taken : ℕ) : Type 0 where
   pub seen : Filestore
   pub first : ℕ
   pub most : ℕ
@@ -172,7 +119,8 @@ TellsClosed = TellsPart true
 -- as `TellsInstall` has it
 abbrev pub TellsPartInstall : Bool → Sketch → Sketch → List Path → Path → ℕ → Bool → Type 0
 TellsPartInstall known v w closed p size done =
-    (F : Filestore) (start peak taken : ℕ) (x : List ℕ) → IsPartViewOf known v closed F start peak taken → length x ≡ size →
+    (F : Filestore) (start peak taken : ℕ) (x : List ℕ) → IsPartViewOf known v closed F start peak taken → length x
+    ≡ size →
     let H = alone F x in
     let G = performed v.prefixes H 0 (Install p) in
     (installed_if done ≡ (row v.prefixes H 0 (Install p)).answer)

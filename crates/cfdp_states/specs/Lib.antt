@@ -3,3 +3,4 @@ pub mod Closed
 pub mod Laws
 pub mod Sketching
 pub mod Views
+pub mod code

@@ -1,7 +1,7 @@
 -- Views: what is at and below some leased paths, a file being 'at most n octets', while a list of items runs alone.
 --     most_count                    the greatest u32, at which steps stop, and what a view says of its need
 --     most_need                     at which the need itself stops: one more than any that can be reported
---     Sketch, sketch_code           what contracts see of a view;  that it is so seen
+--     Sketch                        what contracts see of a view
 --     size_of                       the greatest size of a file that is outlined
 --     length_in, length_at          the length of a file of the filestore, as far as sizes go;  of the one at a path
 --     only fp F                     the filestore with nothing but what the footprint covers
@@ -12,8 +12,7 @@
 --                               describes
 --     installed_if                  the install's answer
 --     HasRun v fp F x items answers the view describes these items, run alone on F with the delivered file x
-use Rattle.std.specs.Prelude.{◌≡◌, ℕ, ◌+◌, ◌-◌, ◌≤◌, min, max, Bool, IsTrue, if◌then◌else◌, List, [], ◌∷◌, Option, Some, None, length, refl}
-use Rattle.std.specs.Coded.{Coded, code_by, coded×, coded_list, coded_ℕ}
+use Rattle.std.specs.Prelude.{◌≡◌, ℕ, ◌+◌, ◌-◌, ◌≤◌, min, max, Bool, IsTrue, if◌then◌else◌, List, [], ◌∷◌, Option, Some, None, length}
 use Rattle.std.specs.FinMap as finite
 use Rattle.cfdp_paths.specs.Paths.{Path}
 use Rattle.cfdp_actions.specs.Filestore.{Node, Directory, File, Filestore, node_at, blocks}
@@ -38,15 +37,6 @@ pub record Sketch : Type 0 where
   pub base : ℕ  -- the blocks in use at first
   pub need : ℕ  -- how many more are in use at most
   pub steps : ℕ  -- the steps that are taken
-
-abbrev pub sketch_code : Coded Extent → Coded Sketch
-sketch_code coded =
-    code_by (List Path × (Extents × (ℕ × (ℕ × ℕ))))
-    (coded× (coded_list (coded_list (coded_list coded_ℕ)))
-    (coded× (finite.code (coded_list (coded_list coded_ℕ)) coded) (coded× coded_ℕ (coded× coded_ℕ coded_ℕ))))
-    (λ v. (v.prefixes, (v.extents, (v.base, (v.need, v.steps)))))
-    (λ p. record { prefixes = p.0; extents = p.1.0; base = p.1.1.0; need = p.1.1.1.0; steps = p.1.1.1.1 })
-    (λ _. refl)
 
 -- a file's greatest size; none for a directory
 abbrev pub size_of : Option Extent → Option ℕ

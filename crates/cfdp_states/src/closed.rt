@@ -7,10 +7,11 @@ ghost use Rattle.cfdp_paths.specs.Paths.{is_at_or_below};
 ghost use Rattle.cfdp_actions.specs.Filestore.{blocks};
 ghost use Rattle.cfdp_actions.specs.Actions.{Perform, Performed, RenameFile};
 ghost use Rattle.cfdp_states.specs.Alone.{alone};
-ghost use Rattle.cfdp_states.specs.Closed.{after_request, is_cramped, is_enough, is_inside, looks_inside, moved_closed, moved_path, moves_closed, IsClosedViewOf, IsPartViewOf, TellsClosed, TellsClosedInstall, TellsPart, TellsPartInstall};
+ghost use Rattle.cfdp_states.specs.Closed.{is_cramped, is_enough, is_inside, looks_inside, moves_closed, IsClosedViewOf, IsPartViewOf, TellsClosed, TellsClosedInstall, TellsPart, TellsPartInstall};
+ghost use Rattle.cfdp_states.specs.code.Closed.{after_request, moved_closed, moved_path};
 ghost use Rattle.cfdp_states.specs.Views.{only};
 
-use crate::closing::survey_closed;
+use crate::closed_survey::survey_closed;
 use crate::view::View;
 use cfdp_actions::{Filestore, Protected, Request};
 use cfdp_leases::Footprint;
@@ -61,8 +62,8 @@ impl<'a> ClosedView<'a> {
         ClosedView::with_depths(alloc, store, protected, footprint, true)
     }
 
-    /// As [`ClosedView::of`], but how deep the closed directories are is found out only if it is to be `known`. If it is
-    /// not, the view says nothing of requests that move one of them: [`ClosedView::knows_enough`].
+    /// As [`ClosedView::of`], but how deep the closed directories are is found out only if it is to be `known`. If it
+    /// is not, the view says nothing of requests that move one of them: [`ClosedView::knows_enough`].
     ///
     /// # Errors
     ///

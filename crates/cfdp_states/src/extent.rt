@@ -1,7 +1,7 @@
 //! What is at a path, without its octets.
 
 ghost use Rattle.std.specs.Prelude.{◌≡◌, ◌<◌, ◌≤◌, ◌^◌};
-ghost use Rattle.cfdp_states.specs.Sketching.{extent_weight, extent_content};
+ghost use Rattle.cfdp_states.specs.code.Sketching.{extent_weight, extent_content};
 
 use cfdp_actions::PAYLOAD_OCTETS;
 

@@ -5,7 +5,7 @@ ghost use Rattle.std.specs.FinMap as finite;
 ghost use Rattle.std.specs.List.{list_any};
 ghost use Rattle.cfdp_paths.specs.Paths.{parent};
 ghost use Rattle.cfdp_paths.specs.PathMaps.{any_below, is_too_deep, tree_in};
-ghost use Rattle.cfdp_states.specs.Sketching.{good_parent, rehomed, total_blocks, total_weight, weight_in};
+ghost use Rattle.cfdp_states.specs.code.Sketching.{good_parent, rehomed, total_blocks, total_weight, weight_in};
 
 use crate::extent::Extent;
 use cfdp_paths::{MOST_NAMES, Memory, Path, PathMap};
@@ -25,7 +25,8 @@ impl Model for Extents {
     ghost use Rattle.std.specs.Prelude.{◌≡◌};
     ghost use Rattle.std.specs.Coded.{coded_list, coded_ℕ};
     ghost use Rattle.std.specs.FinMap as finite;
-    ghost use Rattle.cfdp_states.specs.Sketching.{Extents, IsCounted};
+    ghost use Rattle.cfdp_states.specs.Sketching.{Extents};
+    ghost use Rattle.cfdp_states.specs.code.Sketching.{IsCounted};
     ghost use Rattle.cfdp_states.specs.contracts.extent.Extent as extent;
 
     ghost Value = { Extents };

@@ -5,15 +5,15 @@
 //! list on kinds and sizes alone, without octets: what it says is stated in `specs/Views.antt`.
 #![tactic(auto)]
 
+mod changes;
 mod closed;
-mod closing;
+mod closed_survey;
 mod extent;
+mod extent_kinds;
 mod extents;
-mod kinds;
 pub mod laws;
 mod performing;
 mod surveying;
-mod table;
 mod view;
 
 pub use closed::ClosedView;

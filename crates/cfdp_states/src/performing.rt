@@ -3,11 +3,11 @@
 ghost use Rattle.std.specs.Prelude.{◌≡◌, ◌≢◌, [], ◌+◌, ◌≤◌, ◌<◌, ◌^◌};
 ghost use Rattle.cfdp_actions.specs.Actions.{Perform};
 ghost use Rattle.std.specs.FinMap as finite;
-ghost use Rattle.cfdp_states.specs.Sketching.{content_in, bound_on, can_install, DoesOrNot, PerformsOrNot};
+ghost use Rattle.cfdp_states.specs.code.Sketching.{content_blocks, bound_on, can_install, DoesOrNot, PerformsOrNot};
 
+use crate::changes::change;
 use crate::extent::Extent;
 use crate::extents::Extents;
-use crate::table::change;
 use cfdp_actions::{Protected, Request, refusal};
 use cfdp_paths::{Memory, Path};
 use cfdp_status::{Action, Status};
@@ -77,7 +77,7 @@ pub fn step_bound(extents: &Extents, request: &Request) -> u64
 
 /// The blocks of the octets of what is at the path.
 pub fn content(extents: &Extents, path: &Path) -> u64
-    ensures value { result ≡ content_in (finite.get extents.now path.now) }
+    ensures value { result ≡ content_blocks (finite.get extents.now path.now) }
     ensures within { result < 2 ^ 58 }
 {
     match extents.get(path) {

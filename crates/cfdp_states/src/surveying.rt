@@ -5,7 +5,8 @@ ghost use Rattle.std.specs.List.{list_any};
 ghost use Rattle.cfdp_paths.specs.Paths.{Path, same_path, is_at_or_below};
 ghost use Rattle.cfdp_actions.specs.Filestore.{blocks};
 ghost use Rattle.cfdp_leases.specs.Footprint.{is_covered};
-ghost use Rattle.cfdp_states.specs.Sketching.{Adds, IsSurvey, added, extent_at, extent_standing};
+ghost use Rattle.cfdp_states.specs.Sketching.{extent_at};
+ghost use Rattle.cfdp_states.specs.code.Sketching.{AddsWhere, IsSurvey, added, extent_standing};
 
 use crate::extent::Extent;
 use crate::extents::Extents;
@@ -65,7 +66,7 @@ pub fn add_tree<S: Filestore>(
     root: &Path,
 ) -> Result<(), Memory>
     requires { blocks (S.state store.now).filestore ≤ 65536 }
-    ensures { OnOk result (Adds (λ path. is_at_or_below path root.now)
+    ensures { OnOk result (AddsWhere (λ path. is_at_or_below path root.now)
         (S.state store.now).filestore extents.old extents.new) }
 {
     let found = store.standing(alloc, root)?;
@@ -92,7 +93,7 @@ pub fn add_paths<S: Filestore>(
     paths: &[Path],
 ) -> Result<(), Memory>
     requires { blocks (S.state store.now).filestore ≤ 65536 }
-    ensures { OnOk result (Adds (λ path. list_any (same_path path) paths.now)
+    ensures { OnOk result (AddsWhere (λ path. list_any (same_path path) paths.now)
         (S.state store.now).filestore extents.old extents.new) }
 {
     for path in paths {

@@ -6,7 +6,7 @@ ghost use Rattle.cfdp_actions.specs.Filestore.{blocks};
 ghost use Rattle.cfdp_actions.specs.Actions.{Perform, Performed};
 ghost use Rattle.cfdp_states.specs.Alone.{alone};
 ghost use Rattle.cfdp_paths.specs.PathMaps.{any_below};
-ghost use Rattle.cfdp_states.specs.Sketching.{total_blocks};
+ghost use Rattle.cfdp_states.specs.code.Sketching.{total_blocks};
 ghost use Rattle.cfdp_states.specs.Views.{most_count, most_need, size_of, only, IsViewOf, Makes, Tells, TellsInstall};
 
 use crate::extent::Extent;
@@ -39,7 +39,8 @@ pub struct View<'a> {
 }
 
 impl<'a> Model for View<'a> {
-    ghost use Rattle.cfdp_states.specs.Views.{Sketch, sketch_code};
+    ghost use Rattle.cfdp_states.specs.Views.{Sketch};
+    ghost use Rattle.cfdp_states.specs.code.Views.{sketch_code};
     ghost use Rattle.cfdp_states.specs.contracts.extent.Extent as extent;
 
     ghost Value = { Sketch };

@@ -1,12 +1,12 @@
 -- Each status is in the table beside its own octet, and beside no other.
 use Rattle.std.proofs.Common.{◌≡◌, ◌⊎◌, ℕ, ◌/◌, Bool, true, false, cond, eqb, List, [], ◌∷◌, Some, refl, sym, subst, inl, inr}
 use Rattle.std.proofs.lemmas.Bool.{eqb-true}
-use Rattle.cfdp_status.specs.Codes.{beside, actions, statuses, octet_of, action_of}
+use Rattle.cfdp_status.specs.Codes.{beside, actions, status_octets, octet_of, action_of}
 use Rattle.cfdp_status.specs.declared.action.Action.TheVariants.{CreateFile, DeleteFile, RenameFile, AppendFile, ReplaceFile, CreateDirectory, RemoveDirectory, DenyFile, DenyDirectory}
 use Rattle.cfdp_status.specs.declared.status.Status.{Status}
 use Rattle.cfdp_status.specs.declared.status.Status.TheVariants.{Successful, NotAllowed, NotPerformed, DeleteAbsent, RenameOldAbsent, RenameNewPresent, AppendFirstAbsent, AppendSecondAbsent, ReplaceFirstAbsent, ReplaceSecondAbsent, RemoveAbsent}
 
-pub beside-octet_of : (status : Status) → beside statuses (octet_of status) ≡ Some status
+pub beside-octet_of : (status : Status) → beside status_octets (octet_of status) ≡ Some status
 beside-octet_of (Successful CreateFile) = refl
 beside-octet_of (Successful DeleteFile) = refl
 beside-octet_of (Successful RenameFile) = refl
@@ -66,8 +66,8 @@ beside_all {A = A} P (row ∷ rows) number x all e =
     ]
 
 -- the octet of a status of the table is the status's own
-pub octet_of-beside : (octet : ℕ) (status : Status) → beside statuses octet ≡ Some status → octet ≡ octet_of status
-octet_of-beside octet status e = beside_all (λ n s. n ≡ octet_of s) statuses octet status (
+pub octet_of-beside : (octet : ℕ) (status : Status) → beside status_octets octet ≡ Some status → octet ≡ octet_of status
+octet_of-beside octet status e = beside_all (λ n s. n ≡ octet_of s) status_octets octet status (
   refl,
   (
     refl,
@@ -139,8 +139,8 @@ octet_of-beside octet status e = beside_all (λ n s. n ≡ octet_of s) statuses 
 ) e
 
 -- the high four bits of an octet of the table are the code of the status's action
-pub action_of-beside : (octet : ℕ) (status : Status) → beside statuses octet ≡ Some status → beside actions (octet / 16) ≡ Some (action_of status)
-action_of-beside octet status e = beside_all (λ n s. beside actions (n / 16) ≡ Some (action_of s)) statuses octet status (
+pub action_of-beside : (octet : ℕ) (status : Status) → beside status_octets octet ≡ Some status → beside actions (octet / 16) ≡ Some (action_of status)
+action_of-beside octet status e = beside_all (λ n s. beside actions (n / 16) ≡ Some (action_of s)) status_octets octet status (
   refl,
   (
     refl,

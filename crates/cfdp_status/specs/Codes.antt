@@ -2,7 +2,7 @@
 -- codes) and §5.4.2 (status codes).
 --   beside               what is beside a number in a table
 --   actions              the table of action codes
---   statuses             the table of status octets: action code in the high four bits, status code
+--   status_octets        the table of status octets: action code in the high four bits, status code
 --                        in the low four
 --   code_of              the code of an action
 --   has_second           whether a request for an action has a second file name
@@ -27,8 +27,8 @@ actions =
     (0, CreateFile) ∷ (1, DeleteFile) ∷ (2, RenameFile) ∷ (3, AppendFile) ∷ (4, ReplaceFile)
     ∷ (5, CreateDirectory) ∷ (6, RemoveDirectory) ∷ (7, DenyFile) ∷ (8, DenyDirectory) ∷ []
 
-abbrev pub statuses : List (ℕ × Status)
-statuses =
+abbrev pub status_octets : List (ℕ × Status)
+status_octets =
     (0x00, Successful CreateFile) ∷ (0x01, NotAllowed CreateFile) ∷ (0x0f, NotPerformed CreateFile)
     ∷ (0x10, Successful DeleteFile) ∷ (0x11, DeleteAbsent) ∷ (0x12, NotAllowed DeleteFile) ∷ (
       0x1f,

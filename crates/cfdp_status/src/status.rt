@@ -1,5 +1,5 @@
 ghost use Rattle.std.specs.Prelude.{◌≡◌, ℕ, Some};
-ghost use Rattle.cfdp_status.specs.Codes.{beside, statuses, octet_of, status_code_of, not_allowed_code_of, action_of, is_successful};
+ghost use Rattle.cfdp_status.specs.Codes.{beside, status_octets, octet_of, status_code_of, not_allowed_code_of, action_of, is_successful};
 ghost use Rattle.cfdp_status.specs.declared.status.Status.TheVariants.{Successful, NotAllowed, NotPerformed};
 
 use crate::Action;
@@ -38,7 +38,7 @@ impl Status {
     /// The status with an octet, action and status code together. `None` for each octet that is
     /// not in the table.
     pub fn of_octet(octet: u8) -> Option<Status>
-        ensures { result ≡ beside statuses octet }
+        ensures { result ≡ beside status_octets octet }
     {
         let action = Action::of_code(octet >> 4)?;
         match octet {
@@ -66,8 +66,8 @@ impl Status {
     /// The status's octet: the action's code in the high four bits, the status code in the low.
     pub fn octet(self) -> u8
         ensures value { result ≡ octet_of self }
-        ensures in_table { beside statuses result ≡ Some self }
-        ensures alone { (octet : ℕ) → beside statuses octet ≡ Some self → octet ≡ result }
+        ensures in_table { beside status_octets result ≡ Some self }
+        ensures alone { (octet : ℕ) → beside status_octets octet ≡ Some self → octet ≡ result }
     {
         (self.action().code() << 4) + self.status_code()
     }

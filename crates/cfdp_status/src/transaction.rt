@@ -1,5 +1,5 @@
 ghost use Rattle.std.specs.Prelude.{◌≡◌, Some};
-ghost use Rattle.cfdp_status.specs.Transaction.{name_of};
+ghost use Rattle.cfdp_status.specs.Transaction.{transaction_name};
 
 use std::fmt;
 
@@ -15,9 +15,9 @@ pub struct TransactionId {
 
 impl fmt::Display for TransactionId {
     ghost use Rattle.std.specs.Prelude.{Some};
-    ghost use Rattle.cfdp_status.specs.Transaction.{name_of};
+    ghost use Rattle.cfdp_status.specs.Transaction.{transaction_name};
 
-    ghost output = { λ id. Some (name_of id) };
+    ghost output = { λ id. Some (transaction_name id) };
 
     fn fmt<W: fmt::Write>(&self, f: &mut fmt::Formatter<W>) -> fmt::Result {
         write!(f, "{}/{}", self.source, self.number)

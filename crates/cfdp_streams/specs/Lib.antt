@@ -1,2 +1,3 @@
 pub mod Adapters
 pub mod Streams
+pub mod code

@@ -5,10 +5,8 @@
 --   ReadsOff        some octets were read off a reader
 --   ReadsAtMost     this many octets, or fewer, were read off it
 --   Begins          a text begins with another
---   Spills          some of a text that was held back was written, and the rest still is held back
 --   LostWithin      a writer failed within a text that it was to write
 use Rattle.std.specs.Prelude.{◌≡◌, ℕ, ◌≤◌, List, length, Option, Some, None, ◌++◌, ⊤}
-use Rattle.std.specs.Io.KnownBytes.{Appends}
 
 -- a failed call left the known octets as they were, or they are no longer known
 abbrev pub KeptOrLost : Option (List ℕ) → Option (List ℕ) → Type 0
@@ -37,11 +35,6 @@ pub record ReadsAtMost (most : ℕ) (old new : Option (List ℕ)) : Type 0 where
   pub octets : List ℕ
   pub read : ReadsOff old new octets
   pub within : length octets ≤ most
-
-pub record Spills (before after : List ℕ) (old new : Option (List ℕ)) : Type 0 where
-  pub written : List ℕ
-  pub whole : before ≡ written ++ after
-  pub appended : Appends old new written
 
 pub record LostWithin (text : List ℕ) (old new : Option (List ℕ)) : Type 0 where
   pub written : List ℕ

@@ -8,7 +8,7 @@ use Rattle.std.proofs.lemmas.Fmt.{length-decimal-le}
 use Rattle.std.proofs.lemmas.List.{length-append}
 use Rattle.hex.specs.Hex.{encode_lower, encode_with}
 use Rattle.cfdp_status.specs.Codes.{octet_of}
-use Rattle.cfdp_status.specs.Transaction.{name_of}
+use Rattle.cfdp_status.specs.Transaction.{transaction_name}
 use Rattle.cfdp_status.specs.declared.transaction.TransactionId.{TransactionId}
 use Rattle.cfdp_verifier.specs.declared.refusal.Place.{Place}
 use Rattle.cfdp_verifier.specs.declared.refusal.Place.TheVariants as place
@@ -44,7 +44,7 @@ two_len : (n : ℕ) → length (two_digits n) ≡ 2
 unfolding two_digits
 two_len n = digits_len (n ∷ [])
 
-name_len : (id : TransactionId) → id.source < 2 ^ 64 → id.number < 2 ^ 64 → length (name_of id) ≤ 41
+name_len : (id : TransactionId) → id.source < 2 ^ 64 → id.number < 2 ^ 64 → length (transaction_name id) ≤ 41
 name_len id source number = omega (arith, length-append (decimal id.source) (47 ∷ decimal id.number), long_len id.source source, long_len id.number number)
 
 -- replies ----------------------------------------------------------------------------
@@ -85,7 +85,7 @@ failure_len number octet narrow =
 refusal_len : (why : Refusal) → IsNarrowRefusal why → length (refusal_text why) ≤ 50
 refusal_len refusal.TooManyRequests narrow = omega arith
 refusal_len (refusal.BadPath at) narrow = place_len at narrow
-refusal_len (refusal.Conflict id) narrow = omega (arith, length-append (codes "conflict ") (name_of id), name_len id narrow.0 narrow.1)
+refusal_len (refusal.Conflict id) narrow = omega (arith, length-append (codes "conflict ") (transaction_name id), name_len id narrow.0 narrow.1)
 refusal_len refusal.DestinationNotAllowed narrow = omega arith
 refusal_len (refusal.WouldFail number status) narrow = failure_len number (octet_of status) narrow
 refusal_len (refusal.TooLong steps) narrow = omega (arith, labelled_len (codes "too-long ") steps, number_len steps narrow)
@@ -135,11 +135,11 @@ reply_len reply.TableFull narrow = omega arith
 reply_len reply.Memory narrow = omega arith
 reply_len reply.JournalFull narrow = omega arith
 
-line_len : (id : TransactionId) (text : List ℕ) → id.source < 2 ^ 64 → id.number < 2 ^ 64 → length (line (name_of id ++ word text)) ≤ 43 + length text
+line_len : (id : TransactionId) (text : List ℕ) → id.source < 2 ^ 64 → id.number < 2 ^ 64 → length (line (transaction_name id ++ word text)) ≤ 43 + length text
 line_len id text source number = omega (
   arith,
-  length-append (name_of id ++ word text) (10 ∷ []),
-  length-append (name_of id) (word text),
+  length-append (transaction_name id ++ word text) (10 ∷ []),
+  length-append (transaction_name id) (word text),
   name_len id source number,
 )
 
@@ -151,7 +151,7 @@ taken_len [] condition narrow = omega (arith, labelled_len (codes "ended ") cond
 taken_len (octet ∷ octets) condition narrow = omega (arith, length-append (codes "finished ") (encode_lower (octet ∷ octets)), digits_len (octet ∷ octets))
 
 pub taken_line_len : (id : TransactionId) (octets : List ℕ) (condition : ℕ) → id.source < 2 ^ 64 → id.number < 2 ^ 64 → condition < 2 ^ 32 →
-    length (line (name_of id ++ word (taken_text octets condition))) ≤ max 101 (52 + 2 * length octets)
+    length (line (transaction_name id ++ word (taken_text octets condition))) ≤ max 101 (52 + 2 * length octets)
 taken_line_len id octets condition source number narrow = omega (
   arith,
   line_len id (taken_text octets condition) source number,

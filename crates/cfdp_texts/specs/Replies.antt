@@ -28,7 +28,7 @@ use Rattle.std.specs.Prelude.{◌≡◌, ℕ, ◌==◌, Bool, not, ◌&&◌, nat
 use Rattle.byteorder.specs.Endian.{big_bytes}
 use Rattle.hex.specs.Hex.{encode_lower}
 use Rattle.cfdp_status.specs.Codes.{octet_of}
-use Rattle.cfdp_status.specs.Transaction.{name_of}
+use Rattle.cfdp_status.specs.Transaction.{transaction_name}
 use Rattle.cfdp_status.specs.declared.status.Status.{Status}
 use Rattle.cfdp_status.specs.declared.transaction.TransactionId.{TransactionId}
 use Rattle.cfdp_paths.specs.Paths.{Path, joined}
@@ -48,7 +48,7 @@ use Rattle.cfdp_transactions.specs.declared.event.Event.{Event}
 use Rattle.cfdp_transactions.specs.declared.outcome.Outcome.{Outcome}
 use Rattle.cfdp_transactions.specs.declared.reply.Reply.{Reply}
 use Rattle.cfdp_transactions.specs.declared.reply.Reply.TheVariants as replied
-use Rattle.cfdp_transactions.specs.World.{World, free, spare}
+use Rattle.cfdp_transactions.specs.World.{World, free, spare_blocks}
 use Rattle.cfdp_transactions.specs.Writable.{finished_octets}
 
 -- it was not cut, and nothing in it changed; more may follow
@@ -81,7 +81,7 @@ failure_text number status = labelled (codes "would-fail ") number ++ word (two_
 abbrev pub refusal_text : Refusal → List ℕ
 refusal_text TooManyRequests = codes "too-many-requests"
 refusal_text (BadPath place) = place_text place
-refusal_text (Conflict id) = codes "conflict " ++ name_of id
+refusal_text (Conflict id) = codes "conflict " ++ transaction_name id
 refusal_text DestinationNotAllowed = codes "destination"
 refusal_text (WouldFail number status) = failure_text number status
 refusal_text (TooLong steps) = labelled (codes "too-long ") steps
@@ -120,7 +120,7 @@ reply_text replied.Memory = codes "out-of-memory"
 reply_text replied.JournalFull = codes "journal-full"
 
 abbrev pub reply_line : TransactionId → Reply → List ℕ
-reply_line id reply = line (name_of id ++ word (reply_text reply))
+reply_line id reply = line (transaction_name id ++ word (reply_text reply))
 
 abbrev pub told_lines : List Event → List Reply → List ℕ
 told_lines (event ∷ events) (reply ∷ replies) = reply_line (about event) reply ++ told_lines events replies
@@ -164,7 +164,7 @@ entry_line entry = kind_line entry.kind entry
 abbrev pub blocks_line : World → List ℕ
 blocks_line W =
     line (labelled (codes "store used ") (blocks W.filestore) ++ labelled (codes " free ") (free W)
-    ++ labelled (codes " spare ") (spare W))
+    ++ labelled (codes " spare ") (spare_blocks W))
 
 abbrev pub listing_text : World → List ℕ
 listing_text W = blocks_line W ++ flat_map entry_line (listing_of W.filestore)

@@ -3,11 +3,11 @@
 //! them, and `specs/Replies.antt` defines them.
 #![tactic(auto)]
 
-mod digits;
+mod encoding;
 mod listing;
 mod replies;
 
-pub use digits::encode;
+pub use encoding::encode;
 pub use listing::write_listing;
 pub use replies::{
     fault_line, not_ours_line, push_labelled, push_number, write_reply, write_taken,

@@ -3,7 +3,7 @@ ghost use Rattle.std.specs.Prelude.{◌≡◌, ◌++◌, OnOk};
 ghost use Rattle.cfdp_actions.specs.Filestore.{blocks};
 ghost use Rattle.cfdp_texts.specs.Replies.{blocks_line, entry_line, is_plain, listing_text, shown_octet, shown_path};
 
-use crate::digits::encode;
+use crate::encoding::encode;
 use crate::replies::push_labelled;
 use cfdp_actions::{Entry, Filestore, Kind};
 use cfdp_paths::Path;

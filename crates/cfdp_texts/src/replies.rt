@@ -1,11 +1,11 @@
 //! The lines that `replay` writes of replies, and of PDUs that are no events.
 ghost use Rattle.std.specs.Prelude.{◌≡◌, ◌++◌, OnOk};
 ghost use Rattle.cfdp_status.specs.Codes.{octet_of};
-ghost use Rattle.cfdp_status.specs.Transaction.{name_of};
+ghost use Rattle.cfdp_status.specs.Transaction.{transaction_name};
 ghost use Rattle.cfdp_transactions.specs.Writable.{FitsReply, IsWritable};
 ghost use Rattle.cfdp_texts.specs.Replies.{failure_text, fault_line, finished_text, grant_text, labelled, line, not_ours, number_text, place_text, refusal_text, reply_line, reply_text, StartsAs, taken_text, two_digits, word};
 
-use crate::digits::encode;
+use crate::encoding::encode;
 use cfdp_pdus::PduFault;
 use cfdp_status::{Status, TransactionId};
 use cfdp_transactions::{Outcome, Reply};
@@ -44,7 +44,7 @@ pub fn push_labelled(label: &[u8], number: u64, text: &mut Vec<u8>) -> Result<()
 /// Appends a transaction's name.
 #[tactic(auto, unfolding(crate::specs::Replies::number_text))]
 fn push_name(id: TransactionId, text: &mut Vec<u8>) -> Result<(), AllocError>
-    ensures ok { OnOk result (text.new.items ≡ text.old.items ++ name_of id) }
+    ensures ok { OnOk result (text.new.items ≡ text.old.items ++ transaction_name id) }
     ensures begins { StartsAs text.old.items text.new.items }
 {
     push_number(id.source, text)?;
@@ -210,7 +210,7 @@ pub fn write_taken(
     text: &mut Vec<u8>,
 ) -> Result<(), AllocError>
     ensures ok { OnOk result (text.new.items ≡ text.old.items
-        ++ line (name_of id ++ word (taken_text octets.now condition))) }
+        ++ line (transaction_name id ++ word (taken_text octets.now condition))) }
     ensures begins { StartsAs text.old.items text.new.items }
 {
     push_name(id, text)?;

@@ -3,14 +3,14 @@ use Rattle.std.proofs.Common.{◌≡◌, ℕ, List, [], ◌++◌, Bool, true, fa
 use Rattle.std.specs.Prelude.{is_some}
 use Rattle.std.proofs.lemmas.List.{append-nil}
 use Rattle.cfdp_tlv.specs.Field.{lv, lv_at}
-use Rattle.cfdp_tlv.specs.Grammar.{names_of, second_at}
+use Rattle.cfdp_tlv.specs.Grammar.{names_as_lv, second_at}
 use Rattle.cfdp_tlv.proofs.Steps.{bind_ok, ok_is}
 use Rattle.cfdp_tlv.proofs.Fields.{lv_takes, lv_again}
 
 -- a first name and, where it is wanted, a second one are at the front
 pub record TakesNames (wanted : Bool) (octets first : List ℕ) (second : Option (List ℕ)) (rest : List ℕ) : Type 0 where
   pub complete : is_some second ≡ wanted
-  pub parts : octets ≡ names_of first second ++ rest
+  pub parts : octets ≡ names_as_lv first second ++ rest
 
 pub names_take : (wanted : Bool) (octets first after : List ℕ) (second : Option (List ℕ)) (rest : List ℕ) → lv_at octets ≡ Ok (first, after) →
     second_at wanted after ≡ Ok (second, rest) → TakesNames wanted octets first second rest
@@ -32,7 +32,7 @@ abbrev pub after_first : Option (List ℕ) → List ℕ → List ℕ
 after_first None rest = rest
 after_first (Some second) rest = lv second ++ rest
 
-pub first_again : (first : List ℕ) (second : Option (List ℕ)) (rest : List ℕ) → lv_at (names_of first second ++ rest) ≡ Ok (first, after_first second rest)
+pub first_again : (first : List ℕ) (second : Option (List ℕ)) (rest : List ℕ) → lv_at (names_as_lv first second ++ rest) ≡ Ok (first, after_first second rest)
 first_again first None rest = lv_again first rest
 first_again first (Some second) rest = ap lv_at (append_assoc (lv first) (lv second) rest) ∙ lv_again first (lv second ++ rest)
 

@@ -8,7 +8,7 @@ use Rattle.cfdp_tlv.specs.declared.fault.TlvFault.TheVariants.{BadAction}
 use Rattle.cfdp_tlv.specs.Reading.{◌>>=◌}
 use Rattle.cfdp_tlv.specs.Field.{lv_at}
 use Rattle.cfdp_tlv.specs.Values.{RequestFields, IsRequest}
-use Rattle.cfdp_tlv.specs.Grammar.{names_of, HasRequest, SpellsRequest, request_octets, second_at, whole, known, request_at}
+use Rattle.cfdp_tlv.specs.Grammar.{names_as_lv, HasRequest, SpellsRequest, request_octets, second_at, all_read, known, request_at}
 use Rattle.cfdp_tlv.specs.declared.fault.TlvFault.{TlvFault}
 use Rattle.cfdp_tlv.specs.declared.fault.TlvFault.TheVariants.{Memory}
 use Rattle.std.specs.Prelude.{IfOk, ◌⊎◌}
@@ -21,17 +21,17 @@ unfolding request_at
 request_takes [] request e = absurd cc
 request_takes (octet ∷ octets) request e =
     let a = bind_ok (known (beside actions (octet / 16)) BadAction) (λ action. lv_at octets >>= λ first. second_at (has_second action) first.1 >>= λ second.
-    whole (record { action = action; first = first.0; second = second.0 }) second.1) request e in
+    all_read (record { action = action; first = first.0; second = second.0 }) second.1) request e in
     let b = bind_ok (lv_at octets) (λ first. second_at (has_second a.0) first.1 >>= λ second.
-    whole (record { action = a.0; first = first.0; second = second.0 }) second.1) request a.2 in
-    let d = bind_ok (second_at (has_second a.0) b.0.1) (λ second. whole (record { action = a.0; first = b.0.0; second = second.0 }) second.1) request b.2 in
+    all_read (record { action = a.0; first = first.0; second = second.0 }) second.1) request a.2 in
+    let d = bind_ok (second_at (has_second a.0) b.0.1) (λ second. all_read (record { action = a.0; first = b.0.0; second = second.0 }) second.1) request b.2 in
     let made : RequestFields = record { action = a.0; first = b.0.0; second = d.0.0 } in
     let end = whole_ok made d.0.1 request d.2 in
     let names = names_take (has_second a.0) octets b.0.0 b.0.1 d.0.0 d.0.1 b.1 d.1 in
     let spelled : HasRequest octet octets made = record {
       acts = known_ok (beside actions (octet / 16)) BadAction a.0 a.1;
       complete = names.complete;
-      named = ended octets (names_of b.0.0 d.0.0) d.0.1 names.parts end.0;
+      named = ended octets (names_as_lv b.0.0 d.0.0) d.0.1 names.parts end.0;
     } in
     subst (λ (r : RequestFields). HasRequest octet octets r) end.1 spelled
 
@@ -39,7 +39,7 @@ pub request_again : (octets : List ℕ) (request : RequestFields) → SpellsRequ
 unfolding request_at
 request_again [] request spelled = absurd spelled
 request_again (octet ∷ octets) request spelled =
-    let names : octets ≡ names_of request.first request.second ++ [] = spelled.named ∙ sym (append-nil (names_of request.first request.second)) in
+    let names : octets ≡ names_as_lv request.first request.second ++ [] = spelled.named ∙ sym (append-nil (names_as_lv request.first request.second)) in
     let first : lv_at octets ≡ Ok (request.first, after_first request.second []) = ap lv_at names ∙ first_again request.first request.second [] in
     let second : second_at (has_second request.action) (after_first request.second []) ≡ Ok (request.second, []) =
     rw (← spelled.complete) (second_again request.second []) in

@@ -2,14 +2,14 @@
 use Rattle.std.proofs.Common.{◌≡◌, ℕ, ◌/◌, List, [], ◌∷◌, ◌++◌, Some, Result, Ok, Err, refl, sym, ap, subst, ◌∙◌}
 use Rattle.std.proofs.lemmas.List.{append-nil}
 use Rattle.std.specs.Prelude.{IfOk, ◌⊎◌}
-use Rattle.cfdp_status.specs.Codes.{beside, actions, statuses, has_second, action_of}
+use Rattle.cfdp_status.specs.Codes.{beside, actions, status_octets, has_second, action_of}
 use Rattle.cfdp_status.proofs.Octets.{beside-octet_of, action_of-beside}
 use Rattle.cfdp_tlv.specs.declared.fault.TlvFault.{TlvFault}
 use Rattle.cfdp_tlv.specs.declared.fault.TlvFault.TheVariants.{BadAction, BadStatus, Memory}
 use Rattle.cfdp_tlv.specs.Reading.{◌>>=◌, Gives}
 use Rattle.cfdp_tlv.specs.Field.{lv, lv_at}
 use Rattle.cfdp_tlv.specs.Values.{ResponseFields, IsResponse}
-use Rattle.cfdp_tlv.specs.Grammar.{names_of, HasResponse, SpellsResponse, response_octets, second_at, whole, known, response_at}
+use Rattle.cfdp_tlv.specs.Grammar.{names_as_lv, HasResponse, SpellsResponse, response_octets, second_at, all_read, known, response_at}
 use Rattle.cfdp_tlv.proofs.Steps.{bind_ok, ok_is, whole_ok, known_ok, only_ok}
 use Rattle.cfdp_tlv.proofs.Fields.{lv_takes, lv_again}
 use Rattle.cfdp_tlv.proofs.NameFields.{ended, names_take, after_first, first_again, second_again}
@@ -18,25 +18,25 @@ pub response_takes : (octets : List ℕ) (response : ResponseFields) → respons
 unfolding response_at
 response_takes [] response e = absurd cc
 response_takes (octet ∷ octets) response e =
-    let n = bind_ok (known (beside actions (octet / 16)) BadAction) (λ _. known (beside statuses octet) BadStatus >>= λ status. lv_at octets >>= λ first.
+    let n = bind_ok (known (beside actions (octet / 16)) BadAction) (λ _. known (beside status_octets octet) BadStatus >>= λ status. lv_at octets >>= λ first.
     second_at (has_second (action_of status)) first.1 >>= λ second. lv_at second.1 >>= λ message.
-    whole (record { status = status; first = first.0; second = second.0; message = message.0 }) message.1) response e in
-    let a = bind_ok (known (beside statuses octet) BadStatus) (λ status. lv_at octets >>= λ first.
+    all_read (record { status = status; first = first.0; second = second.0; message = message.0 }) message.1) response e in
+    let a = bind_ok (known (beside status_octets octet) BadStatus) (λ status. lv_at octets >>= λ first.
     second_at (has_second (action_of status)) first.1 >>= λ second. lv_at second.1 >>= λ message.
-    whole (record { status = status; first = first.0; second = second.0; message = message.0 }) message.1) response n.2 in
+    all_read (record { status = status; first = first.0; second = second.0; message = message.0 }) message.1) response n.2 in
     let b = bind_ok (lv_at octets) (λ first. second_at (has_second (action_of a.0)) first.1 >>= λ second. lv_at second.1 >>= λ message.
-    whole (record { status = a.0; first = first.0; second = second.0; message = message.0 }) message.1) response a.2 in
+    all_read (record { status = a.0; first = first.0; second = second.0; message = message.0 }) message.1) response a.2 in
     let d = bind_ok (second_at (has_second (action_of a.0)) b.0.1) (λ second. lv_at second.1 >>= λ message.
-    whole (record { status = a.0; first = b.0.0; second = second.0; message = message.0 }) message.1) response b.2 in
-    let m = bind_ok (lv_at d.0.1) (λ message. whole (record { status = a.0; first = b.0.0; second = d.0.0; message = message.0 }) message.1) response d.2 in
+    all_read (record { status = a.0; first = b.0.0; second = second.0; message = message.0 }) message.1) response b.2 in
+    let m = bind_ok (lv_at d.0.1) (λ message. all_read (record { status = a.0; first = b.0.0; second = d.0.0; message = message.0 }) message.1) response d.2 in
     let made : ResponseFields = record { status = a.0; first = b.0.0; second = d.0.0; message = m.0.0 } in
     let end = whole_ok made m.0.1 response m.2 in
     let names = names_take (has_second (action_of a.0)) octets b.0.0 b.0.1 d.0.0 d.0.1 b.1 d.1 in
     let message : d.0.1 ≡ lv m.0.0 = ended d.0.1 (lv m.0.0) m.0.1 (lv_takes d.0.1 m.0.0 m.0.1 m.1) end.0 in
     let spelled : HasResponse octet octets made = record {
-      answers = known_ok (beside statuses octet) BadStatus a.0 a.1;
+      answers = known_ok (beside status_octets octet) BadStatus a.0 a.1;
       complete = names.complete;
-      named = names.parts ∙ ap (λ (t : List ℕ). names_of b.0.0 d.0.0 ++ t) message;
+      named = names.parts ∙ ap (λ (t : List ℕ). names_as_lv b.0.0 d.0.0 ++ t) message;
     } in
     subst (λ (r : ResponseFields). HasResponse octet octets r) end.1 spelled
 

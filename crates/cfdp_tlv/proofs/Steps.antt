@@ -4,7 +4,7 @@ use Rattle.cfdp_tlv.specs.declared.fault.TlvFault.{TlvFault}
 use Rattle.std.specs.Prelude.{◌⊎◌}
 use Rattle.std.proofs.Common.{inl, inr}
 use Rattle.cfdp_tlv.specs.Reading.{◌>>=◌, Gives}
-use Rattle.cfdp_tlv.specs.Grammar.{whole, known}
+use Rattle.cfdp_tlv.specs.Grammar.{all_read, known}
 
 -- both steps gave a value
 pub bind_ok : {A B F : Type 0} (read : Result A F) (next : A → Result B F) (y : B) → (read >>= next) ≡ Ok y → (x : A) × (read ≡ Ok x) × (next x ≡ Ok y)
@@ -22,7 +22,7 @@ done x = Ok x
 pub ok_is : {A : Type 0} (x y : A) → done x ≡ done y → x ≡ y
 ok_is x y e = cc
 
-pub whole_ok : {A : Type 0} (value : A) (octets : List ℕ) (y : A) → whole value octets ≡ Ok y → (octets ≡ []) × (value ≡ y)
+pub whole_ok : {A : Type 0} (value : A) (octets : List ℕ) (y : A) → all_read value octets ≡ Ok y → (octets ≡ []) × (value ≡ y)
 whole_ok value [] y e = (refl, cc)
 whole_ok value (octet ∷ octets) y e = absurd cc
 

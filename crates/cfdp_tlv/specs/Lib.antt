@@ -4,3 +4,4 @@ pub mod Values
 pub mod Grammar
 pub mod Equality
 pub mod Texts
+pub mod code

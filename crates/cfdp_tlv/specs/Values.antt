@@ -4,9 +4,7 @@
 --   ResponseFields   a status, the names of the request, and a filestore message
 --   IsRequest        the second name is there exactly where the action has one
 --   IsResponse       the second name is there exactly where the status's action has one
---   second_of        the second name of an action that has one
---   or_empty         the octets of a second name, none where there is no name
-use Rattle.std.specs.Prelude.{◌≡◌, ℕ, List, [], Option, Some, None, is_some, if◌then◌else◌}
+use Rattle.std.specs.Prelude.{◌≡◌, ℕ, List, Option, is_some}
 use Rattle.cfdp_status.specs.Codes.{has_second, action_of}
 use Rattle.cfdp_status.specs.declared.action.Action.{Action}
 use Rattle.cfdp_status.specs.declared.status.Status.{Status}
@@ -27,10 +25,3 @@ IsRequest request = is_some request.second ≡ has_second request.action
 
 abbrev pub IsResponse : ResponseFields → Type 0
 IsResponse response = is_some response.second ≡ has_second (action_of response.status)
-
-abbrev pub second_of : Action → List ℕ → Option (List ℕ)
-second_of action name = if has_second action then Some name else None
-
-abbrev pub or_empty : Option (List ℕ) → List ℕ
-or_empty None = []
-or_empty (Some name) = name

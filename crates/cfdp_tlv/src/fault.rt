@@ -26,9 +26,9 @@ pub enum TlvFault {
 
 impl fmt::Display for TlvFault {
     ghost use Rattle.std.specs.Prelude.{Some};
-    ghost use Rattle.cfdp_tlv.specs.Texts.{text_of};
+    ghost use Rattle.cfdp_tlv.specs.Texts.{tlv_fault_text};
 
-    ghost output = { λ fault. Some (text_of fault) };
+    ghost output = { λ fault. Some (tlv_fault_text fault) };
 
     fn fmt<W: fmt::Write>(&self, f: &mut fmt::Formatter<W>) -> fmt::Result {
         f.write_str(match self {

@@ -4,7 +4,7 @@ ghost use Rattle.std.specs.Prelude.{◌≡◌, ◌++◌, option_map, is_some, If
 ghost use Rattle.cfdp_status.specs.Codes.{has_second};
 ghost use Rattle.cfdp_tlv.specs.Reading.{Answers};
 ghost use Rattle.cfdp_tlv.specs.Grammar.{second_at};
-ghost use Rattle.cfdp_tlv.specs.Values.{or_empty};
+ghost use Rattle.cfdp_tlv.specs.code.Values.{or_empty};
 
 use crate::{TlvFault, read_lv};
 use cfdp_status::Action;

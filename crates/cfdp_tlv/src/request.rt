@@ -33,7 +33,8 @@ pub struct FilestoreRequest {
 
 impl Model for FilestoreRequest {
     ghost use Rattle.std.specs.Prelude.{◌≤◌, length, take, drop};
-    ghost use Rattle.cfdp_tlv.specs.Values.{RequestFields, second_of};
+    ghost use Rattle.cfdp_tlv.specs.Values.{RequestFields};
+    ghost use Rattle.cfdp_tlv.specs.code.Values.{second_of};
 
     ghost Value = { RequestFields };
 
@@ -75,7 +76,8 @@ impl<'a> Model for RequestParts<'a> {
 }
 
 impl PartialEq for FilestoreRequest {
-    ghost use Rattle.cfdp_tlv.specs.Equality.{same_request, requests_per};
+    ghost use Rattle.cfdp_tlv.specs.Equality.{same_request};
+    ghost use Rattle.cfdp_tlv.specs.code.Equality.{requests_per};
 
     ghost eq = { same_request };
 
@@ -89,7 +91,7 @@ impl PartialEq for FilestoreRequest {
 }
 
 impl Eq for FilestoreRequest {
-    ghost use Rattle.cfdp_tlv.specs.Equality.{requests_equiv};
+    ghost use Rattle.cfdp_tlv.specs.code.Equality.{requests_equiv};
 
     ghost laws = { requests_equiv };
 }

@@ -5,7 +5,8 @@ ghost use Rattle.std.specs.Vec.{vec_capacity};
 ghost use Rattle.cfdp_tlv.specs.Reading.{Gives};
 ghost use Rattle.cfdp_tlv.specs.Field.{tlv};
 ghost use Rattle.cfdp_status.specs.Codes.{has_second, action_of};
-ghost use Rattle.cfdp_tlv.specs.Values.{ResponseFields, IsResponse, second_of};
+ghost use Rattle.cfdp_tlv.specs.Values.{ResponseFields, IsResponse};
+ghost use Rattle.cfdp_tlv.specs.code.Values.{second_of};
 ghost use Rattle.cfdp_tlv.specs.Grammar.{SpellsResponse, response_at, response_octets};
 ghost use Rattle.cfdp_tlv.specs.Equality.{same_names};
 ghost use Rattle.cfdp_tlv.specs.declared.fault.TlvFault.TheVariants.{Memory, TooLong};
@@ -34,7 +35,8 @@ pub struct FilestoreResponse {
 impl Model for FilestoreResponse {
     ghost use Rattle.std.specs.Prelude.{◌≤◌, length, take, drop};
     ghost use Rattle.cfdp_status.specs.Codes.{action_of};
-    ghost use Rattle.cfdp_tlv.specs.Values.{ResponseFields, second_of};
+    ghost use Rattle.cfdp_tlv.specs.Values.{ResponseFields};
+    ghost use Rattle.cfdp_tlv.specs.code.Values.{second_of};
 
     ghost Value = { ResponseFields };
 
@@ -80,7 +82,8 @@ impl<'a> Model for ResponseParts<'a> {
 }
 
 impl PartialEq for FilestoreResponse {
-    ghost use Rattle.cfdp_tlv.specs.Equality.{same_response, responses_per};
+    ghost use Rattle.cfdp_tlv.specs.Equality.{same_response};
+    ghost use Rattle.cfdp_tlv.specs.code.Equality.{responses_per};
 
     ghost eq = { same_response };
 
@@ -102,7 +105,7 @@ fn have_same_names(a: &FilestoreResponse, b: &FilestoreResponse) -> bool
 }
 
 impl Eq for FilestoreResponse {
-    ghost use Rattle.cfdp_tlv.specs.Equality.{responses_equiv};
+    ghost use Rattle.cfdp_tlv.specs.code.Equality.{responses_equiv};
 
     ghost laws = { responses_equiv };
 }

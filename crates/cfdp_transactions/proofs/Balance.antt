@@ -2,22 +2,23 @@
 use Rattle.std.proofs.Common.{◌≡◌, ℕ, ◌+◌, ◌≤◌, arith}
 use Rattle.std.specs.Prelude.{ℤ, pos, negsuc, ◌-ℤ◌, ◌≤ℤ◌}
 use Rattle.std.proofs.lemmas.Int.{ints}
-use Rattle.cfdp_transactions.specs.Entry.{spend, left_of}
+use Rattle.cfdp_transactions.specs.Entry.{spend, blocks_left}
 
-pub left_is : (g : ℕ) (s : ℤ) → s ≤ℤ pos g → pos (left_of g s) ≡ pos g -ℤ s
+pub left_is : (g : ℕ) (s : ℤ) → s ≤ℤ pos g → pos (blocks_left g s) ≡ pos g -ℤ s
 left_is g (pos n) h = omega (arith, ints)
 left_is g (negsuc n) h = omega (arith, ints)
 
-pub spend_within : (g : ℕ) (s : ℤ) (taken given : ℕ) → s ≤ℤ pos g → taken ≤ left_of g s + given → spend s taken given ≤ℤ pos g
+pub spend_within : (g : ℕ) (s : ℤ) (taken given : ℕ) → s ≤ℤ pos g → taken ≤ blocks_left g s + given → spend s taken given ≤ℤ pos g
 spend_within g s taken given h room = let l = left_is g s h in omega (arith, ints)
 
-pub left-spend : (g : ℕ) (s : ℤ) (taken given : ℕ) → s ≤ℤ pos g → taken ≤ left_of g s + given → left_of g (spend s taken given) + taken ≡ left_of g s + given
+pub left-spend : (g : ℕ) (s : ℤ) (taken given : ℕ) → s ≤ℤ pos g → taken ≤ blocks_left g s + given → blocks_left g (spend s taken given) + taken
+    ≡ blocks_left g s + given
 left-spend g s taken given h room =
     let l = left_is g s h in
     let r = left_is g (spend s taken given) (spend_within g s taken given h room) in
     omega (arith, ints)
 
-pub left-fresh : (g : ℕ) → left_of g (pos 0) ≡ g
+pub left-fresh : (g : ℕ) → blocks_left g (pos 0) ≡ g
 left-fresh g = omega arith
 
 pub fresh_within : (g : ℕ) → pos 0 ≤ℤ pos g

@@ -11,7 +11,7 @@ use Rattle.cfdp_verifier.specs.declared.refusal.Refusal.TheVariants.{TooManyRequ
 use Rattle.cfdp_verifier.specs.Verdict.{Proposal, Verdict, Refuse, Grant, verdict}
 use Rattle.cfdp_transactions.specs.Entry.{Phase, Receiving, Refused, Ended, Entry, has_file}
 use Rattle.cfdp_transactions.specs.Events.{Reply}
-use Rattle.cfdp_transactions.specs.World.{World, spare, leases_of, free_slot, bound}
+use Rattle.cfdp_transactions.specs.World.{World, spare_blocks, leases_of, free_slot, bound}
 
 abbrev pub new_entry : Header → MetadataFields → Phase → ℕ → List Item → ℕ → ℕ → Entry
 new_entry h m phase slot items blocks steps = record {
@@ -65,4 +65,5 @@ metadata_came W h m None =
     else if nat_lt 64 (length m.requests) then (W, Reply.Refused TooManyRequests)
     else if has_file m && not (is_known_checksum m.checksum_type)
     then (with_new W (refused_entry h m (Ended 11)), Reply.Faulted 11)
-    else judged W h m (verdict W.config.prefixes W.filestore (leases_of W.table) (spare W) (proposal_of W.config m))
+    else judged W h m (verdict W.config.prefixes W.filestore (leases_of W.table) (spare_blocks W)
+    (proposal_of W.config m))

@@ -9,7 +9,7 @@
 --     limit phase c e                   where octets may end
 --     stored, after_eof                 what follows once they are staged: in Awaiting they may have been the last
 --     data_came, data_at                file data;  for an entry that takes data
---     eof_came, eof_at                  the EOF;  without an error, for an entry in Receiving
+--     eof_came, eof_without_error       the EOF;  without an error, for an entry in Receiving
 --     checked, check_at                 a check;  of an entry by its phase
 use Rattle.std.specs.Prelude.{ℕ, ◌+◌, ◌-◌, min, Bool, true, not, ◌||◌, ◌==◌, if◌then◌else◌, nat_lt, nat_le, [], ◌∷◌, length, Option, Some, None}
 use Rattle.cfdp_actions.specs.Filestore.{Filestore, staged_in, blocks_of, Stages}
@@ -80,8 +80,8 @@ data_came W k piece (Some e) = if takes_data e.phase then data_at W k e piece el
 -- the EOF ------------------------------------------------------------------------
 
 -- of an entry in Receiving, with condition 0, no error
-abbrev pub eof_at : World → ℕ → Entry → Eof → World × Reply
-eof_at W k e eof =
+abbrev pub eof_without_error : World → ℕ → Entry → Eof → World × Reply
+eof_without_error W k e eof =
     if length e.items == 0 then (turns W k e Done e.eof true, Reply.Done)
     else if not (has_file e.metadata) then (turns W k e (Executing 0) e.eof true, Reply.Complete)
     else if nat_lt (bound W.config e.metadata) eof.size || nat_lt eof.size (length e.received)
@@ -98,7 +98,7 @@ eof_came W k eof (Some e) =
       Reply.Faulted eof.condition,
     )
     else if not (is_receiving e.phase) then (W, Reply.Duplicate)
-    else eof_at W k e eof
+    else eof_without_error W k e eof
 
 -- checks -------------------------------------------------------------------------
 

@@ -5,10 +5,10 @@
 --     Entry                     a transaction of the table
 --     id_of h, name_of e        its name: source entity ID and transaction sequence number
 --     has_file m                the Metadata has a destination
---     rest e, rest_in           the items that are left;  by the phase
+--     rest e, items_left        the items that are left;  by the phase
 --     footprint e               the paths that its items lease
 --     spend spent taken given   blocks spent, after more were taken and given back
---     left_of granted spent     the blocks granted less those spent
+--     blocks_left granted spent  the blocks granted less those spent
 --     reserve e                 these, while the entry is live, else 0
 --     awaited eof               the size that the EOF gave
 --     gaps e, gaps_in           the offsets that a NAK would ask for (lost segment procedures);  by the phase
@@ -78,14 +78,14 @@ name_of e = id_of e.header
 abbrev pub has_file : MetadataFields → Bool
 has_file m = if length m.destination_name == 0 then false else true
 
-abbrev pub rest_in : Phase → List Item → List Item
-rest_in Receiving items = items
-rest_in (Awaiting checks) items = items
-rest_in (Executing next) items = drop next items
-rest_in phase items = []
+abbrev pub items_left : Phase → List Item → List Item
+items_left Receiving items = items
+items_left (Awaiting checks) items = items
+items_left (Executing next) items = drop next items
+items_left phase items = []
 
 abbrev pub rest : Entry → List Item
-rest e = rest_in e.phase e.items
+rest e = items_left e.phase e.items
 
 abbrev pub footprint : Entry → Footprint
 footprint e = footprint_of e.items
@@ -93,12 +93,12 @@ footprint e = footprint_of e.items
 abbrev pub spend : ℤ → ℕ → ℕ → ℤ
 spend spent taken given = (spent +ℤ pos taken) -ℤ pos given
 
-abbrev pub left_of : ℕ → ℤ → ℕ
-left_of granted (pos spent) = granted - spent
-left_of granted (negsuc less) = granted + suc less
+abbrev pub blocks_left : ℕ → ℤ → ℕ
+blocks_left granted (pos spent) = granted - spent
+blocks_left granted (negsuc less) = granted + suc less
 
 abbrev pub reserve : Entry → ℕ
-reserve e = if is_live e.phase then left_of e.blocks_granted e.blocks_spent else 0
+reserve e = if is_live e.phase then blocks_left e.blocks_granted e.blocks_spent else 0
 
 abbrev pub awaited : Option Eof → ℕ
 awaited None = 0

@@ -1,4 +1,3 @@
-pub mod LowerLaws
 pub mod Config
 pub mod ConfigWords
 pub mod ConfigEquality
@@ -20,16 +19,11 @@ pub mod ReceivedLaws
 pub mod Pieces
 pub mod PieceLaws
 pub mod Needs
-pub mod Keeping
-pub mod Rows
-pub mod RowChanges
 pub mod Books
-pub mod Adding
-pub mod Items
-pub mod Taking
 pub mod Issuing
 pub mod Engine
 pub mod Beside
 pub mod Fitting
 pub mod Beginning
 pub mod Restart
+pub mod code

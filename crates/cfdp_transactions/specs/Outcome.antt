@@ -2,7 +2,7 @@
 --     condition_of              the condition code: 4, filestore rejection, for a list that was refused
 --     file_status_of            3 unreported (no file), 2 retained, 1 rejected by the filestore, 0 discarded
 --     responses_of              one response for each request, in order
---     fault_of                  the fault location: who is at fault
+--     fault_location_of         the fault location: who is at fault
 --     finished, outcome_of
 use Rattle.std.specs.Prelude.{ℕ, Bool, true, false, not, ◌||◌, ◌==◌, if◌then◌else◌, List, [], ◌∷◌, Option, Some, None}
 use Rattle.cfdp_status.specs.declared.status.Status.{Status}
@@ -39,8 +39,8 @@ responses_of (r ∷ rs) [] = answered r (NotPerformed r.action) ∷ responses_of
 responses_of (r ∷ rs) (s ∷ ss) = answered r s ∷ responses_of rs ss
 
 -- nobody, where the condition is 'no error' or 'unsupported checksum type'
-abbrev pub fault_of : Entry → Option ℕ
-fault_of e =
+abbrev pub fault_location_of : Entry → Option ℕ
+fault_location_of e =
     if (condition_of e.phase == 0) || (condition_of e.phase == 11) then None
     else if e.ended_by_eof then Some e.header.source
     else Some e.header.destination
@@ -51,7 +51,7 @@ finished e = record {
   incomplete = not e.complete;
   file_status = file_status_of e;
   responses = responses_of e.metadata.requests e.statuses;
-  fault = fault_of e;
+  fault = fault_location_of e;
 }
 
 -- in unacknowledged mode it is sent where closure was requested

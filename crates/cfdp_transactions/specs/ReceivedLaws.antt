@@ -12,13 +12,13 @@ use Rattle.cfdp_transactions.specs.Received.{Received, kept_with, brought, piece
 abbrev pub octet_at : Received → ℕ → Option ℕ
 octet_at rs i = slice_index_or rs i None
 
-abbrev pub or_else : Option ℕ → Option ℕ → Option ℕ
-or_else None later = later
-or_else (Some x) later = Some x
+abbrev pub or_offset : Option ℕ → Option ℕ → Option ℕ
+or_offset None later = later
+or_offset (Some x) later = Some x
 
 abbrev pub FirstStays : Type 0
 FirstStays = (rs : Received) (at : ℕ) (octets : List ℕ) (i : ℕ) → octet_at (kept_with rs at octets) i
-    ≡ or_else (octet_at rs i) (brought at octets i)
+    ≡ or_offset (octet_at rs i) (brought at octets i)
 
 abbrev pub GreatestEnd : Type 0
 GreatestEnd = (rs : Received) (at : ℕ) (x : ℕ) (xs : List ℕ) → length (kept_with rs at (x ∷ xs))

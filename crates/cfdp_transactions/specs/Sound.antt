@@ -27,7 +27,7 @@ use Rattle.cfdp_states.specs.Alone.{Succeed, stage, need_with, steps_with}
 use Rattle.cfdp_tlv.specs.Values.{RequestFields}
 use Rattle.cfdp_transactions.specs.Config.{Config}
 use Rattle.cfdp_transactions.specs.Received.{staged_of, pieces}
-use Rattle.cfdp_transactions.specs.Entry.{Phase, Receiving, Awaiting, Refused, Ended, is_live, is_receiving, is_awaiting, Entry, name_of, rest, footprint, left_of, awaited}
+use Rattle.cfdp_transactions.specs.Entry.{Phase, Receiving, Awaiting, Refused, Ended, is_live, is_receiving, is_awaiting, Entry, name_of, rest, footprint, blocks_left, awaited}
 use Rattle.cfdp_transactions.specs.World.{World, reserves, bound}
 
 abbrev pub Each : (Entry → Type 0) → List Entry → Type 0
@@ -49,7 +49,7 @@ longest c e = longest_in e.phase c e
 
 pub record Promise (c : Config) (F : Filestore) (e : Entry) : Type 0 where
   pub succeeds : Succeed c.prefixes (stage F e.slot (longest c e)) e.slot (rest e)
-  pub blocks : need_with c.prefixes F e.slot (longest c e) (rest e) ≤ left_of e.blocks_granted e.blocks_spent
+  pub blocks : need_with c.prefixes F e.slot (longest c e) (rest e) ≤ blocks_left e.blocks_granted e.blocks_spent
   pub steps : steps_with c.prefixes F e.slot (longest c e) (rest e) + e.steps_spent ≤ e.steps_granted
 
 abbrev pub is_next_install : List Item → Bool
@@ -136,4 +136,4 @@ pub record Sound (W : World) : Type 0 where
   -- what was granted and is not spent, never less than 0 by `honest`, fits into the free blocks
   pub room : blocks W.filestore + reserves W.table ≤ W.config.blocks
   -- no more blocks given back than there are
-  pub given : Each (λ e. left_of e.blocks_granted e.blocks_spent ≤ W.config.blocks) W.table
+  pub given : Each (λ e. blocks_left e.blocks_granted e.blocks_spent ≤ W.config.blocks) W.table

@@ -1,6 +1,6 @@
 -- The receiving entity: its configuration, its filestore, and its table of transactions in order of admission.
 --     World, start c            the filestore is empty and no transaction is known
---     free, reserves, spare     free blocks;  the live transactions' reserves;  the blocks that nobody was granted
+--     free, reserves, spare_blocks  free blocks;  the live transactions' reserves;  the blocks that nobody was granted
 --     place_of, index_of, entry_of      where a transaction is in the table, and its entry
 --     leases_of                 the live transactions' footprints
 --     has_slot, slot_from       a live transaction has the slot;  the least from a slot on, of this many, that none has
@@ -34,8 +34,8 @@ abbrev pub reserves : List Entry → ℕ
 reserves [] = 0
 reserves (e ∷ es) = reserve e + reserves es
 
-abbrev pub spare : World → ℕ
-spare W = free W - reserves W.table
+abbrev pub spare_blocks : World → ℕ
+spare_blocks W = free W - reserves W.table
 
 -- the table's length where it is not there
 abbrev pub place_of : TransactionId → List Entry → ℕ

@@ -7,12 +7,12 @@ ghost use Rattle.cfdp_quota.specs.Budget.{IsOpen, spare};
 ghost use Rattle.cfdp_transactions.specs.Entry.{Receiving, id_of, has_file, is_live};
 ghost use Rattle.cfdp_transactions.specs.World.{bound, free_slot};
 ghost use Rattle.cfdp_transactions.specs.Sound.{Sound};
-ghost use Rattle.cfdp_transactions.specs.Adding.{AddsEntry, IsRuled};
+ghost use Rattle.cfdp_transactions.specs.code.Adding.{AddsEntry, IsRuled};
 ghost use Rattle.cfdp_transactions.specs.Admission.{is_known_checksum, metadata_came, new_entry, proposal_of, refused_entry};
-ghost use Rattle.cfdp_verifier.specs.Answers.{answered, granted_items, HasFootprint};
+ghost use Rattle.cfdp_verifier.specs.Answers.{verdict_said, granted_items, HasFootprint};
 ghost use Rattle.cfdp_verifier.specs.Verdict.{verdict};
-ghost use Rattle.cfdp_transactions.specs.Books.{Carries, IsBooked, world_of};
-ghost use Rattle.cfdp_transactions.specs.Rows.{row_place};
+ghost use Rattle.cfdp_transactions.specs.code.Books.{Carries, IsBooked, world_of};
+ghost use Rattle.cfdp_transactions.specs.code.TableEntries.{kept_place};
 
 use crate::books::Books;
 use crate::conditions::UNSUPPORTED_CHECKSUM_TYPE;
@@ -74,7 +74,7 @@ pub(crate) fn record<S: Filestore>(
 ) -> Reply
     requires sound { Sound (world_of (S.state store.now) books.old) }
     requires booked { IsBooked (S.state store.now) books.old }
-    requires absent { row_place (id_of header.now) books.old.table ≡ length books.old.table }
+    requires absent { kept_place (id_of header.now) books.old.table ≡ length books.old.table }
     requires few { length books.old.table < 64 }
     requires short { length metadata.requests ≤ 64 }
     requires ruled { IsRuled (world_of (S.state store.now) books.old) metadata ruling }
@@ -141,7 +141,7 @@ fn judge_list<S: Filestore>(
     books: &Books,
     metadata: &Metadata,
 ) -> Result<Verdict, Memory>
-    ensures verdict { IfOk result (λ answer. answered answer
+    ensures verdict { IfOk result (λ answer. verdict_said answer
         ≡ verdict books.now.config.prefixes (S.state store.now).filestore
         books.now.leases (spare books.now.quota) (proposal_of books.now.config metadata.now)) }
     ensures footprint { IfOk result HasFootprint }
@@ -176,7 +176,7 @@ fn add_final<S: Filestore>(
     phase: Phase,
 ) -> Result<(), Memory>
     requires booked { IsBooked (S.state store.now) books.old }
-    requires absent { row_place (id_of header.now) books.old.table ≡ length books.old.table }
+    requires absent { kept_place (id_of header.now) books.old.table ≡ length books.old.table }
     requires over { IsFalse (is_live phase) }
     ensures adds { OnOk result (AddsEntry (world_of (S.state store.now) books.old)
         (world_of (S.state store.now) books.new)
@@ -200,7 +200,7 @@ fn add_granted<S: Filestore>(
 ) -> Result<(), Memory>
     requires sound { Sound (world_of (S.state store.now) books.old) }
     requires booked { IsBooked (S.state store.now) books.old }
-    requires absent { row_place (id_of header.now) books.old.table ≡ length books.old.table }
+    requires absent { kept_place (id_of header.now) books.old.table ≡ length books.old.table }
     requires few { length books.old.table < 64 }
     requires footprint { grant.footprint ≡ footprint_of (granted_items grant) }
     requires apart { first_conflict books.old.leases grant.footprint ≡ None }

@@ -1,9 +1,10 @@
 //! The configuration of a receiving entity.
 
 ghost use Rattle.std.specs.Prelude.{◌≡◌, Some, None, IfErr, IfOk, OnOk};
-ghost use Rattle.cfdp_transactions.specs.Config.{first_fault};
-ghost use Rattle.cfdp_transactions.specs.ConfigEquality.{config_equiv, config_per, same_config, same_counts, same_store};
-ghost use Rattle.cfdp_transactions.specs.ConfigWords.{words_of};
+ghost use Rattle.cfdp_transactions.specs.Config.{config_fault};
+ghost use Rattle.cfdp_transactions.specs.ConfigEquality.{same_config, same_counts, same_store};
+ghost use Rattle.cfdp_transactions.specs.code.ConfigEquality.{config_equiv, config_per};
+ghost use Rattle.cfdp_transactions.specs.ConfigWords.{config_fault_text};
 
 use cfdp_actions::Protected;
 use std::error::Error;
@@ -37,7 +38,7 @@ impl Model for Config {
       prefixes = c.protected;
     } };
 
-    ghost invariant = { λ c. words.first_fault c.blocks c.cap c.checks c.journal ≡ None };
+    ghost invariant = { λ c. words.config_fault c.blocks c.cap c.checks c.journal ≡ None };
 }
 
 /// Two are equal where each value of one is that of the other. A comparison takes no memory.
@@ -87,7 +88,7 @@ pub enum ConfigFault {
 impl ConfigFault {
     /// The fault in words.
     fn words(self) -> &'static str
-        ensures { result.now ≡ words_of self }
+        ensures { result.now ≡ config_fault_text self }
     {
         match self {
             ConfigFault::BadBlocks => "the filestore must have 16 to 65536 blocks",
@@ -99,7 +100,7 @@ impl ConfigFault {
 }
 
 impl fmt::Display for ConfigFault {
-    ghost output = { λ fault. Some (words_of fault) };
+    ghost output = { λ fault. Some (config_fault_text fault) };
 
     fn fmt<W: fmt::Write>(&self, f: &mut fmt::Formatter<W>) -> fmt::Result {
         f.write_str(self.words())
@@ -132,8 +133,8 @@ impl Config {
           journal = journal;
           prefixes = protected;
         }) }
-        ensures ok { OnOk result (first_fault blocks cap checks journal ≡ None) }
-        ensures err { IfErr result (λ fault. first_fault blocks cap checks journal ≡ Some fault) }
+        ensures ok { OnOk result (config_fault blocks cap checks journal ≡ None) }
+        ensures err { IfErr result (λ fault. config_fault blocks cap checks journal ≡ Some fault) }
     {
         if blocks < 16 || 65_536 < blocks {
             return Err(ConfigFault::BadBlocks);
@@ -167,7 +168,7 @@ impl Config {
     /// The blocks of the filestore, 16 to 65,536.
     pub fn blocks(&self) -> u32
         ensures value { result ≡ self.now.blocks }
-        ensures limits { first_fault self.now.blocks self.now.cap self.now.checks self.now.journal ≡ None }
+        ensures limits { config_fault self.now.blocks self.now.cap self.now.checks self.now.journal ≡ None }
     {
         self.blocks
     }
@@ -182,7 +183,7 @@ impl Config {
     /// How often a check timer may expire, 1 to 1,000 times.
     pub fn checks(&self) -> u32
         ensures value { result ≡ self.now.checks }
-        ensures limits { first_fault self.now.blocks self.now.cap self.now.checks self.now.journal ≡ None }
+        ensures limits { config_fault self.now.blocks self.now.cap self.now.checks self.now.journal ≡ None }
     {
         self.checks
     }
@@ -190,7 +191,7 @@ impl Config {
     /// How many entries the journal has room for, 16 to 1,000,000.
     pub fn journal(&self) -> u32
         ensures value { result ≡ self.now.journal }
-        ensures limits { first_fault self.now.blocks self.now.cap self.now.checks self.now.journal ≡ None }
+        ensures limits { config_fault self.now.blocks self.now.cap self.now.checks self.now.journal ≡ None }
     {
         self.journal
     }

@@ -7,13 +7,14 @@ ghost use Rattle.cfdp_transactions.specs.Entry.{Entry as Transaction};
 ghost use Rattle.cfdp_transactions.specs.World.{bound};
 ghost use Rattle.cfdp_transactions.specs.Sound.{Sound};
 ghost use Rattle.cfdp_transactions.specs.Delivery.{eof_came, whole};
-ghost use Rattle.cfdp_transactions.specs.Books.{AnswersAt, IsAnswered, IsBooked, IsLiveAt, IsSteady, world_of};
+ghost use Rattle.cfdp_transactions.specs.Books.{IsAnswered};
+ghost use Rattle.cfdp_transactions.specs.code.Books.{AnswersAt, IsBooked, IsLiveAt, IsSteady, world_of};
 
 use crate::admission::{NULL_CHECKSUM, bound_of, names_file};
 use crate::books::Books;
-use crate::closing::{end, finish, turn};
 use crate::conditions::{FILE_CHECKSUM_FAILURE, FILE_SIZE_ERROR, NO_ERROR};
 use crate::entry::Entry;
+use crate::phase_changes::{end, finish, turn};
 use crate::{Config, Phase, Reply};
 use cfdp_actions::Filestore;
 use cfdp_pdus::Eof;

@@ -2,11 +2,12 @@
 
 ghost use Rattle.std.specs.Prelude.{◌≡◌, false, suc, if◌then◌else◌, ◌+◌, ◌≤◌, ◌<◌, pos, negsuc, ◌≤ℤ◌, ◌==◌, Some, length, map, option_map, slice_get, vec_len};
 ghost use Rattle.cfdp_actions.specs.Actions.{Perform};
-ghost use Rattle.cfdp_transactions.specs.Items.{item_of};
+ghost use Rattle.cfdp_transactions.specs.code.Items.{item_of};
 ghost use Rattle.cfdp_leases.specs.Items.{items_of};
 ghost use Rattle.cfdp_transactions.specs.Entry.{Done, Executing, awaited};
-ghost use Rattle.cfdp_transactions.specs.Pieces.{is_all, with_range};
-ghost use Rattle.cfdp_transactions.specs.Rows.{fresh_row, row_ended, row_gaps, row_name, row_stepped, row_stored, row_turned, row_progress, row_reach};
+ghost use Rattle.cfdp_transactions.specs.Pieces.{with_range};
+ghost use Rattle.cfdp_transactions.specs.code.Pieces.{is_all};
+ghost use Rattle.cfdp_transactions.specs.code.TableEntries.{fresh_entry, entry_ended, kept_gaps, kept_name, entry_stepped, entry_stored, entry_turned, kept_progress, kept_reach};
 
 use crate::Phase;
 use crate::event::transaction_of;
@@ -45,9 +46,9 @@ pub(crate) struct Entry {
 impl Model for Entry {
     ghost use Rattle.std.specs.Prelude.{◌<◌, ◌^◌};
     ghost use Rattle.cfdp_leases.specs.Items.{items_of};
-    ghost use Rattle.cfdp_transactions.specs.Rows as words;
+    ghost use Rattle.cfdp_transactions.specs.code.TableEntries as words;
 
-    ghost Value = { words.Row };
+    ghost Value = { words.TableEntry };
 
     ghost view = { λ e. record {
       header = e.header;
@@ -82,7 +83,7 @@ impl Entry {
         blocks: u32,
         steps: u32,
     ) -> Entry
-        ensures { result ≡ fresh_row header metadata phase slot (items_of destination requests.items) blocks steps }
+        ensures { result ≡ fresh_entry header metadata phase slot (items_of destination requests.items) blocks steps }
     {
         Entry {
             header,
@@ -105,7 +106,7 @@ impl Entry {
 
     /// Its name.
     pub(crate) fn name(&self) -> TransactionId
-        ensures { result ≡ row_name self.now }
+        ensures { result ≡ kept_name self.now }
     {
         transaction_of(&self.header)
     }
@@ -220,7 +221,7 @@ impl Entry {
 
     /// What is missing between the octets of its file, and once its EOF PDU came up to the size that it gave.
     pub(crate) fn gaps(&self) -> ArrayVec<Range, MOST_GAPS>
-        ensures { result.items ≡ row_gaps self.now }
+        ensures { result.items ≡ kept_gaps self.now }
     {
         match self.phase {
             Phase::Receiving => self.ranges.gaps(self.ranges.end()),
@@ -231,7 +232,7 @@ impl Entry {
 
     /// The end of the last octet of its file that is kept.
     pub(crate) fn progress(&self) -> u64
-        ensures { result ≡ row_progress self.now }
+        ensures { result ≡ kept_progress self.now }
     {
         if self.phase.is_live() {
             self.ranges.end()
@@ -242,7 +243,7 @@ impl Entry {
 
     /// The offset up to which its gaps say what is missing.
     pub(crate) fn reach(&self) -> u64
-        ensures { result ≡ row_reach self.now }
+        ensures { result ≡ kept_reach self.now }
     {
         match self.phase {
             Phase::Receiving => self.ranges.end(),
@@ -269,7 +270,7 @@ impl Entry {
     pub(crate) fn end(&mut self, condition: u8, by_eof: bool, given: u32)
         requires least { negsuc 65535 ≤ℤ self.old.blocks_spent }
         requires most { self.old.blocks_spent ≤ℤ pos 65536 }
-        ensures { self.new ≡ row_ended self.old condition by_eof given }
+        ensures { self.new ≡ entry_ended self.old condition by_eof given }
     {
         self.phase = Phase::Ended(condition);
         self.ended_by_eof |= by_eof;
@@ -317,7 +318,7 @@ impl Entry {
         requires steps { self.old.steps_spent + (1 + ticks) ≤ self.old.steps_granted }
         requires least { negsuc 65535 ≤ℤ self.old.blocks_spent }
         requires most { self.old.blocks_spent ≤ℤ pos 65536 }
-        ensures { self.new ≡ row_stepped self.old next last install before after ticks }
+        ensures { self.new ≡ entry_stepped self.old next last install before after ticks }
     {
         self.phase = phase_behind(next, last);
         self.installed |= install;
@@ -333,7 +334,7 @@ impl Entry {
         requires room { length (with_range start end self.old.ranges) ≤ 32 }
         requires least { negsuc 65535 ≤ℤ self.old.blocks_spent }
         requires most { self.old.blocks_spent ≤ℤ pos 65536 }
-        ensures { self.new ≡ row_stored self.old start end taken }
+        ensures { self.new ≡ entry_stored self.old start end taken }
     {
         self.ranges.insert(start, end);
         self.blocks_spent += i64::from(taken);
@@ -341,7 +342,7 @@ impl Entry {
 
     /// It moves to another phase.
     pub(crate) fn turn(&mut self, phase: Phase, eof: Option<Eof>, complete: bool)
-        ensures { self.new ≡ row_turned self.old phase eof complete }
+        ensures { self.new ≡ entry_turned self.old phase eof complete }
     {
         self.phase = phase;
         self.eof = eof;

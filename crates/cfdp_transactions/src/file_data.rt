@@ -1,21 +1,27 @@
 //! File data that comes for a transaction (CCSDS 727.0-B-5 §5.3, copy file procedures).
 
-ghost use Rattle.std.specs.Prelude.{◌≡◌, ◌+◌, ◌<◌, ◌^◌, IsTrue, IsOk, OnOk, OnErr, nat_lt, length, slice_get, Some};
-ghost use Rattle.cfdp_actions.specs.Filestore.{Filestore as Files};
+ghost use Rattle.std.specs.Prelude.{◌≡◌, ◌+◌, ◌<◌, ◌^◌, IsTrue, IsOk, OnOk, OnErr, nat_lt, length, slice_get, Some, ◌-◌, ◌≤◌, max, IfOk, [], ◌∷◌};
+ghost use Rattle.cfdp_actions.specs.Filestore.{Filestore as Files, staged_in, blocks_of, Stages};
 ghost use Rattle.cfdp_transactions.specs.Entry.{Entry as Transaction};
 ghost use Rattle.cfdp_transactions.specs.Sound.{Sound};
-ghost use Rattle.cfdp_transactions.specs.LowerLaws.{LowerLaws};
+ghost use Rattle.cfdp_transactions.specs.code.LowerLaws.{LowerLaws};
 ghost use Rattle.cfdp_transactions.specs.Delivery.{data_came, limit, stored};
-ghost use Rattle.cfdp_transactions.specs.Rows.{entry_in};
-ghost use Rattle.cfdp_transactions.specs.Books.{AnswersAt, IsAnswered, IsBooked, IsSteady, IsTakenAt, StoresAt, world_of};
+ghost use Rattle.cfdp_transactions.specs.code.TableEntries.{entry_in};
+ghost use Rattle.cfdp_transactions.specs.Books.{IsAnswered};
+ghost use Rattle.cfdp_transactions.specs.code.Books.{AnswersAt, IsBooked, IsSteady, IsTakenAt, StoresAt, world_of};
+ghost use Rattle.cfdp_actions.specs.Store.{free_blocks, with_changes};
+ghost use Rattle.cfdp_transactions.specs.code.Keeping.{PutsOctets, kept};
+ghost use Rattle.cfdp_transactions.specs.PieceLaws.{ArePieces};
+ghost use Rattle.cfdp_transactions.specs.Pieces.{received_in, with_range};
+ghost use Rattle.cfdp_transactions.specs.Received.{staged_of};
 
 use crate::admission::bound_of;
 use crate::books::Books;
-use crate::closing::end;
 use crate::conditions::FILE_SIZE_ERROR;
 use crate::delivery::judge;
 use crate::entry::Entry;
-use crate::keeping::keep;
+use crate::phase_changes::end;
+use crate::ranges::Ranges;
 use crate::{Config, Phase, Reply};
 use cfdp_actions::Filestore;
 use cfdp_paths::Memory;
@@ -138,4 +144,63 @@ fn judge_last<S: Filestore>(store: &mut S, books: &mut Books, place: usize) -> R
         return Reply::Stored;
     }
     judge(store, books, place, eof.checksum)
+}
+
+/// Keeps octets that came at an offset: those that were received before stay, and the staged list reaches to the
+/// greatest end, with zeros where nothing was received. Returns the blocks that were taken. The ranges are those
+/// before: the caller adds the new one.
+///
+/// # Errors
+///
+/// Out of memory, where the store takes any: nothing has changed then. Cost: by the octets and the gaps that they
+/// fill.
+fn keep<S: Filestore>(
+    store: &mut S,
+    slot: u8,
+    ranges: &Ranges,
+    at: u64,
+    octets: &[u8],
+) -> Result<u32, Memory>
+    requires slot { slot < 64 }
+    requires some { 0 < length octets.now }
+    requires within { at + length octets.now < 2 ^ 64 }
+    requires pieces { ArePieces ranges.now (staged_in (S.state store.old).filestore slot) }
+    requires zeros { staged_of (received_in ranges.now (staged_in (S.state store.old).filestore slot))
+        ≡ staged_in (S.state store.old).filestore slot }
+    requires room { let size = length (staged_in (S.state store.old).filestore slot) in
+        blocks_of (max size (at + length octets.now)) - blocks_of size ≤ free_blocks (S.state store.old) }
+    ensures kept { OnOk result (S.state store.new ≡ with_changes (S.state store.old)
+        (Stages slot (staged_of (kept (S.state store.old).filestore slot ranges.now at octets.now)) ∷ [])) }
+    ensures ranges { OnOk result (received_in (with_range at (at + length octets.now) ranges.now)
+        (staged_in (S.state store.new).filestore slot)
+        ≡ kept (S.state store.old).filestore slot ranges.now at octets.now) }
+    ensures taken { IfOk result (λ taken. taken
+        ≡ blocks_of (length (kept (S.state store.old).filestore slot ranges.now at octets.now))
+        - blocks_of (length (staged_in (S.state store.old).filestore slot))) }
+    ensures err { OnErr result (S.state store.new ≡ S.state store.old) }
+    ensures thrifty { IsTrue (S.state store.old).takes_no_memory → IsOk result }
+{
+    let end = at + octets.len() as u64;
+    let size = store.staged_size(slot).max(end);
+    let taken = store.stage_extend(slot, size)?;
+    put_missing(store, slot, ranges, at, octets);
+    Ok(taken)
+}
+
+/// Puts the octets whose offsets are in none of the ranges into the file.
+fn put_missing<S: Filestore>(store: &mut S, slot: u8, ranges: &Ranges, at: u64, octets: &[u8])
+    requires slot { slot < 64 }
+    requires within { at + length octets.now < 2 ^ 64 }
+    requires there { at + length octets.now ≤ length (staged_in (S.state store.old).filestore slot) }
+    ensures { PutsOctets ranges.now at octets.now slot (S.state store.old) (S.state store.new)
+        (at + length octets.now) }
+{
+    let _ = store.staged_size(slot);
+    let end = at + octets.len() as u64;
+    let mut from = at;
+    'gaps: while let Some((start, stop)) = ranges.next_gap(from, end) {
+        let piece = &octets[(start - at) as usize..(stop - at) as usize];
+        store.stage_put(slot, start, piece);
+        from = stop;
+    }
 }

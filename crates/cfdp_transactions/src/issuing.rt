@@ -4,16 +4,16 @@ ghost use Rattle.std.specs.Prelude.{◌≡◌, ◌+◌, ◌<◌, ◌≤◌, ◌^
 ghost use Rattle.std.specs.List.{flat_map, list_all};
 ghost use Rattle.std.specs.Option.{ForSome};
 ghost use Rattle.cfdp_tlv.specs.Field.{lv};
-ghost use Rattle.cfdp_tlv.specs.Grammar.{names_of};
+ghost use Rattle.cfdp_tlv.specs.Grammar.{names_as_lv};
 ghost use Rattle.cfdp_pdus.specs.Canonical.{fault_location, finished_field, is_short_response, pdu_octets, response_field};
-ghost use Rattle.cfdp_pdus.specs.Placing.{filled, overwritten};
-ghost use Rattle.cfdp_transactions.specs.Issuing.{answered_with, responses_field, unperformed_field};
+ghost use Rattle.cfdp_pdus.specs.Placing.{filled, with_octets_at};
+ghost use Rattle.cfdp_transactions.specs.code.Issuing.{answered_with, responses_field, unperformed_field};
 ghost use Rattle.cfdp_transactions.specs.Outcome.{answered, responses_of};
-ghost use Rattle.cfdp_transactions.specs.Taking.{statuses_of};
+ghost use Rattle.cfdp_transactions.specs.code.Taking.{statuses_of};
 ghost use Rattle.cfdp_transactions.specs.Writable.{IsWritable, finished_octets};
 
 use crate::outcome::Outcome;
-use crate::taking::status_of;
+use crate::taken_outcome::status_of;
 use cfdp_pdus::directive::FINISHED;
 use cfdp_pdus::{header_len, put_header, put_number, put_octets};
 use cfdp_status::Status;
@@ -46,7 +46,7 @@ pub struct ShortBuffer {
 fn put_lv(out: &mut [u8], at: usize, value: &[u8]) -> usize
     requires short { length value.now < 256 }
     requires room { at + (length value.now + 1) ≤ length out.old }
-    ensures written { out.new ≡ overwritten out.old at (lv value.now) }
+    ensures written { out.new ≡ with_octets_at out.old at (lv value.now) }
     ensures end { result ≡ at + (length value.now + 1) }
 {
     put_octets(out, at, &[value.len() as u8]);
@@ -56,10 +56,10 @@ fn put_lv(out: &mut [u8], at: usize, value: &[u8]) -> usize
 
 /// Writes the names of a request as LV fields at an offset. Returns the offset after them.
 fn put_names(out: &mut [u8], at: usize, request: &FilestoreRequest) -> usize
-    requires short { length (names_of request.now.first request.now.second) < 256 }
-    requires room { at + length (names_of request.now.first request.now.second) ≤ length out.old }
-    ensures written { out.new ≡ overwritten out.old at (names_of request.now.first request.now.second) }
-    ensures end { result ≡ at + length (names_of request.now.first request.now.second) }
+    requires short { length (names_as_lv request.now.first request.now.second) < 256 }
+    requires room { at + length (names_as_lv request.now.first request.now.second) ≤ length out.old }
+    ensures written { out.new ≡ with_octets_at out.old at (names_as_lv request.now.first request.now.second) }
+    ensures end { result ≡ at + length (names_as_lv request.now.first request.now.second) }
 {
     let end = put_lv(out, at, request.first());
     match request.second() {
@@ -72,7 +72,7 @@ fn put_names(out: &mut [u8], at: usize, request: &FilestoreRequest) -> usize
 fn put_response(out: &mut [u8], at: usize, request: &FilestoreRequest, status: Status) -> usize
     requires short { is_short_response (answered request.now status) ≡ true }
     requires room { at + length (response_field (answered request.now status)) ≤ length out.old }
-    ensures written { out.new ≡ overwritten out.old at (response_field (answered request.now status)) }
+    ensures written { out.new ≡ with_octets_at out.old at (response_field (answered request.now status)) }
     ensures end { result ≡ at + length (response_field (answered request.now status)) }
 {
     let end = put_names(out, at + 3, request);
@@ -93,7 +93,7 @@ fn put_responses(
     requires short { list_all is_short_response (responses_of requests.now (statuses_of performed requests.now))
         ≡ true }
     requires room { at + length (responses_field requests.now performed) ≤ length out.old }
-    ensures written { out.new ≡ overwritten out.old at (responses_field requests.now performed) }
+    ensures written { out.new ≡ with_octets_at out.old at (responses_field requests.now performed) }
     ensures end { result ≡ at + length (responses_field requests.now performed) }
 {
     let mut end = at;
@@ -110,7 +110,7 @@ fn put_fault(out: &mut [u8], at: usize, fault: Option<u64>, id_len: u8) -> usize
     requires high { id_len ≤ 8 }
     requires sized { ForSome fault (λ entity. entity < 256 ^ id_len) }
     requires room { at + length (fault_location id_len fault) ≤ length out.old }
-    ensures written { out.new ≡ overwritten out.old at (fault_location id_len fault) }
+    ensures written { out.new ≡ with_octets_at out.old at (fault_location id_len fault) }
     ensures end { result ≡ at + length (fault_location id_len fault) }
 {
     match fault {

@@ -4,7 +4,7 @@ ghost use Rattle.std.specs.Prelude.{◌≡◌, ◌<◌, IsTrue, IsOk, IfOk, OnOk
 ghost use Rattle.cfdp_actions.specs.Actions.{act_item, succeeded, ticks};
 ghost use Rattle.cfdp_actions.specs.Store.{free_blocks, with_changes};
 ghost use Rattle.cfdp_transactions.specs.Execution.{is_install, replied};
-ghost use Rattle.cfdp_transactions.specs.Items.{item_of};
+ghost use Rattle.cfdp_transactions.specs.code.Items.{item_of};
 
 use crate::Reply;
 use cfdp_actions::{Filestore, Protected, Request, perform_allowed};

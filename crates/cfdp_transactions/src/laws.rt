@@ -1,7 +1,7 @@
 //! What is true of the definitions of the core, whatever the code does. Each function does nothing:
 //! its contract is the law.
 
-ghost use Rattle.cfdp_transactions.specs.LowerLaws.{LowerLaws};
+ghost use Rattle.cfdp_transactions.specs.code.LowerLaws.{LowerLaws};
 ghost use Rattle.cfdp_transactions.specs.Headline.{StartIsSound, NextIsSound, NextIsPromised, Headline};
 ghost use Rattle.cfdp_transactions.specs.Entries.{OnlyMetadataAdds, MetadataAddsItsOwn, OnlyTakeRemoves, TakeRemoves, TakeKeeps, OtherEntriesStay};
 ghost use Rattle.cfdp_transactions.specs.Needs.{StepNeeds, DataNeeds, TakeNeeds, FollowsIsSound, OnlyTakeHandsOut};

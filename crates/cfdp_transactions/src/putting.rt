@@ -5,7 +5,7 @@ ghost use Rattle.std.specs.Prelude.{◌≡◌, ◌≢◌, ◌≤◌, IsTrue, IsO
 ghost use Rattle.cfdp_actions.specs.Filestore.{Becomes, Directory, File, Node, node_at, parent_is_good, staged_in, weight};
 ghost use Rattle.cfdp_actions.specs.Store.{free_blocks, with_changes};
 ghost use Rattle.cfdp_transactions.specs.Beginning.{IsNotPut, Memory as NoMemory, put_fault, with_node};
-ghost use Rattle.cfdp_transactions.specs.Books.{IsBooked, IsSteady, world_of};
+ghost use Rattle.cfdp_transactions.specs.code.Books.{IsBooked, IsSteady, world_of};
 ghost use Rattle.cfdp_transactions.specs.Sound.{Sound};
 
 use crate::books::Books;

@@ -2,7 +2,8 @@
 
 ghost use Rattle.std.specs.Prelude.{◌≡◌, ◌+◌, ◌≤◌, ◌<◌, nat_le, nat_lt, if◌then◌else◌, List, [], ◌∷◌, ◌++◌, length, IfSome, IfNone, Some, None};
 ghost use Rattle.arrayvec.specs.ArrayVec.{array_vec_len};
-ghost use Rattle.cfdp_transactions.specs.Pieces.{Range, range, with_range, rest_of, count_of, between, is_all, end_of, IsNextGap, HasAll};
+ghost use Rattle.cfdp_transactions.specs.Pieces.{Range, range, with_range, between};
+ghost use Rattle.cfdp_transactions.specs.code.Pieces.{with_pending, pending_count, is_all, end_of, IsNextGap, HasAll};
 
 use arrayvec::ArrayVec;
 use std::marker::Model;
@@ -134,10 +135,11 @@ fn join_next(
     pending: Option<Range>,
     range: Range,
 ) -> Option<Range>
-    requires { array_vec_len joined.old + (count_of pending + 1) ≤ 33 }
-    ensures joined { (rest : List Range) → joined.new.items ++ rest_of result rest ≡ joined.old.items
-        ++ rest_of pending (range ∷ rest) }
-    ensures count { array_vec_len joined.new + count_of result ≤ array_vec_len joined.old + (count_of pending + 1) }
+    requires { array_vec_len joined.old + (pending_count pending + 1) ≤ 33 }
+    ensures joined { (rest : List Range) → joined.new.items ++ with_pending result rest ≡ joined.old.items
+        ++ with_pending pending (range ∷ rest) }
+    ensures count { array_vec_len joined.new + pending_count result ≤ array_vec_len joined.old +
+        (pending_count pending + 1) }
 {
     match pending {
         None => {

@@ -3,9 +3,10 @@
 ghost use Rattle.std.specs.Prelude.{◌≡◌, ◌+◌, ◌≤◌, ◌<◌, Some, IsTrue, length};
 ghost use Rattle.cfdp_quota.specs.Budget.{entry_at, reserve_at, used};
 ghost use Rattle.cfdp_transactions.specs.Sound.{Sound};
-ghost use Rattle.cfdp_transactions.specs.LowerLaws.{LowerLaws};
+ghost use Rattle.cfdp_transactions.specs.code.LowerLaws.{LowerLaws};
 ghost use Rattle.cfdp_transactions.specs.Execution.{stepped};
-ghost use Rattle.cfdp_transactions.specs.Books.{AnswersAt, IsAnswered, IsBooked, IsSteady, Settles, world_of};
+ghost use Rattle.cfdp_transactions.specs.Books.{IsAnswered};
+ghost use Rattle.cfdp_transactions.specs.code.Books.{AnswersAt, IsBooked, IsSteady, Settles, world_of};
 
 use crate::books::Books;
 use crate::item::act;
@@ -14,7 +15,7 @@ use cfdp_actions::Filestore;
 use cfdp_quota::Quota;
 
 /// The transaction in the slot took or gave back blocks: this many were free before, and this many are free now.
-pub(crate) fn settle(quota: &mut Quota, slot: u8, before: u32, after: u32)
+pub(crate) fn settle_quota(quota: &mut Quota, slot: u8, before: u32, after: u32)
     requires slot { slot < 64 }
     requires opened { entry_at quota.old slot ≡ Some (reserve_at quota.old slot) }
     requires unused { before ≡ quota.old.free }
@@ -57,7 +58,7 @@ pub(crate) fn step<S: Filestore>(store: &mut S, books: &mut Books, place: usize)
         return Reply::Memory;
     };
     let after = store.free();
-    settle(&mut books.quota, slot, before, after);
+    settle_quota(&mut books.quota, slot, before, after);
     books
         .table
         .advance(place, next, last, install, before, after, ticks);

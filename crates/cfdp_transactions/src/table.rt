@@ -2,8 +2,8 @@
 
 ghost use Rattle.std.specs.Prelude.{◌≡◌, ◌≤◌, ◌<◌, pos, negsuc, ◌≤ℤ◌, Some, None, [], IfSome, IfNone, IfOk, OnOk, OnErr, ◌∷◌, ◌++◌, length, map, slice_get, remove};
 ghost use Rattle.std.specs.Option.{option_copied};
-ghost use Rattle.cfdp_transactions.specs.Rows.{first_executing, first_over, row_name, row_place, row_ended, row_stepped, row_stored, row_turned};
-ghost use Rattle.cfdp_transactions.specs.RowChanges.{Becomes, CanAdvance, CanStore};
+ghost use Rattle.cfdp_transactions.specs.code.TableEntries.{first_executing, first_entry_over, kept_name, kept_place, entry_ended, entry_stepped, entry_stored, entry_turned};
+ghost use Rattle.cfdp_transactions.specs.code.TableChanges.{Becomes, CanAdvance, CanStore};
 
 use crate::Phase;
 use crate::entry::Entry;
@@ -25,10 +25,10 @@ pub(crate) struct Table {
 
 impl Model for Table {
     ghost use Rattle.std.specs.Prelude.{List, map};
-    ghost use Rattle.cfdp_transactions.specs.Rows as words;
-    ghost use Rattle.cfdp_transactions.specs.RowChanges.{AreNamed};
+    ghost use Rattle.cfdp_transactions.specs.code.TableEntries as words;
+    ghost use Rattle.cfdp_transactions.specs.code.TableChanges.{AreNamed};
 
-    ghost Value = { List words.Row };
+    ghost Value = { List words.TableEntry };
 
     ghost view = { λ t. map (λ e. e.1) t.entries.entries };
 
@@ -47,7 +47,7 @@ impl Table {
 
     /// A transaction, where it is there. Costs the same however many there are.
     pub(crate) fn get(&self, id: TransactionId) -> Option<&Entry>
-        ensures { option_copied result ≡ slice_get self.now (row_place id self.now) }
+        ensures { option_copied result ≡ slice_get self.now (kept_place id self.now) }
     {
         match self.find(id) {
             None => None,
@@ -70,7 +70,7 @@ impl Table {
 
     /// The first transaction that is over. Goes through them.
     pub(crate) fn next_outcome(&self) -> Option<TransactionId>
-        ensures { result ≡ first_over self.now }
+        ensures { result ≡ first_entry_over self.now }
     {
         for place in 0..self.len() {
             let entry = self.at(place);
@@ -83,7 +83,7 @@ impl Table {
 
     /// The name of the transaction at an index, if there is one.
     pub(crate) fn name_at(&self, place: usize) -> Option<TransactionId>
-        ensures { result ≡ slice_get (map row_name self.now) place }
+        ensures { result ≡ slice_get (map kept_name self.now) place }
     {
         if place < self.len() {
             Some(self.at(place).name())
@@ -101,9 +101,9 @@ impl Table {
 
     /// Where a transaction is. Costs the same however many there are.
     pub(crate) fn find(&self, id: TransactionId) -> Option<usize>
-        ensures found { IfSome result (λ place. place ≡ row_place id self.now) }
+        ensures found { IfSome result (λ place. place ≡ kept_place id self.now) }
         ensures within { IfSome result (λ place. place < length self.now) }
-        ensures absent { IfNone result (row_place id self.now ≡ length self.now) }
+        ensures absent { IfNone result (kept_place id self.now ≡ length self.now) }
     {
         self.entries.get_index_of(&id)
     }
@@ -121,7 +121,7 @@ impl Table {
         requires within { place < length self.old }
         requires least { IfSome (slice_get self.old place) (λ r. negsuc 65535 ≤ℤ r.blocks_spent) }
         requires most { IfSome (slice_get self.old place) (λ r. r.blocks_spent ≤ℤ pos 65536) }
-        ensures { Becomes self.old self.new place (λ r. row_ended r condition by_eof given) }
+        ensures { Becomes self.old self.new place (λ r. entry_ended r condition by_eof given) }
     {
         self.entries
             .get_index_mut(place)
@@ -132,7 +132,7 @@ impl Table {
     /// The transaction at an index moves to another phase.
     pub(crate) fn turn(&mut self, place: usize, phase: Phase, eof: Option<Eof>, complete: bool)
         requires { place < length self.old }
-        ensures { Becomes self.old self.new place (λ r. row_turned r phase eof complete) }
+        ensures { Becomes self.old self.new place (λ r. entry_turned r phase eof complete) }
     {
         self.entries
             .get_index_mut(place)
@@ -146,7 +146,7 @@ impl Table {
     ///
     /// Out of memory: nothing has changed then, and the entry is dropped.
     pub(crate) fn push(&mut self, entry: Entry) -> Result<(), Memory>
-        requires { row_place (row_name entry) self.old ≡ length self.old }
+        requires { kept_place (kept_name entry) self.old ≡ length self.old }
         ensures ok { OnOk result (self.new ≡ self.old ++ entry ∷ []) }
         ensures err { OnErr result (self.new ≡ self.old) }
     {
@@ -168,7 +168,7 @@ impl Table {
         requires within { place < length self.old }
         requires next { next < 255 }
         requires fits { IfSome (slice_get self.old place) (λ r. CanAdvance r install ticks) }
-        ensures { Becomes self.old self.new place (λ r. row_stepped r next last install before after ticks) }
+        ensures { Becomes self.old self.new place (λ r. entry_stepped r next last install before after ticks) }
     {
         self.entries
             .get_index_mut(place)
@@ -180,7 +180,7 @@ impl Table {
     pub(crate) fn store(&mut self, place: usize, start: u64, end: u64, taken: u32)
         requires within { place < length self.old }
         requires fits { IfSome (slice_get self.old place) (λ r. CanStore r start end) }
-        ensures { Becomes self.old self.new place (λ r. row_stored r start end taken) }
+        ensures { Becomes self.old self.new place (λ r. entry_stored r start end taken) }
     {
         self.entries
             .get_index_mut(place)

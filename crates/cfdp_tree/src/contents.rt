@@ -4,15 +4,15 @@ ghost use Rattle.cfdp_arena.specs.Arena.{free_count};
 ghost use Rattle.cfdp_actions.specs.Filestore.{blocks_of};
 ghost use Rattle.cfdp_actions.specs.Store.{extended, overwritten};
 ghost use Rattle.cfdp_checksum.specs.Checksum.{checksum_at};
-ghost use Rattle.cfdp_tree.specs.Nodes.{nodes_in};
-ghost use Rattle.cfdp_tree.specs.Runs.{IsAt, Apart, Spares, nth};
-ghost use Rattle.cfdp_tree.specs.Ways.{HasWays, KeepsWays};
-ghost use Rattle.cfdp_tree.specs.Contents.{IsFilled, contents_in};
-ghost use Rattle.cfdp_tree.specs.Kept.{contents_told, file_of};
-ghost use Rattle.cfdp_tree.specs.Row.{row_of, kind_told};
+ghost use Rattle.cfdp_tree.specs.code.Nodes.{nodes_in};
+ghost use Rattle.cfdp_tree.specs.code.Runs.{IsAt, Apart, Spares, nth};
+ghost use Rattle.cfdp_tree.specs.code.Ways.{HasWays, KeepsWays};
+ghost use Rattle.cfdp_tree.specs.code.Contents.{IsFilled, contents_in};
+ghost use Rattle.cfdp_tree.specs.code.Kept.{contents_told, file_of};
+ghost use Rattle.cfdp_tree.specs.code.NodeFields.{node_fields_of, kind_told};
 
 use crate::header::PAYLOAD_OCTETS;
-use crate::rows::{first_of, kind_of, last_of, size_of, sum_of};
+use crate::node_block::{first_of, kind_of, last_of, size_of, sum_of};
 use crate::runs::Run;
 use cfdp_actions::Kind;
 use cfdp_arena::{Arena, Block};
@@ -38,8 +38,8 @@ pub(crate) fn blocks_of(octets: u32) -> u32
 
 /// The octets of a file, by its node's block.
 pub(crate) fn contents_of(block: &Block) -> Contents
-    requires { (row_of block.now).size ≤ 7864320 }
-    ensures { result ≡ contents_told Kind.File (row_of block.now) }
+    requires { (node_fields_of block.now).size ≤ 7864320 }
+    ensures { result ≡ contents_told Kind.File (node_fields_of block.now) }
 {
     let size = size_of(block);
     Contents {
@@ -55,7 +55,7 @@ pub(crate) fn contents_of(block: &Block) -> Contents
 
 /// What a node holds, by its block: the octets of a file, and of a directory none.
 pub(crate) fn held_by(block: &Block) -> Contents
-    requires { kind_told (row_of block.now).kind ≡ Kind.File → (row_of block.now).size ≤ 7864320 }
+    requires { kind_told (node_fields_of block.now).kind ≡ Kind.File → (node_fields_of block.now).size ≤ 7864320 }
     ensures { result ≡ file_of block.now }
 {
     match kind_of(block) {

@@ -2,8 +2,8 @@
 ghost use Rattle.std.specs.Prelude.{◌≡◌, ℕ, ◌+◌, ◌*◌, ◌<◌, ◌≤◌, take, length, slice_range};
 ghost use Rattle.cfdp_arena.specs.Arena.{free_count};
 ghost use Rattle.cfdp_actions.specs.Store.{overwritten};
-ghost use Rattle.cfdp_tree.specs.Nodes.{nodes_in};
-ghost use Rattle.cfdp_tree.specs.Runs.{IsHeld, IsAt, OthersStay, KeepsFront, octets_in, nth};
+ghost use Rattle.cfdp_tree.specs.code.Nodes.{nodes_in};
+ghost use Rattle.cfdp_tree.specs.code.Runs.{IsHeld, IsAt, OtherRunsStay, KeepsFront, octets_of_run, nth};
 
 use crate::header::PAYLOAD_OCTETS;
 use crate::runs::Run;
@@ -31,13 +31,14 @@ impl Run {
         requires from_fits { from.now.at + len ≤ 120 }
         ensures held { IsHeld arena.new self.now }
         ensures octets { let start = 120 * from.now.cursor.index + from.now.at in
-            octets_in arena.new self.now ≡ overwritten (octets_in arena.old self.now)
-            (120 * to.now.cursor.index + to.now.at) (slice_range (octets_in arena.old source.now) start (start + len)) }
+            octets_of_run arena.new self.now ≡ overwritten (octets_of_run arena.old self.now)
+            (120 * to.now.cursor.index + to.now.at) (slice_range (octets_of_run arena.old source.now) start
+            (start + len)) }
         ensures places { (k : ℕ) → k ≤ self.now.count → nth arena.new self.now.first k
             ≡ nth arena.old self.now.first k }
         ensures free { free_count arena.new ≡ free_count arena.old }
         ensures size { length arena.new ≡ length arena.old }
-        ensures others { OthersStay arena.old arena.new self.now }
+        ensures others { OtherRunsStay arena.old arena.new self.now }
         ensures nodes { nodes_in arena.new ≡ nodes_in arena.old }
     {
         arena.copy_payload(from.cursor.block, from.at, to.cursor.block, to.at, len);
@@ -60,14 +61,14 @@ impl Run {
         requires some { 0 < count }
         ensures held { IsHeld arena.new self.now }
         ensures octets { let start = 120 * from.now.index in
-            octets_in arena.new self.now ≡ overwritten (octets_in arena.old self.now)
-            (120 * to.now.cursor.index + to.now.at) (slice_range (octets_in arena.old source.now) start (start
+            octets_of_run arena.new self.now ≡ overwritten (octets_of_run arena.old self.now)
+            (120 * to.now.cursor.index + to.now.at) (slice_range (octets_of_run arena.old source.now) start (start
             + count)) }
         ensures places { (k : ℕ) → k ≤ self.now.count → nth arena.new self.now.first k
             ≡ nth arena.old self.now.first k }
         ensures free { free_count arena.new ≡ free_count arena.old }
         ensures size { length arena.new ≡ length arena.old }
-        ensures others { OthersStay arena.old arena.new self.now }
+        ensures others { OtherRunsStay arena.old arena.new self.now }
         ensures nodes { nodes_in arena.new ≡ nodes_in arena.old }
     {
         let room = PAYLOAD_OCTETS - to.at;
@@ -102,13 +103,13 @@ impl Run {
         requires within { at + len ≤ 120 * self.now.count }
         requires there { len ≤ 120 * source.now.count }
         ensures held { IsHeld arena.new self.now }
-        ensures octets { octets_in arena.new self.now
-            ≡ overwritten (octets_in arena.old self.now) at (take len (octets_in arena.old source.now)) }
+        ensures octets { octets_of_run arena.new self.now
+            ≡ overwritten (octets_of_run arena.old self.now) at (take len (octets_of_run arena.old source.now)) }
         ensures places { (k : ℕ) → k ≤ self.now.count → nth arena.new self.now.first k
             ≡ nth arena.old self.now.first k }
         ensures free { free_count arena.new ≡ free_count arena.old }
         ensures size { length arena.new ≡ length arena.old }
-        ensures others { OthersStay arena.old arena.new self.now }
+        ensures others { OtherRunsStay arena.old arena.new self.now }
         ensures nodes { nodes_in arena.new ≡ nodes_in arena.old }
     {
         let mut target = self.seek(arena, to, (at / PAYLOAD_OCTETS) as u32);

@@ -1,7 +1,7 @@
 //! Positions in a run.
 ghost use Rattle.std.specs.Prelude.{◌≡◌, ◌+◌, ◌-◌, ◌<◌, ◌≤◌};
-ghost use Rattle.cfdp_tree.specs.Runs.{IsHeld, IsAt};
-ghost use Rattle.cfdp_tree.specs.Ways.{HasWays};
+ghost use Rattle.cfdp_tree.specs.code.Runs.{IsHeld, IsAt};
+ghost use Rattle.cfdp_tree.specs.code.Ways.{HasWays};
 
 use crate::header::next_of;
 use crate::runs::Run;

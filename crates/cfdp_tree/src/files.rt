@@ -2,23 +2,23 @@
 ghost use Rattle.std.specs.Prelude.{◌≡◌, ◌≢◌, ℕ, ◌+◌, ◌<◌, ◌≤◌, ◌++◌, None, length, drop};
 ghost use Rattle.cfdp_arena.specs.Arena.{octets_of, free_count, with_block};
 ghost use Rattle.cfdp_actions.specs.Filestore.{blocks_of};
-ghost use Rattle.cfdp_tree.specs.Block.{header_of};
-ghost use Rattle.cfdp_tree.specs.Row.{row_of};
-ghost use Rattle.cfdp_tree.specs.Nodes.{nodes_in};
-ghost use Rattle.cfdp_tree.specs.Runs.{IsHeld, Apart, RunsStay, Spares};
-ghost use Rattle.cfdp_tree.specs.Ways.{HasWays, KeepsWays};
-ghost use Rattle.cfdp_tree.specs.Contents.{IsFilled, contents_in};
-ghost use Rattle.cfdp_tree.specs.Tree.{IsNode, IsTree, row_at, name_at, path_of};
-ghost use Rattle.cfdp_tree.specs.Index.{IsIndex};
-ghost use Rattle.cfdp_tree.specs.Orders.{IsOrdered};
-ghost use Rattle.cfdp_tree.specs.Kept.{contents_told};
-ghost use Rattle.cfdp_tree.specs.Files.{with_contents, with_run};
+ghost use Rattle.cfdp_tree.specs.code.Block.{block_header};
+ghost use Rattle.cfdp_tree.specs.code.NodeFields.{node_fields_of};
+ghost use Rattle.cfdp_tree.specs.code.Nodes.{nodes_in};
+ghost use Rattle.cfdp_tree.specs.code.Runs.{IsHeld, Apart, RunsStay, Spares};
+ghost use Rattle.cfdp_tree.specs.code.Ways.{HasWays, KeepsWays};
+ghost use Rattle.cfdp_tree.specs.code.Contents.{IsFilled, contents_in};
+ghost use Rattle.cfdp_tree.specs.code.Tree.{IsNode, IsTree, node_fields_at, name_at, path_of_node};
+ghost use Rattle.cfdp_tree.specs.code.Index.{IsIndex};
+ghost use Rattle.cfdp_tree.specs.code.Orders.{IsInOrders};
+ghost use Rattle.cfdp_tree.specs.code.Kept.{contents_told};
+ghost use Rattle.cfdp_tree.specs.code.Files.{with_contents, with_run};
 
 use crate::contents::{Contents, contents_of};
 use crate::index::Head;
 use crate::lookup::find_path;
+use crate::node_block::{set_first, set_last, set_size, set_sum};
 use crate::orders::Orders;
-use crate::rows::{set_first, set_last, set_size, set_sum};
 use crate::runs::Run;
 use cfdp_actions::Kind;
 use cfdp_arena::{Arena, Block, BlockId};
@@ -36,13 +36,13 @@ pub(crate) struct FoundFile {
 pub(crate) fn find_file(arena: &Arena, heads: &[Head], orders: &Orders, path: &Path) -> FoundFile
     requires tree { IsTree (nodes_in arena.now) }
     requires index { IsIndex (nodes_in arena.now) heads.now None }
-    requires ordered { IsOrdered (nodes_in arena.now) orders.now None }
-    requires there { (b : ℕ) × IsNode (nodes_in arena.now) b × (path_of (nodes_in arena.now) b ≡ path.now) }
-    requires most { (b : ℕ) → IsNode (nodes_in arena.now) b → path_of (nodes_in arena.now) b ≡ path.now →
-        (row_at (nodes_in arena.now) b).size ≤ 7864320 }
+    requires ordered { IsInOrders (nodes_in arena.now) orders.now None }
+    requires there { (b : ℕ) × IsNode (nodes_in arena.now) b × (path_of_node (nodes_in arena.now) b ≡ path.now) }
+    requires most { (b : ℕ) → IsNode (nodes_in arena.now) b → path_of_node (nodes_in arena.now) b ≡ path.now →
+        (node_fields_at (nodes_in arena.now) b).size ≤ 7864320 }
     ensures node { IsNode (nodes_in arena.now) result.node }
-    ensures path { path_of (nodes_in arena.now) result.node ≡ path.now }
-    ensures contents { result.contents ≡ contents_told Kind.File (row_at (nodes_in arena.now) result.node) }
+    ensures path { path_of_node (nodes_in arena.now) result.node ≡ path.now }
+    ensures contents { result.contents ≡ contents_told Kind.File (node_fields_at (nodes_in arena.now) result.node) }
 {
     let node = find_path(arena, heads, orders, path).unwrap();
     FoundFile {
@@ -90,8 +90,8 @@ pub(crate) fn set_contents(arena: &mut Arena, node: &BlockId, contents: &Content
     requires held { IsHeld arena.old contents.now.run }
     ensures nodes { nodes_in arena.new
         ≡ with_block (nodes_in arena.old) node.now (octets_of (nodes_in arena.new) node.now) }
-    ensures row { row_at (nodes_in arena.new) node.now ≡ with_contents
-        (row_at (nodes_in arena.old) node.now) contents.now }
+    ensures row { node_fields_at (nodes_in arena.new) node.now ≡ with_contents
+        (node_fields_at (nodes_in arena.old) node.now) contents.now }
     ensures name { name_at (nodes_in arena.new) node.now ≡ name_at (nodes_in arena.old) node.now }
     ensures whole { length (octets_of (nodes_in arena.new) node.now) ≡ 128 }
     ensures runs { RunsStay arena.old arena.new }
@@ -109,8 +109,8 @@ pub(crate) fn set_contents(arena: &mut Arena, node: &BlockId, contents: &Content
 fn set_run(block: &mut Block, run: &Run)
     requires first { 0 < run.now.count → run.now.first < 65536 }
     requires last { 0 < run.now.count → run.now.last < 65536 }
-    ensures row { row_of block.new ≡ with_run (row_of block.old) run.now }
-    ensures header { header_of block.new ≡ header_of block.old }
+    ensures row { node_fields_of block.new ≡ with_run (node_fields_of block.old) run.now }
+    ensures header { block_header block.new ≡ block_header block.old }
     ensures name { drop 32 block.new ≡ drop 32 block.old }
 {
     if run.count > 0 {

@@ -2,13 +2,13 @@
 ghost use Rattle.std.specs.Option.{option_map};
 ghost use Rattle.std.specs.Prelude.{◌≡◌, All, length};
 ghost use Rattle.cfdp_paths.specs.Paths.{IsName};
-ghost use Rattle.cfdp_actions.specs.Filestore.{node_at, octets_at};
+ghost use Rattle.cfdp_actions.specs.Filestore.{node_at, file_octets_at};
 ghost use Rattle.cfdp_tree.specs.Found.{found_of, octets_read, with_octets};
 
 use crate::contents::contents_of;
 use crate::listing::{Found, tell};
 use crate::lookup::find_names;
-use crate::rows::kind_of;
+use crate::node_block::kind_of;
 use crate::tree_store::TreeStore;
 use cfdp_actions::Kind;
 use cfdp_paths::Names;
@@ -30,7 +30,7 @@ impl TreeStore {
     pub fn read_at(&self, names: Names<'_>, at: u64, buffer: &mut [u8]) -> Option<usize>
         requires { All IsName names }
         ensures count { result ≡ octets_read (node_at self.now.filestore names.entry) at buffer.old }
-        ensures octets { buffer.new ≡ with_octets (octets_at self.now.filestore names.entry) at buffer.old }
+        ensures octets { buffer.new ≡ with_octets (file_octets_at self.now.filestore names.entry) at buffer.old }
     {
         let node = find_names(&self.arena, &self.heads, &self.orders, names)?;
         let block = self.arena.bytes(node);

@@ -1,6 +1,6 @@
 //! Octets in the middle of a staged list that were never written.
 ghost use Rattle.std.specs.Prelude.{◌≡◌, ◌⊎◌, ◌↔◌, ◌-◌, ◌≤◌, max, min, IsTrue};
-ghost use Rattle.cfdp_tree.specs.Slots.{no_gap};
+ghost use Rattle.cfdp_tree.specs.code.Slots.{no_gap};
 
 /// A range of offsets of a staged list at which no octet was ever written, though octets after it were: there are zeros
 /// from the offset `from` up to `to`. It may be empty.

@@ -1,6 +1,6 @@
 //! The header of a block: the octets before its payload.
 ghost use Rattle.std.specs.Prelude.{◌≡◌, ◌+◌, ◌<◌, length};
-ghost use Rattle.cfdp_tree.specs.Block.{number_at, with_number, header_of, payload, tagged, linked, kind_octet};
+ghost use Rattle.cfdp_tree.specs.code.Block.{block_number_at, with_number, block_header, payload, tagged, linked, kind_octet};
 
 use cfdp_arena::{Block, BlockId};
 
@@ -34,7 +34,7 @@ impl BlockKind {
 /// The number that is in two octets of a block, the low one first.
 pub(crate) fn number_in(block: &Block, place: usize) -> u32
     requires inside { place < 127 }
-    ensures value { result ≡ number_at block.now place }
+    ensures value { result ≡ block_number_at block.now place }
     ensures small { result < 65536 }
 {
     u32::from(u16::from_le_bytes([block[place], block[place + 1]]))
@@ -54,7 +54,7 @@ pub(crate) fn set_number(block: &mut Block, place: usize, number: u32)
 
 /// The block that a block names as the next one of its run.
 pub(crate) fn next_of(block: &Block) -> BlockId
-    ensures value { result ≡ (header_of block.now).next }
+    ensures value { result ≡ (block_header block.now).next }
     ensures small { result < 65536 }
 {
     BlockId::of_number(number_in(block, 0))
@@ -63,7 +63,7 @@ pub(crate) fn next_of(block: &Block) -> BlockId
 /// Names the next block. The rest of the block stays.
 pub(crate) fn set_next(block: &mut Block, next: BlockId)
     requires small { next < 65536 }
-    ensures header { header_of block.new ≡ linked (header_of block.old) next }
+    ensures header { block_header block.new ≡ linked (block_header block.old) next }
     ensures payload { payload block.new ≡ payload block.old }
     ensures whole { length block.new ≡ 128 }
 {
@@ -75,7 +75,7 @@ pub(crate) fn set_next(block: &mut Block, next: BlockId)
 pub(crate) fn set_tag(block: &mut Block, owner: BlockId, rank: u32, kind: BlockKind)
     requires owner { owner < 65536 }
     requires rank { rank < 65536 }
-    ensures header { header_of block.new ≡ tagged (header_of block.old) owner rank kind }
+    ensures header { block_header block.new ≡ tagged (block_header block.old) owner rank kind }
     ensures payload { payload block.new ≡ payload block.old }
     ensures whole { length block.new ≡ 128 }
 {

@@ -1,14 +1,14 @@
 //! The index: nodes by their directory and their name.
 ghost use Rattle.std.specs.Prelude.{◌≡◌, ◌≢◌, ◌+◌, ◌-◌, ◌<◌, ◌≤◌, ◌↔◌, ℕ, Some, None, All, AllPairs, Contains, fold, length, IsTrue, IfSome, IfNone};
 ghost use Rattle.cfdp_arena.specs.Arena.{free_count};
-ghost use Rattle.cfdp_tree.specs.Nodes.{nodes_in};
-ghost use Rattle.cfdp_tree.specs.Runs.{RunsStay};
-ghost use Rattle.cfdp_tree.specs.Tree.{IsTree, IsNode, IsEntry, Relinked, row_at};
-ghost use Rattle.cfdp_tree.specs.Index.{hash_of, place_of, chain, list_of, without, count_of, IsIndex};
-ghost use Rattle.cfdp_tree.specs.Orders.{IsOrdered};
+ghost use Rattle.cfdp_tree.specs.code.Nodes.{nodes_in};
+ghost use Rattle.cfdp_tree.specs.code.Runs.{RunsStay};
+ghost use Rattle.cfdp_tree.specs.code.Tree.{IsTree, IsNode, IsEntry, Relinked, node_fields_at};
+ghost use Rattle.cfdp_tree.specs.code.Index.{node_hash, head_place, index_chain, list_of, without_node, head_count, IsIndex};
+ghost use Rattle.cfdp_tree.specs.code.Orders.{IsInOrders};
 
+use crate::node_block::{home_is, name_is, same_head_of, set_same_head};
 use crate::orders::Orders;
-use crate::rows::{home_is, name_is, same_head_of, set_same_head};
 use cfdp_arena::{Arena, BlockId};
 use std::hash::{FoldHasher, Hasher};
 
@@ -41,7 +41,7 @@ impl Head {
 
 /// A number for a directory, `None` for the root, and a name in it. In time linear in the name, by 16 octets a step.
 fn hash_of(directory: Option<BlockId>, name: &[u8]) -> u64
-    ensures { result ≡ hash_of directory name.now }
+    ensures { result ≡ node_hash directory name.now }
 {
     let mut hasher = FoldHasher::default();
     if let Some(directory) = directory {
@@ -56,7 +56,7 @@ fn hash_of(directory: Option<BlockId>, name: &[u8]) -> u64
 #[inline(always)]
 pub(crate) fn place_of(heads: &[Head], directory: Option<BlockId>, name: &[u8]) -> usize
     requires some { 0 < length heads.now }
-    ensures place { result ≡ place_of directory name.now (length heads.now) }
+    ensures place { result ≡ head_place directory name.now (length heads.now) }
     ensures within { result < length heads.now }
 {
     let hash = hash_of(directory, name);
@@ -131,11 +131,11 @@ fn take_out(arena: &mut Arena, head: &Head, node: &BlockId) -> Head
     requires once { AllPairs (λ b c. b ≢ c) (list_of (nodes_in arena.old) head.now) }
     requires there { (Contains (list_of (nodes_in arena.old) head.now) node.now → ⊥) → 0 < head.now.unlisted }
     requires small { head.now.first < 65536 }
-    ensures list { list_of (nodes_in arena.new) result ≡ without node.now (list_of (nodes_in arena.old) head.now) }
+    ensures list { list_of (nodes_in arena.new) result ≡ without_node node.now (list_of (nodes_in arena.old) head.now) }
     ensures others { (other : Head)
         → All (λ b. Contains (list_of (nodes_in arena.old) head.now) b → ⊥) (list_of (nodes_in arena.old) other)
         → list_of (nodes_in arena.new) other ≡ list_of (nodes_in arena.old) other }
-    ensures count { count_of result + 1 ≡ count_of head.now }
+    ensures count { head_count result + 1 ≡ head_count head.now }
     ensures few { result.listed ≤ head.now.listed }
     ensures small { result.first < 65536 }
     ensures links { Relinked (nodes_in arena.old) (nodes_in arena.new) }
@@ -169,8 +169,8 @@ fn take_out(arena: &mut Arena, head: &Head, node: &BlockId) -> Head
 fn node_before(arena: &Arena, head: &Head, node: &BlockId) -> Option<BlockId>
     requires nodes { All (IsNode (nodes_in arena.now)) (list_of (nodes_in arena.now) head.now) }
     requires later { 0 < head.now.listed → head.now.first ≢ node.now }
-    ensures before { IfSome result (λ b. (row_at (nodes_in arena.now) b).same_head ≡ node.now) }
-    ensures there { IfSome result (λ b. Contains (chain (nodes_in arena.now)
+    ensures before { IfSome result (λ b. (node_fields_at (nodes_in arena.now) b).same_head ≡ node.now) }
+    ensures there { IfSome result (λ b. Contains (index_chain (nodes_in arena.now)
         (head.now.listed - 1) head.now.first) b) }
     ensures none { IfNone result (Contains (list_of (nodes_in arena.now) head.now) node.now → ⊥) }
 {
@@ -198,7 +198,7 @@ pub(crate) fn find(
 ) -> Option<BlockId>
     requires tree { IsTree (nodes_in arena.now) }
     requires index { IsIndex (nodes_in arena.now) heads.now None }
-    requires ordered { IsOrdered (nodes_in arena.now) orders.now None }
+    requires ordered { IsInOrders (nodes_in arena.now) orders.now None }
     requires place { (d : ℕ) → directory ≡ Some d → IsNode (nodes_in arena.now) d }
     requires short { length name.now ≤ 96 }
     ensures found { IfSome result (λ b. IsEntry (nodes_in arena.now) directory name.now b) }

@@ -1,7 +1,7 @@
 //! What is staged becomes a file.
 ghost use Rattle.std.specs.Prelude.{◌≡◌, ◌+◌, ◌-◌, ◌*◌, ◌<◌, ◌≤◌, IsTrue, IsOk, IfOk, OnOk, OnErr, Some, None, false, [], ◌∷◌, ◌++◌, length, is_none, if◌then◌else◌};
 ghost use Rattle.cfdp_paths.specs.Paths.{same_path};
-ghost use Rattle.cfdp_actions.specs.Filestore.{File, node_at, staged_in, blocks_of, Becomes, Stages, is_file, is_directory, octets_at, parent_is_good};
+ghost use Rattle.cfdp_actions.specs.Filestore.{File, node_at, staged_in, blocks_of, Becomes, Stages, is_file, is_directory, file_octets_at, parent_is_good};
 ghost use Rattle.cfdp_actions.specs.Store.{free_blocks, with_changes};
 
 use crate::files::{find_file, set_contents};
@@ -15,7 +15,7 @@ impl TreeStore {
     pub(crate) fn install_over(&mut self, slot: u8, path: &Path) -> u32
         requires slot { slot < 64 }
         requires file { IsTrue (is_file (node_at self.old.filestore path.now)) }
-        ensures ticks { result ≡ blocks_of (length (octets_at self.old.filestore path.now)) }
+        ensures ticks { result ≡ blocks_of (length (file_octets_at self.old.filestore path.now)) }
         ensures installed { self.new ≡ with_changes self.old
             (Stages slot [] ∷ Becomes path.now (Some (File (staged_in self.old.filestore slot))) ∷ []) }
     {
@@ -28,7 +28,7 @@ impl TreeStore {
     fn exchange(&mut self, slot: u8, path: &Path)
         requires slot { slot < 64 }
         requires file { IsTrue (is_file (node_at self.old.filestore path.now)) }
-        ensures exchanged { self.new ≡ with_changes self.old (Stages slot (octets_at self.old.filestore path.now)
+        ensures exchanged { self.new ≡ with_changes self.old (Stages slot (file_octets_at self.old.filestore path.now)
             ∷ Becomes path.now (Some (File (staged_in self.old.filestore slot))) ∷ []) }
         ensures slots { length self.old.filestore.staged ≡ 64 }
     {

@@ -7,7 +7,7 @@
 //! file or of a staged list are a run that has just the blocks for them (`contents`, `files`, `slots`). Their checksum
 //! is kept with them, and changes with each change of them (`summing`); octets of a staged list that were never written
 //! are known to be zeros, and are not read for it (`gap`). A block in the middle of a run is found by the ways back
-//! beside the arena (`cursor`, `cfdp_ways`). A file or a directory is a node, one block with its name (`rows`,
+//! beside the arena (`cursor`, `cfdp_ways`). A file or a directory is a node, one block with its name (`node_block`,
 //! `nodes`). Nodes are found by their directory and their name (`index`, `lookup`), and each directory has its entries
 //! in order of their names (`orders`), by which what is below a path is walked over in path order (`walk`) and reported
 //! (`survey`, `spelling`, `listing`), or one by one (`next`); `found` says and reads it by lent names. The store puts
@@ -30,10 +30,10 @@ mod install;
 mod listing;
 mod lookup;
 mod next;
+mod node_block;
 mod nodes;
 mod orders;
 mod payload;
-mod rows;
 mod runs;
 mod slots;
 mod spelling;

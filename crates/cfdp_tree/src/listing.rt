@@ -3,12 +3,12 @@ ghost use Rattle.std.specs.Prelude.{◌≡◌, [], ◌∷◌, Some, All, IfOk, l
 ghost use Rattle.cfdp_arena.specs.Arena.{octets_of};
 ghost use Rattle.cfdp_checksum.specs.Checksum.{checksum};
 ghost use Rattle.cfdp_actions.specs.Filestore.{octets_in};
-ghost use Rattle.cfdp_actions.specs.Store.{entry_of, kind_of, standing_of};
-ghost use Rattle.cfdp_tree.specs.Kept.{node_of};
-ghost use Rattle.cfdp_tree.specs.Nodes.{nodes_in};
-ghost use Rattle.cfdp_tree.specs.Survey.{shown, IsSound};
+ghost use Rattle.cfdp_actions.specs.Store.{listing_entry, kind_of, standing_of};
+ghost use Rattle.cfdp_tree.specs.code.Kept.{node_of};
+ghost use Rattle.cfdp_tree.specs.code.Nodes.{nodes_in};
+ghost use Rattle.cfdp_tree.specs.code.Survey.{shown_node, IsSoundNode};
 
-use crate::rows::{kind_of, size_of, sum_of};
+use crate::node_block::{kind_of, size_of, sum_of};
 use cfdp_actions::{Entry, Kind, Standing};
 use cfdp_arena::{Arena, BlockId};
 use cfdp_paths::{Memory, Path};
@@ -24,9 +24,9 @@ pub(crate) fn standings(
     arena: &Arena,
     found: Vec<(Path, BlockId)>,
 ) -> Result<Vec<Standing>, Memory>
-    requires sound { All (IsSound arena.now) found.items }
+    requires sound { All (IsSoundNode arena.now) found.items }
     ensures { IfOk result (λ all. all.items
-        ≡ map (λ e. standing_of (shown arena.now (nodes_in arena.now) e)) found.items) }
+        ≡ map (λ e. standing_of (shown_node arena.now (nodes_in arena.now) e)) found.items) }
 {
     let mut all = Vec::with_capacity(alloc, found.len())?;
     for (path, node) in found {
@@ -46,9 +46,9 @@ pub(crate) fn only_standing(
     path: &Path,
     node: &BlockId,
 ) -> Result<Vec<Standing>, Memory>
-    requires { IsSound arena.now (path.now, node.now) }
+    requires { IsSoundNode arena.now (path.now, node.now) }
     ensures { IfOk result (λ all. all.items
-        ≡ standing_of (shown arena.now (nodes_in arena.now) (path.now, node.now)) ∷ []) }
+        ≡ standing_of (shown_node arena.now (nodes_in arena.now) (path.now, node.now)) ∷ []) }
 {
     let mut all = Vec::with_capacity(alloc, 1)?;
     all.push(standing(arena, path.copy(alloc)?, node))?;
@@ -65,9 +65,9 @@ pub(crate) fn entries(
     arena: &Arena,
     found: Vec<(Path, BlockId)>,
 ) -> Result<Vec<Entry>, Memory>
-    requires sound { All (IsSound arena.now) found.items }
+    requires sound { All (IsSoundNode arena.now) found.items }
     ensures { IfOk result (λ all. all.items
-        ≡ map (λ e. entry_of (shown arena.now (nodes_in arena.now) e)) found.items) }
+        ≡ map (λ e. listing_entry (shown_node arena.now (nodes_in arena.now) e)) found.items) }
 {
     let mut all = Vec::with_capacity(alloc, found.len())?;
     for (path, node) in found {
@@ -78,8 +78,8 @@ pub(crate) fn entries(
 
 /// What is at a node.
 fn standing(arena: &Arena, path: Path, node: &BlockId) -> Standing
-    requires { IsSound arena.now (path, node.now) }
-    ensures { result ≡ standing_of (shown arena.now (nodes_in arena.now) (path, node.now)) }
+    requires { IsSoundNode arena.now (path, node.now) }
+    ensures { result ≡ standing_of (shown_node arena.now (nodes_in arena.now) (path, node.now)) }
 {
     let block = arena.bytes(*node);
     match kind_of(block) {
@@ -98,8 +98,8 @@ fn standing(arena: &Arena, path: Path, node: &BlockId) -> Standing
 
 /// The same with the checksum of a file.
 fn entry(arena: &Arena, path: Path, node: &BlockId) -> Entry
-    requires { IsSound arena.now (path, node.now) }
-    ensures { result ≡ entry_of (shown arena.now (nodes_in arena.now) (path, node.now)) }
+    requires { IsSoundNode arena.now (path, node.now) }
+    ensures { result ≡ listing_entry (shown_node arena.now (nodes_in arena.now) (path, node.now)) }
 {
     let told = tell(arena, node);
     Entry {
@@ -123,7 +123,7 @@ pub struct Found {
 
 /// What is at a node. In constant time.
 pub(crate) fn tell(arena: &Arena, node: &BlockId) -> Found
-    requires { IsSound arena.now ([], node.now) }
+    requires { IsSoundNode arena.now ([], node.now) }
     ensures kind { result.kind ≡ kind_of (node_of arena.now (octets_of (nodes_in arena.now) node.now)) }
     ensures size { result.size ≡ length (octets_in (Some
         (node_of arena.now (octets_of (nodes_in arena.now) node.now)))) }

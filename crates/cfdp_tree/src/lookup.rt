@@ -1,10 +1,10 @@
 //! The nodes of paths.
 ghost use Rattle.std.specs.Prelude.{◌≡◌, ◌≤◌, ℕ, None, length, take, All, IfSome, IfNone};
 ghost use Rattle.cfdp_paths.specs.Paths.{IsName};
-ghost use Rattle.cfdp_tree.specs.Nodes.{nodes_in};
-ghost use Rattle.cfdp_tree.specs.Tree.{IsTree, IsNode, path_of};
-ghost use Rattle.cfdp_tree.specs.Index.{IsIndex};
-ghost use Rattle.cfdp_tree.specs.Orders.{IsOrdered};
+ghost use Rattle.cfdp_tree.specs.code.Nodes.{nodes_in};
+ghost use Rattle.cfdp_tree.specs.code.Tree.{IsTree, IsNode, path_of_node};
+ghost use Rattle.cfdp_tree.specs.code.Index.{IsIndex};
+ghost use Rattle.cfdp_tree.specs.code.Orders.{IsInOrders};
 
 use crate::index::{Head, find};
 use crate::orders::Orders;
@@ -21,12 +21,12 @@ pub(crate) fn find_names(
 ) -> Option<BlockId>
     requires tree { IsTree (nodes_in arena.now) }
     requires index { IsIndex (nodes_in arena.now) heads.now None }
-    requires ordered { IsOrdered (nodes_in arena.now) orders.now None }
+    requires ordered { IsInOrders (nodes_in arena.now) orders.now None }
     requires names { All IsName names }
     ensures node { IfSome result (λ b. IsNode (nodes_in arena.now) b) }
-    ensures path { IfSome result (λ b. path_of (nodes_in arena.now) b ≡ names.entry) }
+    ensures path { IfSome result (λ b. path_of_node (nodes_in arena.now) b ≡ names.entry) }
     ensures none { IfNone result ((b : ℕ) → IsNode (nodes_in arena.now) b →
-        path_of (nodes_in arena.now) b ≡ names.entry → ⊥) }
+        path_of_node (nodes_in arena.now) b ≡ names.entry → ⊥) }
 {
     let mut place = None;
     for name in names {
@@ -46,12 +46,12 @@ pub(crate) fn lookup(
 ) -> Option<BlockId>
     requires tree { IsTree (nodes_in arena.now) }
     requires index { IsIndex (nodes_in arena.now) heads.now None }
-    requires ordered { IsOrdered (nodes_in arena.now) orders.now None }
+    requires ordered { IsInOrders (nodes_in arena.now) orders.now None }
     requires within { depth ≤ length path.now }
     ensures node { IfSome result (λ b. IsNode (nodes_in arena.now) b) }
-    ensures path { IfSome result (λ b. path_of (nodes_in arena.now) b ≡ take depth path.now) }
+    ensures path { IfSome result (λ b. path_of_node (nodes_in arena.now) b ≡ take depth path.now) }
     ensures none { IfNone result ((b : ℕ) → IsNode (nodes_in arena.now) b →
-        path_of (nodes_in arena.now) b ≡ take depth path.now → ⊥) }
+        path_of_node (nodes_in arena.now) b ≡ take depth path.now → ⊥) }
 {
     find_names(arena, heads, orders, path.first_names(depth))
 }
@@ -65,11 +65,11 @@ pub(crate) fn find_path(
 ) -> Option<BlockId>
     requires tree { IsTree (nodes_in arena.now) }
     requires index { IsIndex (nodes_in arena.now) heads.now None }
-    requires ordered { IsOrdered (nodes_in arena.now) orders.now None }
+    requires ordered { IsInOrders (nodes_in arena.now) orders.now None }
     ensures node { IfSome result (λ b. IsNode (nodes_in arena.now) b) }
-    ensures path { IfSome result (λ b. path_of (nodes_in arena.now) b ≡ path.now) }
+    ensures path { IfSome result (λ b. path_of_node (nodes_in arena.now) b ≡ path.now) }
     ensures none { IfNone result ((b : ℕ) → IsNode (nodes_in arena.now) b →
-        path_of (nodes_in arena.now) b ≡ path.now → ⊥) }
+        path_of_node (nodes_in arena.now) b ≡ path.now → ⊥) }
     ensures some { 1 ≤ length path.now }
 {
     find_names(arena, heads, orders, path.names())

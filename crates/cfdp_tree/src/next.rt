@@ -1,11 +1,12 @@
 //! What comes next after a path in path order.
 ghost use Rattle.std.specs.Prelude.{◌≡◌, ◌≤◌, ◌++◌, ℕ, Some, None, All, IfSome, IfNone, take, drop, length};
 ghost use Rattle.cfdp_paths.specs.Paths.{IsName};
-ghost use Rattle.cfdp_tree.specs.Nodes.{nodes_in};
-ghost use Rattle.cfdp_tree.specs.Tree.{IsTree, IsNode};
-ghost use Rattle.cfdp_tree.specs.Places.{path_at};
-ghost use Rattle.cfdp_tree.specs.Orders.{IsOrdered};
-ghost use Rattle.cfdp_tree.specs.Next.{IsNextEntry, IsLast, Follows, IsFirst};
+ghost use Rattle.cfdp_tree.specs.code.Nodes.{nodes_in};
+ghost use Rattle.cfdp_tree.specs.code.Tree.{IsTree, IsNode};
+ghost use Rattle.cfdp_tree.specs.code.Places.{path_at};
+ghost use Rattle.cfdp_tree.specs.code.Orders.{IsInOrders};
+ghost use Rattle.cfdp_tree.specs.Next.{IsNextEntry, IsLast};
+ghost use Rattle.cfdp_tree.specs.code.Next.{ComesAfter, IsFirst};
 
 use crate::listing::tell;
 use crate::orders::Orders;
@@ -72,12 +73,12 @@ fn next_below(
     mut names: Names<'_>,
 ) -> Option<BlockId>
     requires tree { IsTree (nodes_in arena.now) }
-    requires ordered { IsOrdered (nodes_in arena.now) orders.now None }
+    requires ordered { IsInOrders (nodes_in arena.now) orders.now None }
     requires place { (d : ℕ) → place.now ≡ Some d → IsNode (nodes_in arena.now) d }
     requires names { All IsName names }
     ensures first { IfSome result (λ b. IsFirst (nodes_in arena.now)
         (path_at (nodes_in arena.now) place.now) (path_at (nodes_in arena.now) place.now ++ names.entry) b) }
-    ensures none { IfNone result ((b : ℕ) → Follows (nodes_in arena.now)
+    ensures none { IfNone result ((b : ℕ) → ComesAfter (nodes_in arena.now)
         (path_at (nodes_in arena.now) place.now) (path_at (nodes_in arena.now) place.now ++ names.entry) b → ⊥) }
 {
     let Some(name) = names.next() else {

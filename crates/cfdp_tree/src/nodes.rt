@@ -1,12 +1,12 @@
 //! Makes a node of the tree, renames it and gives its block back.
 ghost use Rattle.std.specs.Prelude.{◌≡◌, ◌≢◌, ◌+◌, ◌<◌, ◌≤◌, Some, None, IfSome, length, unwrap_or};
 ghost use Rattle.cfdp_arena.specs.Arena.{octets_at, octets_of, free_count, with_block, without_block};
-ghost use Rattle.cfdp_tree.specs.Row.{plain_row};
-ghost use Rattle.cfdp_tree.specs.Nodes.{nodes_in};
-ghost use Rattle.cfdp_tree.specs.Runs.{RunsStay};
-ghost use Rattle.cfdp_tree.specs.Tree.{IsNode, row_at, name_at, home};
+ghost use Rattle.cfdp_tree.specs.code.NodeFields.{plain_fields};
+ghost use Rattle.cfdp_tree.specs.code.Nodes.{nodes_in};
+ghost use Rattle.cfdp_tree.specs.code.Runs.{RunsStay};
+ghost use Rattle.cfdp_tree.specs.code.Tree.{IsNode, node_fields_at, name_at, home};
 
-use crate::rows::{set_name, set_parent, write_node};
+use crate::node_block::{set_name, set_parent, write_node};
 use crate::runs::take_block;
 use cfdp_actions::Kind;
 use cfdp_arena::{Arena, BlockId};
@@ -26,7 +26,7 @@ pub(crate) fn create_node(
     ensures within { result < length arena.old }
     ensures nodes { nodes_in arena.new ≡ with_block (nodes_in arena.old) result
         (octets_of (nodes_in arena.new) result) }
-    ensures row { row_at (nodes_in arena.new) result ≡ plain_row (unwrap_or directory result) kind name.now }
+    ensures row { node_fields_at (nodes_in arena.new) result ≡ plain_fields (unwrap_or directory result) kind name.now }
     ensures home { home (nodes_in arena.new) result ≡ directory }
     ensures name { name_at (nodes_in arena.new) result ≡ name.now }
     ensures whole { length (octets_of (nodes_in arena.new) result) ≡ 128 }
@@ -53,7 +53,7 @@ pub(crate) fn rename_node(
     requires short { length name.now ≤ 96 }
     ensures nodes { nodes_in arena.new
         ≡ with_block (nodes_in arena.old) node.now (octets_of (nodes_in arena.new) node.now) }
-    ensures row { row_at (nodes_in arena.new) node.now ≡ record (row_at (nodes_in arena.old) node.now) {
+    ensures row { node_fields_at (nodes_in arena.new) node.now ≡ record (node_fields_at (nodes_in arena.old) node.now) {
       parent = unwrap_or directory node.now;
       name_length = length name.now;
     } }

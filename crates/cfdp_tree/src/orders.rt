@@ -1,12 +1,12 @@
 //! The entries of each directory, and of the root, in order of their names.
 ghost use Rattle.std.specs.Option.{option_map};
 ghost use Rattle.std.specs.Prelude.{◌≡◌, ◌≢◌, ◌<◌, ◌≤◌, ℕ, Option, Some, None, All, IfOk, IfSome, IfNone, length};
-ghost use Rattle.cfdp_tree.specs.Nodes.{nodes_in};
-ghost use Rattle.cfdp_tree.specs.Tree.{IsTree, IsNode, IsEntry, name_at};
-ghost use Rattle.cfdp_tree.specs.Next.{name_cmp, IsBehind, IsLeast};
-ghost use Rattle.cfdp_tree.specs.Orders.{order_at, in_order, IsKnown, IsOrdered};
+ghost use Rattle.cfdp_tree.specs.code.Nodes.{nodes_in};
+ghost use Rattle.cfdp_tree.specs.code.Tree.{IsTree, IsNode, IsEntry, name_at};
+ghost use Rattle.cfdp_tree.specs.code.Next.{name_cmp, IsBehind, IsLeast};
+ghost use Rattle.cfdp_tree.specs.code.Orders.{order_at, in_order, IsKnown, IsInOrders};
 
-use crate::rows::{name_in, name_is};
+use crate::node_block::{name_in, name_is};
 use cfdp_arena::{Arena, BlockId};
 use cfdp_order::{Links, Order, Sought, first, first_after, first_from, insert, remove};
 use cfdp_paths::Memory;
@@ -102,9 +102,9 @@ impl Orders {
         name: &[u8],
     )
         requires tree { IsTree (nodes_in arena.now) }
-        requires ordered { IsOrdered (nodes_in arena.now) self.old (Some node.now) }
+        requires ordered { IsInOrders (nodes_in arena.now) self.old (Some node.now) }
         requires entry { IsEntry (nodes_in arena.now) directory name.now node.now }
-        ensures { IsOrdered (nodes_in arena.now) self.new None }
+        ensures { IsInOrders (nodes_in arena.now) self.new None }
     {
         let _free = arena.free();
         let order = self.of(&directory);
@@ -123,9 +123,9 @@ impl Orders {
         name: &[u8],
     )
         requires tree { IsTree (nodes_in arena.now) }
-        requires ordered { IsOrdered (nodes_in arena.now) self.old None }
+        requires ordered { IsInOrders (nodes_in arena.now) self.old None }
         requires entry { IsEntry (nodes_in arena.now) directory name.now node.now }
-        ensures { IsOrdered (nodes_in arena.now) self.new (Some node.now) }
+        ensures { IsInOrders (nodes_in arena.now) self.new (Some node.now) }
     {
         let _free = arena.free();
         let order = self.of(&directory);
@@ -143,7 +143,7 @@ impl Orders {
         name: &[u8],
     ) -> Option<BlockId>
         requires tree { IsTree (nodes_in arena.now) }
-        requires ordered { IsOrdered (nodes_in arena.now) self.now None }
+        requires ordered { IsInOrders (nodes_in arena.now) self.now None }
         requires place { (d : ℕ) → directory.now ≡ Some d → IsNode (nodes_in arena.now) d }
         requires short { length name.now ≤ 96 }
         ensures found { IfSome result (λ b. IsEntry (nodes_in arena.now) directory.now name.now b) }
@@ -170,7 +170,7 @@ impl Orders {
         after: Option<&[u8]>,
     ) -> Option<BlockId>
         requires tree { IsTree (nodes_in arena.now) }
-        requires ordered { IsOrdered (nodes_in arena.now) self.now None }
+        requires ordered { IsInOrders (nodes_in arena.now) self.now None }
         requires place { (d : ℕ) → directory.now ≡ Some d → IsNode (nodes_in arena.now) d }
         ensures least { IfSome result (λ b. IsLeast (nodes_in arena.now)
             (option_map (λ name. name.now) after.entry) (in_order self.now directory.now) b) }

@@ -1,7 +1,7 @@
 //! The payload of a block: the octets after its header.
 ghost use Rattle.std.specs.Prelude.{◌≡◌, ◌+◌, ◌≤◌, length, slice_range};
 ghost use Rattle.cfdp_arena.specs.Blocks.{with_part};
-ghost use Rattle.cfdp_tree.specs.Block.{payload};
+ghost use Rattle.cfdp_tree.specs.code.Block.{payload};
 
 use crate::header::{HEADER_OCTETS, PAYLOAD_OCTETS};
 use cfdp_arena::Block;

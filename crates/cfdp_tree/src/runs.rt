@@ -2,10 +2,10 @@
 ghost use Rattle.std.specs.Prelude.{◌≡◌, ℕ, ◌+◌, ◌-◌, ◌*◌, ◌<◌, ◌≤◌, ◌++◌, length, replicate, None};
 ghost use Rattle.cfdp_arena.specs.Arena.{octets_at, free_count, with_block};
 ghost use Rattle.cfdp_arena.specs.Blocks.{blank_block};
-ghost use Rattle.cfdp_tree.specs.Block.{payload};
-ghost use Rattle.cfdp_tree.specs.Nodes.{nodes_in};
-ghost use Rattle.cfdp_tree.specs.Runs.{IsHeld, AllStay, OthersStay, octets_in, nth};
-ghost use Rattle.cfdp_tree.specs.Ways.{HasWays, StayLive, WaysStay};
+ghost use Rattle.cfdp_tree.specs.code.Block.{payload};
+ghost use Rattle.cfdp_tree.specs.code.Nodes.{nodes_in};
+ghost use Rattle.cfdp_tree.specs.code.Runs.{IsHeld, AllStay, OtherRunsStay, octets_of_run, nth};
+ghost use Rattle.cfdp_tree.specs.code.Ways.{HasWays, StayLive, WaysStay};
 
 use crate::header::{BlockKind, set_next, set_tag};
 use cfdp_arena::{Arena, BlockId};
@@ -42,7 +42,7 @@ impl Run {
         requires room { 0 < free_count arena.old }
         ensures held { IsHeld arena.new self.new }
         ensures count { self.new.count ≡ 1 }
-        ensures octets { octets_in arena.new self.new ≡ payload blank_block }
+        ensures octets { octets_of_run arena.new self.new ≡ payload blank_block }
         ensures taken { free_count arena.new + 1 ≡ free_count arena.old }
         ensures size { length arena.new ≡ length arena.old }
         ensures others { AllStay arena.old arena.new }
@@ -65,10 +65,10 @@ impl Run {
         requires room { 0 < free_count arena.old }
         ensures held { IsHeld arena.new self.new }
         ensures count { self.new.count ≡ self.old.count + 1 }
-        ensures octets { octets_in arena.new self.new ≡ octets_in arena.old self.old ++ payload blank_block }
+        ensures octets { octets_of_run arena.new self.new ≡ octets_of_run arena.old self.old ++ payload blank_block }
         ensures taken { free_count arena.new + 1 ≡ free_count arena.old }
         ensures size { length arena.new ≡ length arena.old }
-        ensures others { OthersStay arena.old arena.new self.old }
+        ensures others { OtherRunsStay arena.old arena.new self.old }
         ensures first { self.new.first ≡ self.old.first }
         ensures places { (k : ℕ) → k < self.old.count → nth arena.new self.new.first k
             ≡ nth arena.old self.old.first k }
@@ -90,10 +90,10 @@ impl Run {
         requires room { 0 < free_count arena.old }
         ensures held { IsHeld arena.new self.new }
         ensures count { self.new.count ≡ self.old.count + 1 }
-        ensures octets { octets_in arena.new self.new ≡ octets_in arena.old self.old ++ payload blank_block }
+        ensures octets { octets_of_run arena.new self.new ≡ octets_of_run arena.old self.old ++ payload blank_block }
         ensures taken { free_count arena.new + 1 ≡ free_count arena.old }
         ensures size { length arena.new ≡ length arena.old }
-        ensures others { OthersStay arena.old arena.new self.old }
+        ensures others { OtherRunsStay arena.old arena.new self.old }
         ensures first { self.new.first ≡ self.old.first }
         ensures places { (k : ℕ) → k < self.old.count → nth arena.new self.new.first k
             ≡ nth arena.old self.old.first k }
@@ -125,11 +125,11 @@ impl Run {
         requires room { count ≤ free_count arena.old + self.old.count }
         ensures held { IsHeld arena.new self.new }
         ensures count { self.new.count ≡ count }
-        ensures octets { octets_in arena.new self.new
-            ≡ octets_in arena.old self.old ++ replicate (120 * (count - self.old.count)) 0 }
+        ensures octets { octets_of_run arena.new self.new
+            ≡ octets_of_run arena.old self.old ++ replicate (120 * (count - self.old.count)) 0 }
         ensures taken { free_count arena.new + count ≡ free_count arena.old + self.old.count }
         ensures size { length arena.new ≡ length arena.old }
-        ensures others { OthersStay arena.old arena.new self.new }
+        ensures others { OtherRunsStay arena.old arena.new self.new }
         ensures first { 0 < self.old.count → self.new.first ≡ self.old.first }
         ensures fresh { self.old.count ≡ 0 → 0 < count → octets_at arena.old self.new.first ≡ None }
         ensures places { (k : ℕ) → k < self.old.count → nth arena.new self.new.first k
@@ -152,7 +152,7 @@ impl Run {
         requires held { IsHeld arena.old self }
         ensures freed { free_count arena.new ≡ free_count arena.old + self.count }
         ensures size { length arena.new ≡ length arena.old }
-        ensures others { OthersStay arena.old arena.new self }
+        ensures others { OtherRunsStay arena.old arena.new self }
         ensures nodes { nodes_in arena.new ≡ nodes_in arena.old }
     {
         arena.give_chain(self.first, self.last, self.count);
@@ -164,7 +164,7 @@ fn begin(arena: &mut Arena) -> Run
     requires room { 0 < free_count arena.old }
     ensures held { IsHeld arena.new result }
     ensures count { result.count ≡ 1 }
-    ensures octets { octets_in arena.new result ≡ payload blank_block }
+    ensures octets { octets_of_run arena.new result ≡ payload blank_block }
     ensures taken { free_count arena.new + 1 ≡ free_count arena.old }
     ensures size { length arena.new ≡ length arena.old }
     ensures others { AllStay arena.old arena.new }

@@ -4,11 +4,11 @@ ghost use Rattle.cfdp_arena.specs.Arena.{free_count};
 ghost use Rattle.cfdp_actions.specs.Filestore.{blocks_of};
 ghost use Rattle.cfdp_actions.specs.Store.{extended, overwritten};
 ghost use Rattle.cfdp_checksum.specs.Checksum.{checksum_at};
-ghost use Rattle.cfdp_tree.specs.Nodes.{nodes_in};
-ghost use Rattle.cfdp_tree.specs.Runs.{Spares};
-ghost use Rattle.cfdp_tree.specs.Ways.{HasWays, KeepsWays};
-ghost use Rattle.cfdp_tree.specs.Contents.{IsFilled, contents_in};
-ghost use Rattle.cfdp_tree.specs.Slots.{no_gap, IsBlank, IsUnwritten, IsPlaced, IsFresh};
+ghost use Rattle.cfdp_tree.specs.code.Nodes.{nodes_in};
+ghost use Rattle.cfdp_tree.specs.code.Runs.{Spares};
+ghost use Rattle.cfdp_tree.specs.code.Ways.{HasWays, KeepsWays};
+ghost use Rattle.cfdp_tree.specs.code.Contents.{IsFilled, contents_in};
+ghost use Rattle.cfdp_tree.specs.code.Slots.{no_gap, IsBlank, IsUnwrittenSlot, IsPlaced, IsFreshSlot};
 
 use crate::contents::Contents;
 use crate::gap::Gap;
@@ -29,7 +29,7 @@ pub(crate) struct Slot {
 impl Slot {
     /// An empty list.
     pub(crate) fn empty() -> Slot
-        ensures { IsFresh result }
+        ensures { IsFreshSlot result }
     {
         let contents = Contents::empty();
         Slot {
@@ -139,7 +139,7 @@ impl Slot {
     fn gap_after(&self, at: usize, end: usize) -> Gap
         requires ordered { self.now.gap.from ≤ self.now.gap.to }
         ensures blank { (octets part : List ℕ) → length octets ≡ self.now.contents.size → at + length part ≡ end
-            → end ≤ length octets → IsUnwritten octets self.now → IsBlank (overwritten octets at part) result }
+            → end ≤ length octets → IsUnwrittenSlot octets self.now → IsBlank (overwritten octets at part) result }
         ensures before { min self.now.gap.to at - self.now.gap.from ≤ result.to - result.from }
         ensures after { self.now.gap.to - max self.now.gap.from end ≤ result.to - result.from }
         ensures skipped { at - self.now.blank_from ≤ result.to - result.from }

@@ -2,10 +2,10 @@
 ghost use Rattle.std.specs.Prelude.{◌≡◌, ◌+◌, ◌≤◌, ◌++◌, IfOk, take, drop, length};
 ghost use Rattle.std.specs.List.{join_with_byte};
 ghost use Rattle.cfdp_paths.specs.Paths.{joined};
-ghost use Rattle.cfdp_tree.specs.Nodes.{nodes_in};
-ghost use Rattle.cfdp_tree.specs.Tree.{IsTree, IsNode, path_of};
+ghost use Rattle.cfdp_tree.specs.code.Nodes.{nodes_in};
+ghost use Rattle.cfdp_tree.specs.code.Tree.{IsTree, IsNode, path_of_node};
 
-use crate::rows::{home_of, name_in};
+use crate::node_block::{home_of, name_in};
 use cfdp_arena::{Arena, BlockId};
 use cfdp_paths::{LONGEST_NAME, MOST_NAMES, Memory, Path};
 use std::alloc::Global;
@@ -40,7 +40,7 @@ pub(crate) fn path_of(
     requires tree { IsTree (nodes_in arena.now) }
     requires node { IsNode (nodes_in arena.now) node.now }
     requires room { 776 ≤ length text.old }
-    ensures { IfOk result (λ path. path ≡ path_of (nodes_in arena.now) node.now) }
+    ensures { IfOk result (λ path. path ≡ path_of_node (nodes_in arena.now) node.now) }
 {
     let names = write_names(arena, node, text, SEPARATOR);
     Path::from_names(alloc, &text[names.start..], names.depth)
@@ -54,7 +54,7 @@ pub(crate) fn write_path(arena: &Arena, node: &BlockId, text: &mut [u8]) -> usiz
     requires room { 776 ≤ length text.old }
     ensures length { length text.new ≡ length text.old }
     ensures within { result ≤ length text.new }
-    ensures text { drop result text.new ≡ joined (path_of (nodes_in arena.now) node.now) }
+    ensures text { drop result text.new ≡ joined (path_of_node (nodes_in arena.now) node.now) }
     ensures before { take result text.new ≡ take result text.old }
 {
     write_names(arena, node, text, b'/').start
@@ -68,9 +68,9 @@ fn write_names(arena: &Arena, node: &BlockId, text: &mut [u8], separator: u8) ->
     requires room { 776 ≤ length text.old }
     ensures length { length text.new ≡ length text.old }
     ensures within { result.start ≤ length text.new }
-    ensures text { drop result.start text.new ≡ join_with_byte separator (path_of (nodes_in arena.now) node.now) }
+    ensures text { drop result.start text.new ≡ join_with_byte separator (path_of_node (nodes_in arena.now) node.now) }
     ensures before { take result.start text.new ≡ take result.start text.old }
-    ensures depth { result.depth ≡ length (path_of (nodes_in arena.now) node.now) }
+    ensures depth { result.depth ≡ length (path_of_node (nodes_in arena.now) node.now) }
 {
     let mut start = text.len();
     let mut depth = 1;

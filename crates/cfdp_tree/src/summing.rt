@@ -1,8 +1,8 @@
 //! What the octets of a run add to a checksum.
 ghost use Rattle.std.specs.Prelude.{◌≡◌, ◌+◌, ◌*◌, ◌/◌, ◌<◌, ◌≤◌, slice_range};
 ghost use Rattle.cfdp_checksum.specs.Checksum.{checksum_at};
-ghost use Rattle.cfdp_tree.specs.Block.{payload};
-ghost use Rattle.cfdp_tree.specs.Runs.{IsHeld, IsAt, octets_in};
+ghost use Rattle.cfdp_tree.specs.code.Block.{payload};
+ghost use Rattle.cfdp_tree.specs.code.Runs.{IsHeld, IsAt, octets_of_run};
 
 use crate::header::{HEADER_OCTETS, PAYLOAD_OCTETS};
 use crate::payload::part_of;
@@ -33,7 +33,7 @@ impl Run {
         requires within { cursor.now.index < self.now.count }
         requires fits { at + len ≤ 120 }
         ensures { let start = 120 * cursor.now.index + at in
-            result ≡ checksum_at offset (slice_range (octets_in arena.now self.now) start (start + len)) }
+            result ≡ checksum_at offset (slice_range (octets_of_run arena.now self.now) start (start + len)) }
     {
         part_sum(arena.bytes(cursor.block), at, len, offset)
     }
@@ -52,7 +52,7 @@ impl Run {
         requires first { IsAt arena.now self.now first }
         requires index { first.index ≡ at / 120 }
         requires range { at + len ≤ 120 * self.now.count }
-        ensures { result ≡ checksum_at offset (slice_range (octets_in arena.now self.now) at (at + len)) }
+        ensures { result ≡ checksum_at offset (slice_range (octets_of_run arena.now self.now) at (at + len)) }
     {
         let mut place = at % PAYLOAD_OCTETS;
         let mut offset = offset as usize;

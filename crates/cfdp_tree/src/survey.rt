@@ -1,11 +1,11 @@
 //! What exists at a place of the tree and below it, in path order.
 ghost use Rattle.std.specs.Prelude.{◌≡◌, ◌≤◌, ℕ, Some, All, IfOk, length, map};
-ghost use Rattle.cfdp_tree.specs.Nodes.{nodes_in};
-ghost use Rattle.cfdp_tree.specs.Tree.{IsTree, IsNode};
-ghost use Rattle.cfdp_tree.specs.Places.{path_at};
-ghost use Rattle.cfdp_tree.specs.Orders.{IsOrdered};
-ghost use Rattle.cfdp_tree.specs.Walk.{walk_from};
-ghost use Rattle.cfdp_tree.specs.Survey.{with_path};
+ghost use Rattle.cfdp_tree.specs.code.Nodes.{nodes_in};
+ghost use Rattle.cfdp_tree.specs.code.Tree.{IsTree, IsNode};
+ghost use Rattle.cfdp_tree.specs.code.Places.{path_at};
+ghost use Rattle.cfdp_tree.specs.code.Orders.{IsInOrders};
+ghost use Rattle.cfdp_tree.specs.code.Walk.{walk_from};
+ghost use Rattle.cfdp_tree.specs.code.Survey.{path_and_node};
 
 use crate::orders::Orders;
 use crate::spelling::{MOST_OCTETS, path_of};
@@ -28,11 +28,11 @@ pub(crate) fn survey(
     depth: usize,
 ) -> Result<Vec<(Path, BlockId)>, Memory>
     requires tree { IsTree (nodes_in arena.now) }
-    requires ordered { IsOrdered (nodes_in arena.now) orders.now None }
+    requires ordered { IsInOrders (nodes_in arena.now) orders.now None }
     requires place { (d : ℕ) → place.now ≡ Some d → IsNode (nodes_in arena.now) d }
     requires depth { length (path_at (nodes_in arena.now) place.now) ≡ depth }
     ensures { IfOk result (λ found. found.items
-        ≡ map (with_path (nodes_in arena.now)) (walk_from orders.now depth place.now)) }
+        ≡ map (path_and_node (nodes_in arena.now)) (walk_from orders.now depth place.now)) }
 {
     let mut nodes = Vec::new(alloc);
     if let Some(node) = place {
@@ -53,7 +53,7 @@ fn with_paths(
 ) -> Result<Vec<(Path, BlockId)>, Memory>
     requires tree { IsTree (nodes_in arena.now) }
     requires nodes { All (IsNode (nodes_in arena.now)) nodes.now }
-    ensures { IfOk result (λ found. found.items ≡ map (with_path (nodes_in arena.now)) nodes.now) }
+    ensures { IfOk result (λ found. found.items ≡ map (path_and_node (nodes_in arena.now)) nodes.now) }
 {
     let mut found = Vec::with_capacity(alloc, nodes.len())?;
     let mut text = [0; MOST_OCTETS];

@@ -2,9 +2,9 @@
 ghost use Rattle.std.specs.Prelude.{◌≡◌, ℕ, ◌+◌, ◌*◌, ◌/◌, ◌<◌, ◌≤◌, length, slice_range};
 ghost use Rattle.cfdp_arena.specs.Arena.{free_count};
 ghost use Rattle.cfdp_actions.specs.Store.{overwritten};
-ghost use Rattle.cfdp_tree.specs.Nodes.{nodes_in};
-ghost use Rattle.cfdp_tree.specs.Runs.{IsHeld, IsAt, OthersStay, octets_in, nth};
-ghost use Rattle.cfdp_tree.specs.Ways.{HasWays};
+ghost use Rattle.cfdp_tree.specs.code.Nodes.{nodes_in};
+ghost use Rattle.cfdp_tree.specs.code.Runs.{IsHeld, IsAt, OtherRunsStay, octets_of_run, nth};
+ghost use Rattle.cfdp_tree.specs.code.Ways.{HasWays};
 
 use crate::header::PAYLOAD_OCTETS;
 use crate::payload::{get_part, put_part};
@@ -20,13 +20,13 @@ impl Run {
         requires within { cursor.now.index < self.now.count }
         requires fits { at + length part.now ≤ 120 }
         ensures held { IsHeld arena.new self.now }
-        ensures octets { octets_in arena.new self.now
-            ≡ overwritten (octets_in arena.old self.now) (120 * cursor.now.index + at) part.now }
+        ensures octets { octets_of_run arena.new self.now
+            ≡ overwritten (octets_of_run arena.old self.now) (120 * cursor.now.index + at) part.now }
         ensures places { (k : ℕ) → k ≤ self.now.count → nth arena.new self.now.first k
             ≡ nth arena.old self.now.first k }
         ensures free { free_count arena.new ≡ free_count arena.old }
         ensures size { length arena.new ≡ length arena.old }
-        ensures others { OthersStay arena.old arena.new self.now }
+        ensures others { OtherRunsStay arena.old arena.new self.now }
         ensures nodes { nodes_in arena.new ≡ nodes_in arena.old }
     {
         put_part(arena.bytes_mut(cursor.block), at, part);
@@ -40,7 +40,7 @@ impl Run {
         requires within { cursor.now.index < self.now.count }
         requires fits { at + length buffer.old ≤ 120 }
         ensures { buffer.new
-            ≡ slice_range (octets_in arena.now self.now) (120 * cursor.now.index + at) (120 * cursor.now.index + at
+            ≡ slice_range (octets_of_run arena.now self.now) (120 * cursor.now.index + at) (120 * cursor.now.index + at
             + length buffer.old) }
     {
         get_part(arena.bytes(cursor.block), at, buffer);
@@ -55,13 +55,14 @@ impl Run {
         requires index { first.index ≡ at / 120 }
         requires range { at + length octets.now ≤ 120 * self.now.count }
         ensures held { IsHeld arena.new self.now }
-        ensures octets { octets_in arena.new self.now ≡ overwritten (octets_in arena.old self.now) at octets.now }
+        ensures octets { octets_of_run arena.new self.now ≡ overwritten
+            (octets_of_run arena.old self.now) at octets.now }
         ensures place { IsAt arena.new self.now result }
         ensures places { (k : ℕ) → k ≤ self.now.count → nth arena.new self.now.first k
             ≡ nth arena.old self.now.first k }
         ensures free { free_count arena.new ≡ free_count arena.old }
         ensures size { length arena.new ≡ length arena.old }
-        ensures others { OthersStay arena.old arena.new self.now }
+        ensures others { OtherRunsStay arena.old arena.new self.now }
         ensures nodes { nodes_in arena.new ≡ nodes_in arena.old }
     {
         let mut place = at % PAYLOAD_OCTETS;
@@ -93,7 +94,7 @@ impl Run {
         requires ways { HasWays arena.now ways.now self.now }
         requires from { IsAt arena.now self.now from }
         requires range { at + length buffer.old ≤ 120 * self.now.count }
-        ensures octets { buffer.new ≡ slice_range (octets_in arena.now self.now) at (at + length buffer.old) }
+        ensures octets { buffer.new ≡ slice_range (octets_of_run arena.now self.now) at (at + length buffer.old) }
         ensures place { IsAt arena.now self.now result }
     {
         let mut place = at % PAYLOAD_OCTETS;

@@ -3,7 +3,7 @@
 ghost use Rattle.std.specs.Prelude.{◌≡◌, ◌≤◌, true, IsTrue, IfOk, Some, None, [], ◌∷◌};
 ghost use Rattle.cfdp_actions.specs.Filestore.{Becomes, node_at, parent_is_good};
 ghost use Rattle.cfdp_actions.specs.Store.{empty_store, free_blocks, with_changes};
-ghost use Rattle.cfdp_tree.specs.Changes.{empty_node};
+ghost use Rattle.cfdp_tree.specs.code.Changes.{empty_node};
 
 use crate::contents::{Contents, contents_of, held_by};
 use crate::files::{find_file, set_contents};
@@ -11,9 +11,9 @@ use crate::index;
 use crate::index::{Head, insert};
 use crate::listing::{entries, only_standing, standings};
 use crate::lookup::{find_path, lookup};
+use crate::node_block::{home_of, kind_of, size_of, sum_of};
 use crate::nodes::{create_node, delete_node, rename_node};
 use crate::orders::Orders;
-use crate::rows::{home_of, kind_of, size_of, sum_of};
 use crate::slots::Slot;
 use crate::survey::survey;
 use crate::walk::deepest_in;
@@ -61,16 +61,16 @@ pub struct TreeStore {
 
 impl Model for TreeStore {
     ghost use Rattle.cfdp_actions.specs.Store.{Store};
-    ghost use Rattle.cfdp_actions.specs.Codes.{store_code};
-    ghost use Rattle.cfdp_tree.specs.Kept.{store_of};
-    ghost use Rattle.cfdp_tree.specs.Slots.{staged_in};
-    ghost use Rattle.cfdp_tree.specs.Orders.{IsOrderedStore};
+    ghost use Rattle.cfdp_actions.specs.code.Codes.{store_code};
+    ghost use Rattle.cfdp_tree.specs.code.Kept.{store_of};
+    ghost use Rattle.cfdp_tree.specs.code.Slots.{lists_staged};
+    ghost use Rattle.cfdp_tree.specs.code.Orders.{IsOrderedStore};
 
     ghost Value = { Store };
 
     ghost coded = { store_code };
 
-    ghost view = { λ s. store_of s.arena (staged_in s.slots.items) };
+    ghost view = { λ s. store_of s.arena (lists_staged s.slots.items) };
 
     ghost invariant = { λ s. IsOrderedStore s.arena s.ways.items s.heads.items s.orders s.slots.items };
 }

@@ -1,10 +1,10 @@
 //! Walks over what is below a place, in path order.
 ghost use Rattle.std.specs.Prelude.{◌≡◌, ◌≤◌, ◌++◌, OnOk};
 ghost use Rattle.cfdp_order.specs.Orders.{nodes, IsOrder};
-ghost use Rattle.cfdp_tree.specs.Nodes.{nodes_in};
-ghost use Rattle.cfdp_tree.specs.Tree.{IsTree};
-ghost use Rattle.cfdp_tree.specs.Orders.{IsOrdered};
-ghost use Rattle.cfdp_tree.specs.Walk.{walks_at, longest, StandAt};
+ghost use Rattle.cfdp_tree.specs.code.Nodes.{nodes_in};
+ghost use Rattle.cfdp_tree.specs.code.Tree.{IsTree};
+ghost use Rattle.cfdp_tree.specs.code.Orders.{IsInOrders};
+ghost use Rattle.cfdp_tree.specs.code.Walk.{walks_at, most_names_in, StandAt};
 
 use crate::orders::Orders;
 use cfdp_arena::{Arena, BlockId};
@@ -16,10 +16,10 @@ use cfdp_paths::Memory;
 /// at most 23 calls within one another for each directory on the way down.
 pub(crate) fn deepest_in(arena: &Arena, orders: &Orders, order: Order, depth: usize) -> usize
     requires tree { IsTree (nodes_in arena.now) }
-    requires ordered { IsOrdered (nodes_in arena.now) orders.now None }
+    requires ordered { IsInOrders (nodes_in arena.now) orders.now None }
     requires order { IsOrder orders.now.links.items order }
     requires deep { StandAt (nodes_in arena.now) depth (nodes orders.now.links.items order) }
-    ensures value { result ≡ longest (nodes_in arena.now)
+    ensures value { result ≡ most_names_in (nodes_in arena.now)
         (walks_at orders.now depth (nodes orders.now.links.items order)) }
     ensures within { result ≤ 8 }
 {
@@ -64,7 +64,7 @@ pub(crate) fn collect_nodes(
     found: &mut Vec<BlockId>,
 ) -> Result<(), Memory>
     requires tree { IsTree (nodes_in arena.now) }
-    requires ordered { IsOrdered (nodes_in arena.now) orders.now None }
+    requires ordered { IsInOrders (nodes_in arena.now) orders.now None }
     requires order { IsOrder orders.now.links.items order }
     requires deep { StandAt (nodes_in arena.now) depth (nodes orders.now.links.items order) }
     ensures { OnOk result (found.new.items ≡ found.old.items

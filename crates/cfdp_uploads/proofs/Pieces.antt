@@ -15,7 +15,7 @@ use Rattle.cfdp_pdus.specs.Grammar.{SpellsPdu}
 use Rattle.cfdp_pdus.specs.Canonical.{metadata_field, file_data_field, eof_field, pdu_octets}
 use Rattle.cfdp_pdus.proofs.CanonicalSteps.{pdu_spelled, metadata_spelled, metadata_short, file_data_spelled, eof_spelled, eof_short}
 use Rattle.cfdp_pdus.proofs.WriteSteps.{file_data_len}
-use Rattle.cfdp_uploads.specs.Uploads.{UploadFields, IsUpload, piece_count, pieces_of, piece_of, piece_pdu, eof_of, pdus_of, octets_of, is_sent}
+use Rattle.cfdp_uploads.specs.Uploads.{UploadFields, IsUpload, piece_count, pieces_of, piece_of, piece_pdu, eof_of, upload_pdus, sent_octets, is_sent}
 use Rattle.cfdp_uploads.specs.Laws.{ReadBack, IsPart, PartsOfFile, WholeFile}
 use Rattle.cfdp_uploads.proofs.Found.{each_weaker}
 
@@ -80,17 +80,17 @@ behind f [] y = refl
 behind f (z ∷ xs) y = behind f xs y
 
 pub piece_at : (u : UploadFields) (number index : ℕ) → 0 < number → number - 1 < length u.order → index ≡ get_or u.order (number - 1) index
-    → slice_get (pdus_of u) number ≡ Some (piece_pdu u index)
+    → slice_get (upload_pdus u) number ≡ Some (piece_pdu u index)
 piece_at u number index some lt is =
     let e : number ≡ suc (number - 1) = omega arith in
-    ap (slice_get (pdus_of u)) e ∙ among (piece_pdu u) u.order (pdus.Eof u.header (eof_of u)) (number - 1) index lt is
+    ap (slice_get (upload_pdus u)) e ∙ among (piece_pdu u) u.order (pdus.Eof u.header (eof_of u)) (number - 1) index lt is
 
-pub end_at : (u : UploadFields) (number : ℕ) → number ≡ suc (length u.order) → slice_get (pdus_of u) number ≡ Some (pdus.Eof u.header (eof_of u))
-end_at u number e = ap (slice_get (pdus_of u)) e ∙ behind (piece_pdu u) u.order (pdus.Eof u.header (eof_of u))
+pub end_at : (u : UploadFields) (number : ℕ) → number ≡ suc (length u.order) → slice_get (upload_pdus u) number ≡ Some (pdus.Eof u.header (eof_of u))
+end_at u number e = ap (slice_get (upload_pdus u)) e ∙ behind (piece_pdu u) u.order (pdus.Eof u.header (eof_of u))
 
 -- ---- what is written is read
 
-piece_spelled : (u : UploadFields) → IsUpload u → (index : ℕ) → index < pieces_of u → SpellsPdu (octets_of (piece_pdu u index)) (piece_pdu u index)
+piece_spelled : (u : UploadFields) → IsUpload u → (index : ℕ) → index < pieces_of u → SpellsPdu (sent_octets (piece_pdu u index)) (piece_pdu u index)
 piece_spelled u is index lt =
     let begins : u.segment * index < length u.file = begins_within (length u.file) u.segment index (omega (arith, is.some)) lt in
     pdu_spelled true (piece_pdu u index) (file_data_field u.header.large (piece_of u index)) is.header
@@ -105,8 +105,8 @@ read_back u is = (
   pdu_spelled false (pdus.Metadata u.header u.metadata) (metadata_field u.header.large u.metadata) is.header
       (metadata_short u.header.large u.metadata is.fits)
       (metadata_spelled u.header u.metadata is.sized is.answerable),
-  each_append (λ pdu. SpellsPdu (octets_of pdu) pdu) (map (piece_pdu u) u.order) (pdus.Eof u.header (eof_of u) ∷ [])
-      (each_map (λ pdu. SpellsPdu (octets_of pdu) pdu) (piece_pdu u) u.order
+  each_append (λ pdu. SpellsPdu (sent_octets pdu) pdu) (map (piece_pdu u) u.order) (pdus.Eof u.header (eof_of u) ∷ [])
+      (each_map (λ pdu. SpellsPdu (sent_octets pdu) pdu) (piece_pdu u) u.order
       (each_weaker (λ index. index < pieces_of u) _ (piece_spelled u is) u.order is.within)) (
         pdu_spelled false (pdus.Eof u.header (eof_of u)) (eof_field u.header (eof_of u)) is.header (eof_short u.header (eof_of u) is.header)
             (eof_spelled u.header (eof_of u) (record { condition = omega arith; size = omega (arith, is.size, is.sized.size) }) (sum_fits u)),
@@ -173,21 +173,21 @@ pub piece_written : {u v : UploadFields} → u ≡ v → (number index : ℕ) (o
     (r : Result (Unit {0}) WriteFault) (old new : List ℕ)
     → 0 < number → order ≡ u.order → number - 1 < length order → index ≡ get_or order (number - 1) index → piece ≡ piece_of v index
     → OnOk r (new ≡ old ++ pdu_octets true u.header (file_data_field u.header.large piece))
-    → OnOk r (IfSome (slice_get (pdus_of v) number) (λ pdu. new ≡ old ++ octets_of pdu))
+    → OnOk r (IfSome (slice_get (upload_pdus v) number) (λ pdu. new ≡ old ++ sent_octets pdu))
 piece_written {u = u} {v = v} same number index order piece r old new some order_is lt is piece_is written =
     let lt' : number - 1 < length v.order = subst (λ (xs : List ℕ). number - 1 < length xs) (order_is ∙ ap (λ (w : UploadFields). w.order) same) lt in
     let is' : index ≡ get_or v.order (number - 1) index =
     is ∙ ap (λ (xs : List ℕ). get_or xs (number - 1) index) (order_is ∙ ap (λ (w : UploadFields). w.order) same) in
-    let octets : OnOk r (new ≡ old ++ octets_of (pdus.FileData v.header piece)) =
-    subst (λ (w : UploadFields). OnOk r (new ≡ old ++ octets_of (pdus.FileData w.header piece))) same written in
-    let whole : OnOk r (new ≡ old ++ octets_of (piece_pdu v index)) =
-    subst (λ (d : FileDataFields). OnOk r (new ≡ old ++ octets_of (pdus.FileData v.header d))) piece_is octets in
-    subst (λ (o : Option Pdu). OnOk r (IfSome o (λ pdu. new ≡ old ++ octets_of pdu))) (sym (piece_at v number index some lt' is')) whole
+    let octets : OnOk r (new ≡ old ++ sent_octets (pdus.FileData v.header piece)) =
+    subst (λ (w : UploadFields). OnOk r (new ≡ old ++ sent_octets (pdus.FileData w.header piece))) same written in
+    let whole : OnOk r (new ≡ old ++ sent_octets (piece_pdu v index)) =
+    subst (λ (d : FileDataFields). OnOk r (new ≡ old ++ sent_octets (pdus.FileData v.header d))) piece_is octets in
+    subst (λ (o : Option Pdu). OnOk r (IfSome o (λ pdu. new ≡ old ++ sent_octets pdu))) (sym (piece_at v number index some lt' is')) whole
 
 pub end_written : {u v : UploadFields} → u ≡ v → (number : ℕ) (order : List ℕ) (eof : Eof) (r : Result (Unit {0}) WriteFault) (old new : List ℕ)
-    → 0 < number → order ≡ u.order → length order ≤ number - 1 → number < length (pdus_of v) → eof ≡ eof_of v
+    → 0 < number → order ≡ u.order → length order ≤ number - 1 → number < length (upload_pdus v) → eof ≡ eof_of v
     → OnOk r (new ≡ old ++ pdu_octets false u.header (eof_field u.header eof))
-    → OnOk r (IfSome (slice_get (pdus_of v) number) (λ pdu. new ≡ old ++ octets_of pdu))
+    → OnOk r (IfSome (slice_get (upload_pdus v) number) (λ pdu. new ≡ old ++ sent_octets pdu))
 end_written {u = u} {v = v} same number order eof r old new some order_is le lt eof_is written =
     let long : length order ≡ length v.order = ap (λ (xs : List ℕ). length xs) (order_is ∙ ap (λ (w : UploadFields). w.order) same) in
     let last : number ≡ suc (length v.order) =
@@ -197,11 +197,11 @@ end_written {u = u} {v = v} same number order eof r old new some order_is le lt 
       length-append (map (piece_pdu v) v.order) (pdus.Eof v.header (eof_of v) ∷ []),
       length-map v.order (piece_pdu v),
     ) in
-    let octets : OnOk r (new ≡ old ++ octets_of (pdus.Eof v.header eof)) =
-    subst (λ (w : UploadFields). OnOk r (new ≡ old ++ octets_of (pdus.Eof w.header eof))) same written in
-    let whole : OnOk r (new ≡ old ++ octets_of (pdus.Eof v.header (eof_of v))) =
-    subst (λ (e : Eof). OnOk r (new ≡ old ++ octets_of (pdus.Eof v.header e))) eof_is octets in
-    subst (λ (o : Option Pdu). OnOk r (IfSome o (λ pdu. new ≡ old ++ octets_of pdu))) (sym (end_at v number last)) whole
+    let octets : OnOk r (new ≡ old ++ sent_octets (pdus.Eof v.header eof)) =
+    subst (λ (w : UploadFields). OnOk r (new ≡ old ++ sent_octets (pdus.Eof w.header eof))) same written in
+    let whole : OnOk r (new ≡ old ++ sent_octets (pdus.Eof v.header (eof_of v))) =
+    subst (λ (e : Eof). OnOk r (new ≡ old ++ sent_octets (pdus.Eof v.header e))) eof_is octets in
+    subst (λ (o : Option Pdu). OnOk r (IfSome o (λ pdu. new ≡ old ++ sent_octets pdu))) (sym (end_at v number last)) whole
 
-pub spelled_at : {u v : UploadFields} → u ≡ v → IsUpload u → (number : ℕ) → IfSome (slice_get (pdus_of v) number) (λ pdu. SpellsPdu (octets_of pdu) pdu)
-spelled_at {u = u} {v = v} same is number = told_of (λ pdu. SpellsPdu (octets_of pdu) pdu) (pdus_of v) number (read_back v (subst IsUpload same is))
+pub spelled_at : {u v : UploadFields} → u ≡ v → IsUpload u → (number : ℕ) → IfSome (slice_get (upload_pdus v) number) (λ pdu. SpellsPdu (sent_octets pdu) pdu)
+spelled_at {u = u} {v = v} same is number = told_of (λ pdu. SpellsPdu (sent_octets pdu) pdu) (upload_pdus v) number (read_back v (subst IsUpload same is))

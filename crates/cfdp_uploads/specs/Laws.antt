@@ -9,10 +9,10 @@ use Rattle.std.specs.Prelude.{◌≡◌, ◌≤◌, ◌<◌, ℕ, ◌+◌, List,
 use Rattle.std.specs.List.{AllByRecursion}
 use Rattle.cfdp_pdus.specs.Grammar.{SpellsPdu}
 use Rattle.cfdp_pdus.specs.Values.{FileDataFields}
-use Rattle.cfdp_uploads.specs.Uploads.{UploadFields, IsUpload, piece_of, pdus_of, octets_of}
+use Rattle.cfdp_uploads.specs.Uploads.{UploadFields, IsUpload, piece_of, upload_pdus, sent_octets}
 
 abbrev pub ReadBack : Type 0
-ReadBack = (u : UploadFields) → IsUpload u → AllByRecursion (λ pdu. SpellsPdu (octets_of pdu) pdu) (pdus_of u)
+ReadBack = (u : UploadFields) → IsUpload u → AllByRecursion (λ pdu. SpellsPdu (sent_octets pdu) pdu) (upload_pdus u)
 
 pub record IsPart (file : List ℕ) (piece : FileDataFields) : Type 0 where
   pub within : piece.offset + length piece.octets ≤ length file

@@ -4,8 +4,8 @@
 --   piece_count           how many pieces a file of some size has; the last one may be shorter
 --   piece_of              the piece with an index: octets of the file, at their offset
 --   eof_of                the EOF: no error, and the checksum and the size of the file
---   pdus_of               the PDUs in the order in which they are sent: the Metadata, the pieces, the EOF
---   octets_of             the octets in which such a PDU is written
+--   upload_pdus           the PDUs in the order in which they are sent: the Metadata, the pieces, the EOF
+--   sent_octets           the octets in which such a PDU is written
 --   upload_of             an upload that is made: each PDU goes toward the receiver, and the Metadata has the file's
 --                         size and says that its checksum is the modular one
 --   IsUpload              what holds of an upload: each number and each length fits its field, and each piece is sent
@@ -42,16 +42,16 @@ eof_of u = record { condition = 0; checksum = checksum u.file; size = length u.f
 abbrev pub piece_pdu : UploadFields → ℕ → Pdu
 piece_pdu u index = pdus.FileData u.header (piece_of u index)
 
-abbrev pub pdus_of : UploadFields → List Pdu
-pdus_of u = pdus.Metadata u.header u.metadata ∷ (map (piece_pdu u) u.order ++ pdus.Eof u.header (eof_of u) ∷ [])
+abbrev pub upload_pdus : UploadFields → List Pdu
+upload_pdus u = pdus.Metadata u.header u.metadata ∷ (map (piece_pdu u) u.order ++ pdus.Eof u.header (eof_of u) ∷ [])
 
 -- the last two have octets so that each PDU has: no upload has such PDUs
-abbrev pub octets_of : Pdu → List ℕ
-octets_of (pdus.Metadata header metadata) = pdu_octets false header (metadata_field header.large metadata)
-octets_of (pdus.FileData header file_data) = pdu_octets true header (file_data_field header.large file_data)
-octets_of (pdus.Eof header eof) = pdu_octets false header (eof_field header eof)
-octets_of (pdus.Finished header finished) = pdu_octets false header (finished_field header finished)
-octets_of (pdus.NotOurs header code) = []
+abbrev pub sent_octets : Pdu → List ℕ
+sent_octets (pdus.Metadata header metadata) = pdu_octets false header (metadata_field header.large metadata)
+sent_octets (pdus.FileData header file_data) = pdu_octets true header (file_data_field header.large file_data)
+sent_octets (pdus.Eof header eof) = pdu_octets false header (eof_field header eof)
+sent_octets (pdus.Finished header finished) = pdu_octets false header (finished_field header finished)
+sent_octets (pdus.NotOurs header code) = []
 
 abbrev pub upload_of : Header → MetadataFields → List ℕ → ℕ → List ℕ → UploadFields
 upload_of header metadata file segment order = record {

@@ -31,9 +31,9 @@ pub enum UploadFault {
 
 impl fmt::Display for UploadFault {
     ghost use Rattle.std.specs.Prelude.{Some};
-    ghost use Rattle.cfdp_uploads.specs.Texts.{text_of};
+    ghost use Rattle.cfdp_uploads.specs.Texts.{upload_fault_text};
 
-    ghost output = { λ fault. Some (text_of fault) };
+    ghost output = { λ fault. Some (upload_fault_text fault) };
 
     fn fmt<W: fmt::Write>(&self, f: &mut fmt::Formatter<W>) -> fmt::Result {
         match self {

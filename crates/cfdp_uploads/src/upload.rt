@@ -4,8 +4,8 @@ ghost use Rattle.std.specs.Prelude.{◌≡◌, ◌⊎◌, ◌≤◌, ◌<◌, �
 ghost use Rattle.std.specs.List.{slice_get};
 ghost use Rattle.std.specs.Vec.{vec_capacity};
 ghost use Rattle.cfdp_pdus.specs.Grammar.{SpellsPdu};
-ghost use Rattle.cfdp_uploads.specs.Uploads.{IsUpload, upload_of, piece_count, piece_of, eof_of, pieces_of, pdus_of, octets_of};
-ghost use Rattle.cfdp_uploads.specs.Judging.{judged};
+ghost use Rattle.cfdp_uploads.specs.Uploads.{IsUpload, upload_of, piece_count, piece_of, eof_of, pieces_of, upload_pdus, sent_octets};
+ghost use Rattle.cfdp_uploads.specs.Judging.{judged_upload};
 ghost use Rattle.cfdp_uploads.specs.declared.fault.UploadFault.TheVariants.{Memory};
 ghost use Rattle.cfdp_pdus.specs.declared.fault.WriteFault.TheVariants.{Memory as OutOfMemory};
 
@@ -75,9 +75,9 @@ impl<'a> Upload<'a> {
         order: Vec<usize>,
     ) -> Result<Upload<'a>, UploadFault>
         ensures ok { IfOk result (λ upload.
-            judged (upload_of header metadata file.entry.now segment order.items) ≡ Ok upload) }
+            judged_upload (upload_of header metadata file.entry.now segment order.items) ≡ Ok upload) }
         ensures err { IfErr result (λ fault. (fault ≡ Memory)
-            ⊎ (judged (upload_of header metadata file.entry.now segment order.items) ≡ Err fault)) }
+            ⊎ (judged_upload (upload_of header metadata file.entry.now segment order.items) ≡ Err fault)) }
         ensures sound { IfOk result IsUpload }
     {
         let mut header = header;
@@ -124,7 +124,7 @@ impl<'a> Upload<'a> {
 
     /// How many PDUs it has.
     pub fn pdu_count(&self) -> usize
-        ensures { result ≡ length (pdus_of self.now) }
+        ensures { result ≡ length (upload_pdus self.now) }
     {
         self.order.len() + 2
     }
@@ -158,11 +158,11 @@ impl<'a> Upload<'a> {
     ///
     /// Cost: the octets that it appends, and one growth of the vector at most; for the EOF PDU one pass over the file.
     pub fn write(&self, number: usize, out: &mut Vec<u8>) -> Result<(), WriteFault>
-        requires { number < length (pdus_of self.now) }
-        ensures ok { OnOk result (IfSome (slice_get (pdus_of self.now) number)
-            (λ pdu. out.new.items ≡ out.old.items ++ octets_of pdu)) }
+        requires { number < length (upload_pdus self.now) }
+        ensures ok { OnOk result (IfSome (slice_get (upload_pdus self.now) number)
+            (λ pdu. out.new.items ≡ out.old.items ++ sent_octets pdu)) }
         // What is written is read as the same PDU.
-        ensures spelled { IfSome (slice_get (pdus_of self.now) number) (λ pdu. SpellsPdu (octets_of pdu) pdu) }
+        ensures spelled { IfSome (slice_get (upload_pdus self.now) number) (λ pdu. SpellsPdu (sent_octets pdu) pdu) }
         ensures faults { IfErr result (λ fault. fault ≡ OutOfMemory) }
         ensures err { OnErr result (out.new.items ≡ out.old.items) }
         ensures capacity { vec_capacity out.old ≤ vec_capacity out.new }

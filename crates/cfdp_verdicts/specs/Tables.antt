@@ -1,7 +1,7 @@
 -- The table of a list of items: a line for each, with its steps, the blocks that the list needs up to and with it, and
 -- its paths.
 --     padded width text     a text with spaces before it, as many octets as the width at least
---     listed label paths    a label and paths, with commas between them; nothing without a path
+--     listed_paths label paths  a label and paths, with commas between them; nothing without a path
 --     paths_words item      the paths that an item changes, and those that it only reads
 --     numbers_text          the steps of an item, and the blocks up to and with it
 --     item_words number item       an item; a request with its number
@@ -21,12 +21,13 @@ unfoldable pub padded : ℕ → List ℕ → List ℕ
 padded width text = replicate (width - length text) 32 ++ text
 
 -- with a label before them
-unfoldable pub listed : List ℕ → List Path → List ℕ
-listed label [] = []
-listed label (p ∷ paths) = label ++ shown (joined p) ++ listed (codes ", ") paths
+unfoldable pub listed_paths : List ℕ → List Path → List ℕ
+listed_paths label [] = []
+listed_paths label (p ∷ paths) = label ++ shown (joined p) ++ listed_paths (codes ", ") paths
 
 unfoldable pub paths_words : Item → List ℕ
-paths_words item = listed (codes "; changes ") (exclusive_in item) ++ listed (codes "; reads ") (read_in item)
+paths_words item = listed_paths (codes "; changes ") (exclusive_in item) ++ listed_paths (codes "; reads ")
+    (read_in item)
 
 unfoldable pub numbers_text : ℕ → Cost → List ℕ
 numbers_text before cost = padded 14 (grouped (cost.steps - before)) ++ padded 14 (grouped cost.blocks) ++ codes "  "

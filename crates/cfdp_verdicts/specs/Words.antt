@@ -3,22 +3,22 @@
 --     grouped n             a number in decimal, with these commas
 --     counted n one many    a number, and what is counted: one of it, or many
 --     shown octets          the octets of a name as listings print paths
---     verb_of, between      an action in words;  the word between its two names
+--     verb_of, word_between  an action in words;  the word between its two names
 --     acted                 an action in words, with its names
 --     request_words r       a request
 --     numbered i r          the request with this index, by its number, which counts from 1
---     told_of               a name, and what is said of it
+--     said_of_name          a name, and what is said of it
 --     absent                that nothing exists at a path
 --     not_allowed           why the filestore does not allow an action
 --     cause_of              why a request has a status
---     status_words          a status, in brackets
+--     status_in_brackets    a status, in brackets
 --     bad_path_words, failure_words, many_words, long_words, room_words, refusal_words      why a list is refused
 --     grant_words, verdict_words      what is granted;  a verdict
 --     verdict_line          the line of a verdict, with the name of the transaction
 use Rattle.std.specs.Prelude.{ℕ, ◌+◌, ◌%◌, ◌==◌, ◌&&◌, nat_lt, if◌then◌else◌, List, [], ◌∷◌, ◌++◌, length, Option, Some, None, unwrap_or, codes, decimal}
 use Rattle.std.specs.List.{flat_map, slice_get}
 use Rattle.cfdp_status.specs.Codes.{octet_of}
-use Rattle.cfdp_status.specs.Transaction.{name_of}
+use Rattle.cfdp_status.specs.Transaction.{transaction_name}
 use Rattle.cfdp_status.specs.declared.action.Action.{Action}
 use Rattle.cfdp_status.specs.declared.action.Action.TheVariants as action
 use Rattle.cfdp_status.specs.declared.status.Status.{Status}
@@ -63,14 +63,14 @@ verb_of action.DenyFile = codes "deny-file "
 verb_of action.DenyDirectory = codes "deny-directory "
 
 -- in the order in which the names are sent
-unfoldable pub between : Action → List ℕ
-between action.AppendFile = codes " with "
-between action.ReplaceFile = codes " by "
-between other = codes " to "
+unfoldable pub word_between : Action → List ℕ
+word_between action.AppendFile = codes " with "
+word_between action.ReplaceFile = codes " by "
+word_between other = codes " to "
 
 abbrev pub second_words : Action → Option (List ℕ) → List ℕ
 second_words action None = []
-second_words action (Some second) = between action ++ shown second
+second_words action (Some second) = word_between action ++ shown second
 
 unfoldable pub acted : Action → (first : List ℕ) → (second : Option (List ℕ)) → List ℕ
 acted action first second = verb_of action ++ shown first ++ second_words action second
@@ -85,33 +85,33 @@ numbered index (Some r) = labelled (codes "request ") (index + 1) ++ codes ", " 
 
 -- why a request has a status (CCSDS 727.0-B-5 §5.4.2) ------------------------------------
 
-unfoldable pub told_of : (name text : List ℕ) → List ℕ
-told_of name text = shown name ++ text
+unfoldable pub said_of_name : (name text : List ℕ) → List ℕ
+said_of_name name text = shown name ++ text
 
 unfoldable pub absent : List ℕ → List ℕ
-absent name = told_of name (codes " does not exist")
+absent name = said_of_name name (codes " does not exist")
 
 unfoldable pub rename_not_allowed : (first second : List ℕ) → List ℕ
 rename_not_allowed first second =
-    told_of second (codes " has no directory above it or more than 8 names, or is below ")
-    ++ told_of first (codes "; or ")
-    ++ told_of first (codes " is protected, or above what is")
+    said_of_name second (codes " has no directory above it or more than 8 names, or is below ")
+    ++ said_of_name first (codes "; or ")
+    ++ said_of_name first (codes " is protected, or above what is")
 
 unfoldable pub octets_not_allowed : (first second : List ℕ) → List ℕ
 octets_not_allowed first second =
-    told_of first (codes " or ") ++ told_of second (codes " is a directory, or ")
-    ++ told_of first (codes " is protected")
+    said_of_name first (codes " or ") ++ said_of_name second (codes " is a directory, or ")
+    ++ said_of_name first (codes " is protected")
 
 unfoldable pub not_allowed : Action → (first second : List ℕ) → List ℕ
-not_allowed action.CreateFile first second = told_of first (codes " exists, or has no directory above it")
-not_allowed action.DeleteFile first second = told_of first (codes " is a directory, or protected")
+not_allowed action.CreateFile first second = said_of_name first (codes " exists, or has no directory above it")
+not_allowed action.DeleteFile first second = said_of_name first (codes " is a directory, or protected")
 not_allowed action.RenameFile first second = rename_not_allowed first second
 not_allowed action.AppendFile first second = octets_not_allowed first second
 not_allowed action.ReplaceFile first second = octets_not_allowed first second
-not_allowed action.CreateDirectory first second = told_of first (codes " exists, or has no directory above it")
-not_allowed action.RemoveDirectory first second = told_of first (codes " is a file, has entries, or is protected")
-not_allowed action.DenyFile first second = told_of first (codes " is a directory, or protected")
-not_allowed action.DenyDirectory first second = told_of first (codes " is a file, has entries, or is protected")
+not_allowed action.CreateDirectory first second = said_of_name first (codes " exists, or has no directory above it")
+not_allowed action.RemoveDirectory first second = said_of_name first (codes " is a file, has entries, or is protected")
+not_allowed action.DenyFile first second = said_of_name first (codes " is a directory, or protected")
+not_allowed action.DenyDirectory first second = said_of_name first (codes " is a file, has entries, or is protected")
 
 -- by its names; the first two say nothing of a request that fails
 unfoldable pub cause_of : Status → (first second : List ℕ) → List ℕ
@@ -120,7 +120,7 @@ cause_of (NotPerformed action) first second = codes "it is not performed"
 cause_of (NotAllowed action) first second = not_allowed action first second
 cause_of DeleteAbsent first second = absent first
 cause_of RenameOldAbsent first second = absent first
-cause_of RenameNewPresent first second = told_of second (codes " exists")
+cause_of RenameNewPresent first second = said_of_name second (codes " exists")
 cause_of AppendFirstAbsent first second = absent first
 cause_of AppendSecondAbsent first second = absent second
 cause_of ReplaceFirstAbsent first second = absent first
@@ -133,9 +133,9 @@ abbrev pub first_of : Option RequestFields → List ℕ
 first_of None = []
 first_of (Some r) = r.first
 
-abbrev pub second_of : Option RequestFields → List ℕ
-second_of None = []
-second_of (Some r) = unwrap_or r.second []
+abbrev pub second_name_of : Option RequestFields → List ℕ
+second_name_of None = []
+second_name_of (Some r) = unwrap_or r.second []
 
 unfoldable pub destination_words : Proposal → List ℕ
 destination_words P = codes "the destination " ++ shown (unwrap_or P.destination [])
@@ -145,12 +145,12 @@ bad_path_words place.Destination P = destination_words P ++ codes ": it is no pa
 bad_path_words (place.Request i) P = numbered i (slice_get P.requests i)
     ++ codes ": a name of it is no path of the filestore"
 
-unfoldable pub status_words : Status → List ℕ
-status_words status = codes " (status " ++ two_digits (octet_of status) ++ codes ")"
+unfoldable pub status_in_brackets : Status → List ℕ
+status_in_brackets status = codes " (status " ++ two_digits (octet_of status) ++ codes ")"
 
 unfoldable pub failure_words : ℕ → Status → Option RequestFields → List ℕ
-failure_words i status r = numbered i r ++ codes ": " ++ cause_of status (first_of r) (second_of r)
-    ++ status_words status
+failure_words i status r = numbered i r ++ codes ": " ++ cause_of status (first_of r) (second_name_of r)
+    ++ status_in_brackets status
 
 unfoldable pub many_words : ℕ → List ℕ
 many_words requests = grouped requests ++ codes " requests, and a list may have at most 64"
@@ -167,7 +167,7 @@ room_words wanted spare =
 unfoldable pub refusal_words : Refusal → Proposal → List ℕ
 refusal_words TooManyRequests P = many_words (length P.requests)
 refusal_words (BadPath at) P = bad_path_words at P
-refusal_words (Conflict id) P = codes "transaction " ++ name_of id ++ codes " uses a path of it"
+refusal_words (Conflict id) P = codes "transaction " ++ transaction_name id ++ codes " uses a path of it"
 refusal_words DestinationNotAllowed P =
     destination_words P ++ codes ": it has no directory above it, is a directory, or is protected"
 refusal_words (WouldFail i status) P = failure_words i status (slice_get P.requests i)
@@ -183,4 +183,4 @@ verdict_words (Refuse refusal) P = codes "refused: " ++ refusal_words refusal P
 verdict_words (Grant items blocks steps) P = codes "admitted: " ++ grant_words blocks steps
 
 abbrev pub verdict_line : TransactionId → Verdict → Proposal → List ℕ
-verdict_line id verdict P = line (name_of id ++ word (verdict_words verdict P))
+verdict_line id verdict P = line (transaction_name id ++ word (verdict_words verdict P))

@@ -1,16 +1,16 @@
 //! Why a request has a status.
 
 ghost use Rattle.std.specs.Prelude.{◌≡◌, ◌++◌, OnOk};
-ghost use Rattle.cfdp_verdicts.specs.Words.{absent, cause_of, not_allowed, octets_not_allowed, rename_not_allowed, told_of};
+ghost use Rattle.cfdp_verdicts.specs.Words.{absent, cause_of, not_allowed, octets_not_allowed, rename_not_allowed, said_of_name};
 
 use crate::names::push_shown;
 use cfdp_status::{Action, Status};
 use std::alloc::AllocError;
 
 /// Appends a name, and what is said of it.
-#[tactic(auto, unfolding(crate::specs::Words::told_of))]
+#[tactic(auto, unfolding(crate::specs::Words::said_of_name))]
 fn push_said(name: &[u8], said: &[u8], text: &mut Vec<u8>) -> Result<(), AllocError>
-    ensures { OnOk result (text.new.items ≡ text.old.items ++ told_of name.now said.now) }
+    ensures { OnOk result (text.new.items ≡ text.old.items ++ said_of_name name.now said.now) }
 {
     push_shown(name, text)?;
     text.extend_from_slice(said)

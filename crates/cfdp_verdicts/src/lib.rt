@@ -8,11 +8,11 @@
 
 mod causes;
 mod costing;
+mod item_table;
 mod names;
 mod requests;
-mod table;
 mod verdicts;
 
 pub use costing::{Cost, costs};
-pub use table::push_table;
+pub use item_table::push_table;
 pub use verdicts::{push_admitted, push_refused};

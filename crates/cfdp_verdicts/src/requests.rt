@@ -2,7 +2,7 @@
 
 ghost use Rattle.std.specs.Prelude.{◌≡◌, ◌+◌, ◌++◌, ◌<◌, ◌^◌, OnOk};
 ghost use Rattle.std.specs.Option.{option_map};
-ghost use Rattle.cfdp_verdicts.specs.Words.{acted, between, numbered, request_words, second_words, verb_of};
+ghost use Rattle.cfdp_verdicts.specs.Words.{acted, word_between, numbered, request_words, second_words, verb_of};
 
 use crate::names::push_shown;
 use cfdp_status::Action;
@@ -29,9 +29,9 @@ fn verb_of(action: Action) -> &'static [u8]
 }
 
 /// The word between the two names of an action.
-#[tactic(auto, unfolding(crate::specs::Words::between))]
+#[tactic(auto, unfolding(crate::specs::Words::word_between))]
 fn between(action: Action) -> &'static [u8]
-    ensures { result.now ≡ between action }
+    ensures { result.now ≡ word_between action }
 {
     match action {
         Action::AppendFile => b" with ",

@@ -3,9 +3,9 @@
 ghost use Rattle.std.specs.Prelude.{◌≡◌, ◌++◌, [], List, OnOk, unwrap_or};
 ghost use Rattle.std.specs.Option.{option_map};
 ghost use Rattle.cfdp_actions.specs.Actions.{Item};
-ghost use Rattle.cfdp_status.specs.Transaction.{name_of};
+ghost use Rattle.cfdp_status.specs.Transaction.{transaction_name};
 ghost use Rattle.cfdp_verifier.specs.Verdict.{Grant, Proposal as ProposalOf, Refuse};
-ghost use Rattle.cfdp_verdicts.specs.Words.{bad_path_words, destination_words, failure_words, first_of, grant_words, long_words, many_words, refusal_words, room_words, second_of, status_words, verdict_line};
+ghost use Rattle.cfdp_verdicts.specs.Words.{bad_path_words, destination_words, failure_words, first_of, grant_words, long_words, many_words, refusal_words, room_words, second_name_of, status_in_brackets, verdict_line};
 
 use crate::causes::push_cause;
 use crate::names::{push_counted, push_grouped, push_shown, push_text};
@@ -19,7 +19,7 @@ use std::alloc::AllocError;
 /// Appends the name of a transaction.
 #[tactic(auto, unfolding(cfdp_texts::specs::Replies::number_text))]
 fn push_name(id: TransactionId, text: &mut Vec<u8>) -> Result<(), AllocError>
-    ensures { OnOk result (text.new.items ≡ text.old.items ++ name_of id) }
+    ensures { OnOk result (text.new.items ≡ text.old.items ++ transaction_name id) }
 {
     push_number(id.source, text)?;
     text.push(b'/')?;
@@ -78,7 +78,7 @@ fn first_of(request: Option<&FilestoreRequest>) -> &[u8]
 
 /// The second name of a request; empty without one.
 fn second_of(request: Option<&FilestoreRequest>) -> &[u8]
-    ensures { result.now ≡ second_of (option_map (λ request. request.now) request.entry) }
+    ensures { result.now ≡ second_name_of (option_map (λ request. request.now) request.entry) }
 {
     match request {
         None => &[],
@@ -87,9 +87,9 @@ fn second_of(request: Option<&FilestoreRequest>) -> &[u8]
 }
 
 /// Appends a status in two hexadecimal digits, in brackets.
-#[tactic(auto, unfolding(crate::specs::Words::status_words, cfdp_texts::specs::Replies::two_digits))]
+#[tactic(auto, unfolding(crate::specs::Words::status_in_brackets, cfdp_texts::specs::Replies::two_digits))]
 fn push_status(status: Status, text: &mut Vec<u8>) -> Result<(), AllocError>
-    ensures { OnOk result (text.new.items ≡ text.old.items ++ status_words status) }
+    ensures { OnOk result (text.new.items ≡ text.old.items ++ status_in_brackets status) }
 {
     text.extend_from_slice(b" (status ")?;
     encode(&[status.octet()], text)?;

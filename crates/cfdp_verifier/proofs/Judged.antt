@@ -19,8 +19,8 @@ use Rattle.cfdp_states.specs.Views.{most_need, Sketch, IsViewOf, TellsInstall, o
 use Rattle.cfdp_states.specs.Closed.{IsPartViewOf, TellsPartInstall}
 use Rattle.cfdp_verifier.specs.declared.refusal.NotGranted.{NotGranted}
 use Rattle.cfdp_verifier.specs.declared.refusal.NotGranted.TheVariants as no
-use Rattle.cfdp_verifier.specs.Verdict.{DestinationNotAllowed, Refuse, first_failure, destination_allowed, judged, judged_apart, capped}
-use Rattle.cfdp_verifier.specs.Judging.{EndsSo, JudgesAlone}
+use Rattle.cfdp_verifier.specs.Verdict.{DestinationNotAllowed, Refuse, first_failure, destination_allowed, judged_items, judged_apart, capped}
+use Rattle.cfdp_verifier.specs.code.Judging.{EndsSo, JudgesAlone}
 use Rattle.cfdp_verifier.proofs.Covered.{covered}
 use Rattle.cfdp_verifier.proofs.Running.{low, some_of}
 
@@ -44,7 +44,8 @@ installed_at prefixes v w p size done same tells = subst (λ (ps : List Path). I
 pub installed_at_closed : (known : Bool) (prefixes : List Path) (v w : Sketch) (cs : List Path) (p : Path) (size : ℕ) (done : Bool) → v.prefixes ≡ prefixes →
     TellsPartInstall known v w cs p size done →
     InstallGoes (IsPartViewOf known v cs) (IsPartViewOf known w cs) prefixes p size done
-installed_at_closed known prefixes v w cs p size done same tells = subst (λ (ps : List Path). InstallGoes (IsPartViewOf known v cs) (IsPartViewOf known w cs) ps p size done)
+installed_at_closed known prefixes v w cs p size done same tells = subst (λ (ps : List Path). InstallGoes (IsPartViewOf known v cs)
+    (IsPartViewOf known w cs) ps p size done)
     same tells
 
 pub runs_at : {X : Type 0} (Seen : Filestore → ℕ → ℕ → ℕ → Type 0) (prefixes : List Path) (v w : Sketch) (items : List Item) (result : Result X NotGranted) →
@@ -121,7 +122,7 @@ module _ (prefixes : List Path) (F : Filestore) (x : List ℕ) (p : Path) (reque
       let items = Install p ∷ map Perform requests in
       let denied : destination_allowed prefixes (alone F x) items ≡ false =
       (covered prefixes F x items).allowed ∙ ap succeeded (sym answered_so) ∙ ap (λ b. succeeded (installed_if b)) failed in
-      ap (λ b. cond b (judged spare items (first_failure 0 (statuses_alone prefixes F x items)) (need_alone prefixes F x items)
+      ap (λ b. cond b (judged_items spare items (first_failure 0 (statuses_alone prefixes F x items)) (need_alone prefixes F x items)
       (steps_alone prefixes F x items)) (Refuse DestinationNotAllowed)) denied
 
   pub with_file : done ≡ true → AtRequests prefixes F x (Install p ∷ map Perform requests) requests Next
@@ -181,7 +182,8 @@ module _ (known : Bool) (prefixes : List Path) (F : Filestore) (bound : ℕ) (d 
     (seen : IsPartViewOf known v cs (alone (only fp F) []) (blocks (alone (only fp F) [])) (blocks (alone (only fp F) [])) 0) (p : Path) (done : Bool)
     (told : Option Bool) (is_told : told ≡ Some done) (tells : IfSome told (λ done. (known : Bool) → TellsPartInstall known v w cs p bound done)) where
   install_told : InstallGoes (IsPartViewOf known v cs) (IsPartViewOf known w cs) prefixes p bound done
-  install_told = installed_at_closed known prefixes v w cs p bound done same (some_of (λ done. (known : Bool) → TellsPartInstall known v w cs p bound done) told done is_told tells known)
+  install_told = installed_at_closed known prefixes v w cs p bound done same (some_of
+      (λ done. (known : Bool) → TellsPartInstall known v w cs p bound done) told done is_told tells known)
 
   pub refused_at_closed : d ≡ Some p → fp ≡ footprint_of (items_of d requests) → done ≡ false →
       (spare : ℕ) → judged_apart prefixes F spare (replicate bound 0) (items_of d requests) None ≡ Refuse DestinationNotAllowed
@@ -198,12 +200,12 @@ module _ (prefixes : List Path) (F : Filestore) (x : List ℕ) (items : List Ite
     (at : AtRequests prefixes F x items requests Seen) where
   -- the requests' own answers, need and steps
   judged_so : (spare : ℕ) → judged_apart prefixes F spare x items None
-      ≡ judged spare items (first_failure 0 (statuses prefixes at.here 0 (map Perform requests))) (need_alone prefixes F x items)
+      ≡ judged_items spare items (first_failure 0 (statuses prefixes at.here 0 (map Perform requests))) (need_alone prefixes F x items)
       (steps_alone prefixes F x items)
   judged_so spare =
-      ap (λ b. cond b (judged spare items (first_failure 0 (statuses_alone prefixes F x items)) (need_alone prefixes F x items)
+      ap (λ b. cond b (judged_items spare items (first_failure 0 (statuses_alone prefixes F x items)) (need_alone prefixes F x items)
       (steps_alone prefixes F x items)) (Refuse DestinationNotAllowed)) at.allowed
-      ∙ ap (λ f. judged spare items f (need_alone prefixes F x items) (steps_alone prefixes F x items)) at.failures
+      ∙ ap (λ f. judged_items spare items f (need_alone prefixes F x items) (steps_alone prefixes F x items)) at.failures
 
   ended : {X : Type 0} (result : Result X NotGranted) → Runs Seen prefixes w (map Perform requests) result →
       EndsSo prefixes at.here (map Perform requests) at.start at.high at.taken w result
@@ -214,7 +216,7 @@ module _ (prefixes : List Path) (F : Filestore) (x : List ℕ) (items : List Ite
       let run = ended (Ok y) tells in (
         need_alone prefixes F x items,
         steps_alone prefixes F x items,
-        λ spare. judged_so spare ∙ ap (λ f. judged spare items f (need_alone prefixes F x items) (steps_alone prefixes F x items)) run.0,
+        λ spare. judged_so spare ∙ ap (λ f. judged_items spare items f (need_alone prefixes F x items) (steps_alone prefixes F x items)) run.0,
         run.1 ∙ ap (λ n. min n most_need) (sym at.needs),
         run.2 ∙ ap capped (sym at.counts),
       )
@@ -224,4 +226,4 @@ module _ (prefixes : List Path) (F : Filestore) (x : List ℕ) (items : List Ite
   one_failed X no.Memory tells spare = tt
   one_failed X (no.Refused refusal) tells spare =
       let run = ended {X = X} (Err (no.Refused refusal)) tells in
-      judged_so spare ∙ ap (λ f. judged spare items f (need_alone prefixes F x items) (steps_alone prefixes F x items)) run.2 ∙ ap Refuse (sym run.3)
+      judged_so spare ∙ ap (λ f. judged_items spare items f (need_alone prefixes F x items) (steps_alone prefixes F x items)) run.2 ∙ ap Refuse (sym run.3)

@@ -16,7 +16,7 @@ use Rattle.cfdp_states.specs.Alone.{statuses, steps, peak}
 use Rattle.cfdp_states.specs.Views.{most_need, Sketch, IsViewOf, Tells}
 use Rattle.cfdp_states.specs.Closed.{IsPartViewOf, TellsPart}
 use Rattle.cfdp_verifier.specs.Verdict.{capped, first_failure}
-use Rattle.cfdp_verifier.specs.Judging.{EndsSo}
+use Rattle.cfdp_verifier.specs.code.Judging.{EndsSo}
 
 abbrev pub Goes : (Filestore → ℕ → ℕ → ℕ → Type 0) → (Filestore → ℕ → ℕ → ℕ → Type 0) → List Path → Item → Answer → Type 0
 Goes Seen Next prefixes item answer =
@@ -71,7 +71,8 @@ told_at prefixes v w item answer same tells = subst (λ (ps : List Path). Goes (
 pub told_at_closed : (known : Bool) (prefixes : List Path) (v w : Sketch) (cs ds : List Path) (item : Item) (answer : Answer) → v.prefixes ≡ prefixes →
     TellsPart known v cs w ds item answer →
     Goes (IsPartViewOf known v cs) (IsPartViewOf known w ds) prefixes item answer
-told_at_closed known prefixes v w cs ds item answer same tells = subst (λ (ps : List Path). Goes (IsPartViewOf known v cs) (IsPartViewOf known w ds) ps item answer) same
+told_at_closed known prefixes v w cs ds item answer same tells = subst (λ (ps : List Path). Goes (IsPartViewOf known v cs)
+    (IsPartViewOf known w ds) ps item answer) same
     tells
 
 pub view_counts : (w : Sketch) → Counts (IsViewOf w) w

@@ -1,4 +1,3 @@
 pub mod Verdict
 pub mod Answers
-pub mod Judging
-pub mod ClosedJudging
+pub mod code

@@ -4,8 +4,8 @@
 --     Proposal                  a list as it was sent, with its file's destination and the bound of its length
 --     Verdict                   why it is refused (a Refusal, which may name a Place), or what it is granted
 --     named, request_named      the path of a second name;  a request of its paths;  request_by: of its names
---     Parsed, parsed P          its items, or the first name that is no path: parsed_from (and_then) goes through the
---                               requests, and with_destination (with_file) puts the install before them
+--     Parsed, parsed P          its items, or the first name that is no path: parsed_from (and_then_parsed) goes
+--                               through the requests, and with_destination (with_file) puts the install before them
 --     first_failure i answers   the first request that is not successful, counted from i
 --     destination_allowed       whether the file may be installed as things are
 --     capped                    a number as 32 bits carry it
@@ -69,15 +69,15 @@ request_named action p q = None
 abbrev pub request_by : RequestFields → Option Request
 request_by r = request_named r.action (path_of r.first) (named r.second)
 
-abbrev pub and_then : Option Request → ℕ → Parsed → Parsed
-and_then None i rest = Bad (places.Request i)
-and_then (Some r) i (Bad place) = Bad place
-and_then (Some r) i (Good items) = Good (Perform r ∷ items)
+abbrev pub and_then_parsed : Option Request → ℕ → Parsed → Parsed
+and_then_parsed None i rest = Bad (places.Request i)
+and_then_parsed (Some r) i (Bad place) = Bad place
+and_then_parsed (Some r) i (Good items) = Good (Perform r ∷ items)
 
 -- the first name that is no path, from the left, or the items; requests count from i
 abbrev pub parsed_from : ℕ → List RequestFields → Parsed
 parsed_from i [] = Good []
-parsed_from i (r ∷ rs) = and_then (request_by r) i (parsed_from (i + 1) rs)
+parsed_from i (r ∷ rs) = and_then_parsed (request_by r) i (parsed_from (i + 1) rs)
 
 abbrev pub with_file : Option Path → Parsed → Parsed
 with_file None parsed = Bad Destination
@@ -111,9 +111,9 @@ abbrev pub capped : ℕ → ℕ
 capped n = min n 4294967295
 
 -- of items without a conflict whose destination is allowed, by their first failure, Need and Steps alone
-abbrev pub judged : ℕ → List Item → Option (ℕ × Status) → ℕ → ℕ → Verdict
-judged spare items (Some f) needed steps = Refuse (WouldFail f.0 f.1)
-judged spare items None needed steps =
+abbrev pub judged_items : ℕ → List Item → Option (ℕ × Status) → ℕ → ℕ → Verdict
+judged_items spare items (Some f) needed steps = Refuse (WouldFail f.0 f.1)
+judged_items spare items None needed steps =
     if nat_lt 65536 steps then Refuse (TooLong (capped steps))
     else if nat_lt spare needed then Refuse (NoRoom (capped needed) (capped spare))
     else Grant items needed steps
@@ -122,7 +122,7 @@ abbrev pub judged_apart : List Path → Filestore → ℕ → List ℕ → List 
 judged_apart prefixes F spare x items (Some id) = Refuse (Conflict id)
 judged_apart prefixes F spare x items None =
     if destination_allowed prefixes (alone F x) items
-    then judged spare items (first_failure 0 (statuses_alone prefixes F x items)) (need_alone prefixes F x items)
+    then judged_items spare items (first_failure 0 (statuses_alone prefixes F x items)) (need_alone prefixes F x items)
     (steps_alone prefixes F x items)
     else Refuse DestinationNotAllowed
 

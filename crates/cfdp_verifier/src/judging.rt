@@ -5,8 +5,8 @@ ghost use Rattle.cfdp_actions.specs.Actions.{Perform, Performed};
 ghost use Rattle.cfdp_leases.specs.Footprint.{footprint_of};
 ghost use Rattle.cfdp_leases.specs.Items.{items_of};
 ghost use Rattle.cfdp_states.specs.Closed.{TellsPart};
-ghost use Rattle.cfdp_verifier.specs.ClosedJudging.{JudgesClosed, TellsClosedRun};
-ghost use Rattle.cfdp_verifier.specs.Judging.{Affords, Judges, JudgesAlone, TellsRun};
+ghost use Rattle.cfdp_verifier.specs.code.ClosedJudging.{JudgesClosed, TellsClosedRun};
+ghost use Rattle.cfdp_verifier.specs.code.Judging.{Affords, Judges, JudgesAlone, TellsRun};
 ghost use Rattle.cfdp_verifier.specs.Verdict.{judged_apart};
 
 use crate::MOST_STEPS;
@@ -103,8 +103,8 @@ fn names_full_directory<S: Filestore>(store: &S, footprint: &Footprint) -> bool 
     exclusive.iter().any(|path| store.has_entries(path))
 }
 
-/// Whether one of the requests moves what is a directory as things are: how deep the closed directories are is found out
-/// then.
+/// Whether one of the requests moves what is a directory as things are: how deep the closed directories are is found
+/// out then.
 fn moves_directory<S: Filestore>(store: &S, requests: &[Request]) -> bool {
     requests.iter().any(|request| {
         request.action() == Action::RenameFile

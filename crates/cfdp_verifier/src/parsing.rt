@@ -3,7 +3,7 @@
 ghost use Rattle.std.specs.Prelude.{◌≡◌, ◌≤◌, IfOk, is_some, length, vec_len};
 ghost use Rattle.cfdp_paths.specs.Paths.{path_of};
 ghost use Rattle.cfdp_verifier.specs.Verdict.{parsed, parsed_from, request_by};
-ghost use Rattle.cfdp_verifier.specs.Answers.{HasItems, HasRequests};
+ghost use Rattle.cfdp_verifier.specs.code.Answers.{HasItems, HasRequests};
 
 use crate::proposal::Proposal;
 use crate::refusal::{NotGranted, Place, Refusal};

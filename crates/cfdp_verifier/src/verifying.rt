@@ -2,7 +2,8 @@
 
 ghost use Rattle.std.specs.Prelude.{◌≡◌, ◌<◌, ◌≤◌, IfNone, IfOk, IsOk, length};
 ghost use Rattle.cfdp_quota.specs.Budget.{spare};
-ghost use Rattle.cfdp_verifier.specs.Answers.{Grants, HasFootprint, answered};
+ghost use Rattle.cfdp_verifier.specs.Answers.{HasFootprint, verdict_said};
+ghost use Rattle.cfdp_verifier.specs.code.Answers.{GivesVerdict};
 ghost use Rattle.cfdp_verifier.specs.Verdict.{verdict};
 
 use crate::MOST_REQUESTS;
@@ -41,7 +42,7 @@ pub fn verify<S: Filestore>(
     proposal: &Proposal<'_>,
 ) -> Result<Verdict, Memory>
     requires bound { IfNone proposal.now.destination (proposal.now.bound ≡ 0) }
-    ensures verdict { IfOk result (λ answer. answered answer
+    ensures verdict { IfOk result (λ answer. verdict_said answer
         ≡ verdict protected.now (S.state store.now).filestore leases.now (spare quota.now) proposal.now) }
     ensures footprint { IfOk result HasFootprint }
     ensures lean { 64 < length proposal.now.requests → IsOk result }
@@ -67,7 +68,8 @@ fn find_grant<S: Filestore>(
 ) -> Result<Grant, NotGranted>
     requires few { length proposal.now.requests ≤ 64 }
     requires bound { IfNone proposal.now.destination (proposal.now.bound ≡ 0) }
-    ensures { Grants (verdict protected.now (S.state store.now).filestore leases.now (spare quota.now) proposal.now)
+    ensures { GivesVerdict (verdict protected.now (S.state store.now).filestore leases.now
+        (spare quota.now) proposal.now)
         result }
 {
     let items = parse_items(alloc, proposal)?;

@@ -19,8 +19,8 @@ abbrev pub words_in : List (ℕ × List ℕ) → List ℕ → ℕ → List ℕ
 words_in [] other code = other
 words_in (row ∷ rows) other code = if code == row.0 then row.1 else words_in rows other code
 
-abbrev pub reserved : List ℕ
-reserved = codes "reserved"
+abbrev pub reserved_words : List ℕ
+reserved_words = codes "reserved"
 
 abbrev pub conditions : List (ℕ × List ℕ)
 conditions =
@@ -31,7 +31,7 @@ conditions =
     ∷ (14, codes "Suspend.request received") ∷ (15, codes "Cancel.request received") ∷ []
 
 abbrev pub condition_words : ℕ → List ℕ
-condition_words code = words_in conditions reserved code
+condition_words code = words_in conditions reserved_words code
 
 -- those of the registry for checksum types
 abbrev pub checksums : List (ℕ × List ℕ)
@@ -40,7 +40,7 @@ checksums =
     (15, codes "null") ∷ []
 
 abbrev pub checksum_words : ℕ → List ℕ
-checksum_words code = words_in checksums reserved code
+checksum_words code = words_in checksums reserved_words code
 
 abbrev pub file_statuses : List (ℕ × List ℕ)
 file_statuses =
@@ -61,7 +61,7 @@ directives =
     ∷ (12, codes "Keep Alive") ∷ []
 
 abbrev pub directive_words : ℕ → List ℕ
-directive_words code = words_in directives reserved code
+directive_words code = words_in directives reserved_words code
 
 abbrev pub action_words : Action → List ℕ
 action_words actions.CreateFile = codes "Create File"

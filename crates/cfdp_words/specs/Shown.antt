@@ -1,5 +1,5 @@
 -- A PDU as it is shown: its kind, how many octets it has, and its fields by their names in CCSDS 727.0-B-5 §5.
---   shown style octets        what is written of octets, which are a PDU or are damaged
+--   pdu_shown style octets    what is written of octets, which are a PDU or are damaged
 use Rattle.std.specs.Prelude.{ℕ, ◌%◌, Bool, true, false, ◌==◌, nat_lt, if◌then◌else◌, List, [], ◌∷◌, ◌++◌, codes, decimal, length, Option, Some, None, Result, Ok, Err}
 use Rattle.std.specs.List.{flat_map}
 use Rattle.hex.specs.Hex.{encode_lower}
@@ -7,7 +7,7 @@ use Rattle.byteorder.specs.Endian.{big_bytes}
 use Rattle.cfdp_status.specs.Codes.{octet_of, code_of, action_of}
 use Rattle.cfdp_tlv.specs.Values.{RequestFields, ResponseFields}
 use Rattle.cfdp_pdus.specs.First.{pdu_at}
-use Rattle.cfdp_pdus.specs.Texts.{text_of}
+use Rattle.cfdp_pdus.specs.Texts.{pdu_fault_text}
 use Rattle.cfdp_pdus.specs.Messages.{messages_at}
 use Rattle.cfdp_pdus.specs.Values.{MetadataFields, FileDataFields, FinishedFields}
 use Rattle.cfdp_pdus.specs.declared.eof.Eof.{Eof}
@@ -15,7 +15,7 @@ use Rattle.cfdp_pdus.specs.declared.fault.PduFault.{PduFault}
 use Rattle.cfdp_pdus.specs.declared.header.Header.{Header}
 use Rattle.cfdp_pdus.specs.declared.pdu.Pdu.{Pdu}
 use Rattle.cfdp_pdus.specs.declared.pdu.Pdu.TheVariants as pdus
-use Rattle.cfdp_directives.specs.Reading.{NakFields, directive_at, nak_within}
+use Rattle.cfdp_directives.specs.Reading.{NakFields, directive_spelled, nak_within}
 use Rattle.cfdp_directives.specs.declared.nak.NakFault.{NakFault}
 use Rattle.cfdp_directives.specs.declared.nak.NakFault.TheVariants as nak_faults
 use Rattle.cfdp_directives.specs.declared.ack.Ack.{Ack}
@@ -42,9 +42,9 @@ abbrev pub opening : Style → Kind → ℕ → List ℕ
 opening Text kind len = kind_words kind ++ codes " PDU, " ++ decimal len ++ codes " octets\n"
 opening Json kind len = codes "{\"kind\":\"" ++ kind_words kind ++ codes "\",\"octets\":" ++ decimal len
 
-abbrev pub closing : Style → List ℕ
-closing Text = []
-closing Json = codes "}\n"
+abbrev pub closing_text : Style → List ℕ
+closing_text Text = []
+closing_text Json = codes "}\n"
 
 -- ---- the header
 
@@ -84,16 +84,16 @@ abbrev pub list_closing : Style → List ℕ
 list_closing Text = []
 list_closing Json = codes "]"
 
-abbrev pub between : Style → List ℕ
-between Text = []
-between Json = codes ","
+abbrev pub separator : Style → List ℕ
+separator Text = []
+separator Json = codes ","
 
 abbrev pub each : {A : Type 0} → Style → (A → List ℕ) → List A → List ℕ
 each style item [] = []
-each style item (x ∷ xs) = item x ++ flat_map (λ y. between style ++ item y) xs
+each style item (x ∷ xs) = item x ++ flat_map (λ y. separator style ++ item y) xs
 
-unfoldable pub listed : {A : Type 0} → Style → Name → (A → List ℕ) → List A → List ℕ
-listed style name item xs = list_opening style name ++ each style item xs ++ list_closing style
+unfoldable pub list_text : {A : Type 0} → Style → Name → (A → List ℕ) → List A → List ℕ
+list_text style name item xs = list_opening style name ++ each style item xs ++ list_closing style
 
 -- a thing with several fields: its first one is a code
 unfoldable pub item_opening : Style → Name → ℕ → List ℕ → List ℕ
@@ -143,8 +143,8 @@ metadata_fields style messages m =
     ++ number_field style names.FileSize m.size
     ++ name_field style names.SourceFileName m.source_name
     ++ name_field style names.DestinationFileName m.destination_name
-    ++ listed style names.FilestoreRequests (request_item style) m.requests
-    ++ listed style names.MessagesToUser (message_item style) messages
+    ++ list_text style names.FilestoreRequests (request_item style) m.requests
+    ++ list_text style names.MessagesToUser (message_item style) messages
 
 unfoldable pub data_fields : Style → FileDataFields → List ℕ
 data_fields style d =
@@ -169,7 +169,7 @@ finished_fields style f =
     code_field style names.ConditionCode f.condition (condition_words f.condition)
     ++ plain_field style names.DeliveryCode (delivery_words f.incomplete)
     ++ code_field style names.FileStatus f.file_status (file_status_words f.file_status)
-    ++ listed style names.FilestoreResponses (response_item style) f.responses
+    ++ list_text style names.FilestoreResponses (response_item style) f.responses
     ++ fault_field style f.fault
 
 unfoldable pub ack_fields : Style → Ack → List ℕ
@@ -186,16 +186,17 @@ unfoldable pub nak_fields : Style → NakFields → List ℕ
 nak_fields style nak =
     number_field style names.StartOfScope nak.scope.0
     ++ number_field style names.EndOfScope nak.scope.1
-    ++ listed style names.SegmentRequests (range_item style) nak.requests
+    ++ list_text style names.SegmentRequests (range_item style) nak.requests
 
 -- ---- whole PDUs
 
 -- len: how many octets came;  crc: they had a CRC
 abbrev pub pdu_text : Style → ℕ → Bool → Kind → Header → List ℕ → List ℕ
-pdu_text style len crc kind h fields = opening style kind len ++ header_fields style crc h ++ fields ++ closing style
+pdu_text style len crc kind h fields = opening style kind len ++ header_fields style crc h ++ fields
+    ++ closing_text style
 
 abbrev pub damaged : Style → ℕ → List ℕ → List ℕ
-damaged style len fault = opening style kinds.Damaged len ++ plain_field style names.Fault fault ++ closing style
+damaged style len fault = opening style kinds.Damaged len ++ plain_field style names.Fault fault ++ closing_text style
 
 abbrev pub directive_text : Style → ℕ → Bool → Result Directive PduFault → List ℕ
 directive_text style len crc (Ok (directives.Ack h ack)) = pdu_text style len crc kinds.Ack h (ack_fields style ack)
@@ -203,11 +204,11 @@ directive_text style len crc (Ok (directives.Prompt h prompt)) =
     pdu_text style len crc kinds.Prompt h (plain_field style names.ResponseRequired (prompt_words prompt))
 directive_text style len crc (Ok (directives.KeepAlive h alive)) =
     pdu_text style len crc kinds.KeepAlive h (number_field style names.Progress alive.progress)
-directive_text style len crc (Err fault) = damaged style len (text_of fault)
+directive_text style len crc (Err fault) = damaged style len (pdu_fault_text fault)
 
 -- the last does not happen: a NAK PDU has 8,190 requests at most
 abbrev pub nak_fault_words : NakFault → List ℕ
-nak_fault_words (nak_faults.Pdu fault) = text_of fault
+nak_fault_words (nak_faults.Pdu fault) = pdu_fault_text fault
 nak_fault_words (nak_faults.TooMany count) = codes "there are too many segment requests"
 
 abbrev pub nak_text : Style → ℕ → Bool → Result NakFields NakFault → List ℕ
@@ -217,7 +218,7 @@ nak_text style len crc (Err fault) = damaged style len (nak_fault_words fault)
 abbrev pub other_text : Style → ℕ → Bool → List ℕ → ℕ → List ℕ
 other_text style len crc octets code =
     if code == 8 then nak_text style len crc (nak_within 8190 octets)
-    else directive_text style len crc (directive_at octets)
+    else directive_text style len crc (directive_spelled octets)
 
 abbrev pub read_text : Style → ℕ → Bool → List ℕ → Result Pdu PduFault → List ℕ
 read_text style len crc octets (Ok (pdus.Metadata h m)) =
@@ -227,7 +228,7 @@ read_text style len crc octets (Ok (pdus.Eof h eof)) = pdu_text style len crc ki
 read_text style len crc octets (Ok (pdus.Finished h f)) =
     pdu_text style len crc kinds.Finished h (finished_fields style f)
 read_text style len crc octets (Ok (pdus.NotOurs h code)) = other_text style len crc octets code
-read_text style len crc octets (Err fault) = damaged style len (text_of fault)
+read_text style len crc octets (Err fault) = damaged style len (pdu_fault_text fault)
 
 abbrev pub crc_words : CrcFault → List ℕ
 crc_words crc.Truncated = codes "the PDU is cut"
@@ -240,5 +241,5 @@ abbrev pub unsealed_text : Style → ℕ → Result (List ℕ) CrcFault → List
 unsealed_text style len (Ok plain) = read_text style len (nat_lt (length plain) len) plain (pdu_at plain)
 unsealed_text style len (Err fault) = damaged style len (crc_words fault)
 
-abbrev pub shown : Style → List ℕ → List ℕ
-shown style octets = unsealed_text style (length octets) (unsealed octets)
+abbrev pub pdu_shown : Style → List ℕ → List ℕ
+pdu_shown style octets = unsealed_text style (length octets) (unsealed octets)

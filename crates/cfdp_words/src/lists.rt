@@ -5,7 +5,7 @@ ghost use Rattle.std.specs.Option.{option_map};
 ghost use Rattle.cfdp_status.specs.Codes.{code_of};
 ghost use Rattle.cfdp_words.specs.Codes.{action_words};
 ghost use Rattle.cfdp_words.specs.declared.names.Name.TheVariants as names;
-ghost use Rattle.cfdp_words.specs.Shown.{between, each, item_closing, item_opening, list_closing, list_opening, listed, message_item, range_item, request_item, response_item, second_field};
+ghost use Rattle.cfdp_words.specs.Shown.{separator, each, item_closing, item_opening, list_closing, list_opening, list_text, message_item, range_item, request_item, response_item, second_field};
 
 use crate::Style;
 use crate::codes::{action_words, status_words};
@@ -43,7 +43,7 @@ fn close_list(style: Style, text: &mut Vec<u8>) -> Result<(), AllocError>
 
 /// Appends what comes between two things.
 fn push_between(style: Style, text: &mut Vec<u8>) -> Result<(), AllocError>
-    ensures { OnOk result (text.new.items ≡ text.old.items ++ between style) }
+    ensures { OnOk result (text.new.items ≡ text.old.items ++ separator style) }
 {
     match style {
         Style::Text => Ok(()),
@@ -235,14 +235,14 @@ fn push_each_message(
 }
 
 /// Appends filestore requests.
-#[tactic(auto, unfolding(crate::specs::Shown::listed))]
+#[tactic(auto, unfolding(crate::specs::Shown::list_text))]
 pub(crate) fn push_requests(
     style: Style,
     requests: &[FilestoreRequest],
     text: &mut Vec<u8>,
 ) -> Result<(), AllocError>
     ensures { OnOk result (text.new.items ≡ text.old.items
-        ++ listed style names.FilestoreRequests (request_item style) requests.now) }
+        ++ list_text style names.FilestoreRequests (request_item style) requests.now) }
 {
     open_list(style, Name::FilestoreRequests, text)?;
     push_each_request(style, requests, text)?;
@@ -250,14 +250,14 @@ pub(crate) fn push_requests(
 }
 
 /// Appends filestore responses.
-#[tactic(auto, unfolding(crate::specs::Shown::listed))]
+#[tactic(auto, unfolding(crate::specs::Shown::list_text))]
 pub(crate) fn push_responses(
     style: Style,
     responses: &[FilestoreResponse],
     text: &mut Vec<u8>,
 ) -> Result<(), AllocError>
     ensures { OnOk result (text.new.items ≡ text.old.items
-        ++ listed style names.FilestoreResponses (response_item style) responses.now) }
+        ++ list_text style names.FilestoreResponses (response_item style) responses.now) }
 {
     open_list(style, Name::FilestoreResponses, text)?;
     push_each_response(style, responses, text)?;
@@ -265,14 +265,14 @@ pub(crate) fn push_responses(
 }
 
 /// Appends segment requests.
-#[tactic(auto, unfolding(crate::specs::Shown::listed))]
+#[tactic(auto, unfolding(crate::specs::Shown::list_text))]
 pub(crate) fn push_ranges(
     style: Style,
     ranges: &[Range],
     text: &mut Vec<u8>,
 ) -> Result<(), AllocError>
     ensures { OnOk result (text.new.items ≡ text.old.items
-        ++ listed style names.SegmentRequests (range_item style) ranges.now) }
+        ++ list_text style names.SegmentRequests (range_item style) ranges.now) }
 {
     open_list(style, Name::SegmentRequests, text)?;
     push_each_range(style, ranges, text)?;
@@ -280,14 +280,14 @@ pub(crate) fn push_ranges(
 }
 
 /// Appends messages to user.
-#[tactic(auto, unfolding(crate::specs::Shown::listed))]
+#[tactic(auto, unfolding(crate::specs::Shown::list_text))]
 pub(crate) fn push_messages(
     style: Style,
     messages: Messages<'_>,
     text: &mut Vec<u8>,
 ) -> Result<(), AllocError>
     ensures { OnOk result (text.new.items ≡ text.old.items
-        ++ listed style names.MessagesToUser (message_item style) messages.entry) }
+        ++ list_text style names.MessagesToUser (message_item style) messages.entry) }
 {
     open_list(style, Name::MessagesToUser, text)?;
     push_each_message(style, messages, text)?;

@@ -3,13 +3,13 @@
 ghost use Rattle.std.specs.Prelude.{◌≡◌, ◌≤◌, ◌++◌, IfOk, OnOk, length};
 ghost use Rattle.cfdp_pdus.specs.First.{pdu_at};
 ghost use Rattle.cfdp_pdus.specs.Messages.{messages_at};
-ghost use Rattle.cfdp_pdus.specs.Texts.{text_of};
-ghost use Rattle.cfdp_directives.specs.Reading.{directive_at, nak_in, nak_within};
+ghost use Rattle.cfdp_pdus.specs.Texts.{pdu_fault_text};
+ghost use Rattle.cfdp_directives.specs.Reading.{directive_spelled, nak_in, nak_within};
 ghost use Rattle.cfdp_words.specs.Codes.{condition_words};
 ghost use Rattle.cfdp_words.specs.declared.names.Kind.TheVariants as kinds;
 ghost use Rattle.cfdp_words.specs.declared.names.Name.TheVariants as names;
 ghost use Rattle.cfdp_words.specs.Style.{code_field, number_field, plain_field};
-ghost use Rattle.cfdp_words.specs.Shown.{ack_fields, closing, crc_words, damaged, data_fields, delivery_words, direction_words, directive_text, eof_fields, fault_field, finished_fields, flag_fields, header_fields, id_fields, metadata_fields, mode_words, nak_fault_words, nak_fields, nak_text, opening, other_text, pdu_text, prompt_words, read_text, shown};
+ghost use Rattle.cfdp_words.specs.Shown.{ack_fields, closing_text, crc_words, damaged, data_fields, delivery_words, direction_words, directive_text, eof_fields, fault_field, finished_fields, flag_fields, header_fields, id_fields, metadata_fields, mode_words, nak_fault_words, nak_fields, nak_text, opening, other_text, pdu_text, prompt_words, read_text, pdu_shown};
 
 use crate::Style;
 use crate::codes::{
@@ -62,7 +62,7 @@ fn push_opening(style: Style, kind: Kind, len: usize, text: &mut Vec<u8>) -> Res
 
 /// Appends what comes after the last field.
 fn push_closing(style: Style, text: &mut Vec<u8>) -> Result<(), AllocError>
-    ensures { OnOk result (text.new.items ≡ text.old.items ++ closing style) }
+    ensures { OnOk result (text.new.items ≡ text.old.items ++ closing_text style) }
 {
     match style {
         Style::Text => Ok(()),
@@ -344,7 +344,7 @@ fn push_damaged(
 
 /// Why octets are no PDU, in words.
 fn fault_words(fault: PduFault) -> &'static [u8]
-    ensures { result.now ≡ text_of fault }
+    ensures { result.now ≡ pdu_fault_text fault }
 {
     match fault {
         PduFault::Truncated => b"the PDU is cut",
@@ -438,7 +438,7 @@ fn push_directive(
     text: &mut Vec<u8>,
 ) -> Result<(), AllocError>
     ensures { OnOk result (text.new.items ≡ text.old.items
-        ++ directive_text style came.len came.has_crc (directive_at octets.now)) }
+        ++ directive_text style came.len came.has_crc (directive_spelled octets.now)) }
 {
     match read_directive(octets) {
         Ok(Directive::Ack(header, ack)) => push_ack_pdu(style, came, &header, &ack, text),
@@ -608,7 +608,7 @@ fn push_plain(
 ///
 /// [`AllocError`] when out of memory. Cost: a pass over the octets, and the text.
 pub fn show(alloc: Global, style: Style, octets: &mut [u8]) -> Result<Vec<u8>, AllocError>
-    ensures { IfOk result (λ text. text.items ≡ shown style octets.old) }
+    ensures { IfOk result (λ text. text.items ≡ pdu_shown style octets.old) }
 {
     let mut text = Vec::new(alloc);
     let len = octets.len();

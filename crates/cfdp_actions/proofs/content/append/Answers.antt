@@ -2,7 +2,7 @@ use Rattle.std.proofs.Common.{◌++◌, List, ℕ, length, length-append, sym, a
 use Rattle.std.specs.FinMap.{put}
 use Rattle.cfdp_paths.specs.Paths.{path_cmp}
 use Rattle.cfdp_actions.specs.Filestore.{File, octets_in}
-use Rattle.cfdp_actions.specs.Listed.{shown, found}
+use Rattle.cfdp_actions.specs.code.Listed.{shown_entries, entry_found}
 use Rattle.cfdp_actions.specs.declared.content.Content.TheVariants as content
 use Rattle.cfdp_actions.proofs.ShownLaws.{found_some, shown_twice, second_octets, stands, put_stands, put-same, file_there, file_is}
 use Rattle.cfdp_actions.proofs.StagedLaws.{on_err}
@@ -22,8 +22,8 @@ returns-in_err-extended-clause-err c =
     let octets = c.in_err-extended.ensures.err ∙ c.into_octets-octets.ensures ∙ ap octets_in (sym here) in
     on_err c.from_residual.result _
     (shown_twice k (content.File c.extend-extended.new.octets) content.Directory es c.exchange.new.self c.set.new.self c.exchange.ensures.put c.set.ensures
-    ∙ ap (λ xs. put path_cmp k (File xs) (shown es)) octets ∙ put-same k (File (octets_in (found es k))) (shown es) c.requires.sorted
-    (file_is (found es k) c.requires.file))
+    ∙ ap (λ xs. put path_cmp k (File xs) (shown_entries es)) octets ∙ put-same k (File (octets_in (entry_found es k))) (shown_entries es) c.requires.sorted
+    (file_is (entry_found es k) c.requires.file))
 
 pub returns-clause-ok : goal.returns-clause-ok
 returns-clause-ok c =
@@ -34,9 +34,9 @@ returns-clause-ok c =
     let front = c.into_octets-octets.ensures ∙ ap octets_in (sym here) in
     let back = second_octets c.eq.result k q content.Directory es c.exchange.new.self c.into_octets-octets.result.items c.eq.ensures c.exchange.ensures.put
     front in
-    let octets = c.in_ok-extended.ensures.ok ∙ ap (λ xs. c.into_octets-octets.result.items ++ xs) back ∙ ap (λ xs. xs ++ octets_in (found es q)) front in
+    let octets = c.in_ok-extended.ensures.ok ∙ ap (λ xs. c.into_octets-octets.result.items ++ xs) back ∙ ap (λ xs. xs ++ octets_in (entry_found es q)) front in
     shown_twice k (content.File c.extend-extended.new.octets) content.Directory es c.exchange.new.self c.set.new.self c.exchange.ensures.put c.set.ensures
-    ∙ ap (λ xs. put path_cmp k (File xs) (shown es)) octets
+    ∙ ap (λ xs. put path_cmp k (File xs) (shown_entries es)) octets
 
 pub returns-clause-from : goal.returns-clause-from
 returns-clause-from c =
@@ -59,6 +59,6 @@ returns-clause-to c =
       c.len-to.ensures,
       c.extend-extended.new.octets.ok.0,
       octets,
-      length-append c.into_octets-octets.result.items (octets_in (found es q)),
+      length-append c.into_octets-octets.result.items (octets_in (entry_found es q)),
       ap (λ (xs : List ℕ). length xs) front,
     )

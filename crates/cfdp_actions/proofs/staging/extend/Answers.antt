@@ -1,6 +1,6 @@
 use Rattle.std.proofs.Common.{◌<◌, ap, sym, ◌∙◌, set, length, arith}
 use Rattle.cfdp_actions.specs.Store.{extended}
-use Rattle.cfdp_actions.specs.Listed.{octets_of}
+use Rattle.cfdp_actions.specs.Listed.{vector_octets}
 use Rattle.cfdp_actions.proofs.StagedLaws.{octets_of-set, octets_of-at, octets_of-same, extended_is, on_err}
 use Rattle.cfdp_actions.proofs.staging.extend.Goals as goal
 
@@ -12,7 +12,7 @@ returns-clause-ok c =
     let within : slot < length lists = omega (arith, c.args.staged.now.ok.0, c.requires.slot) in
     let before = octets_of-at lists slot v within c.index_mut.ensures.value in
     let grown = extended_is v.items v.len c.args.size v.ok.0 (omega (arith, c.requires.longer, ap length before, v.ok.0)) in
-    octets_of-set lists slot c.resize.new.self ∙ ap (set (octets_of lists) slot) (c.in_ok-resize.ensures.items ∙ grown
+    octets_of-set lists slot c.resize.new.self ∙ ap (set (vector_octets lists) slot) (c.in_ok-resize.ensures.items ∙ grown
     ∙ ap (λ xs. extended xs c.args.size) (sym before))
 
 pub returns-in_err-resize-clause-err : goal.returns-in_err-resize-clause-err

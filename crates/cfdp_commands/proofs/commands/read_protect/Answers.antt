@@ -23,4 +23,5 @@ returns-in-None c =
 pub returns-in-Some-fault_in : goal.returns-in-Some-fault_in
 returns-in-Some-fault_in c =
     let spelled = words_spell c.args.words.now in
-    sym (ap protect_by (spelled ∙ c.in-Some.ensures.some) ∙ protect_by-faulty (take c.in-Some.len c.decode_within.new.room) c.in-Some-fault_in.field-0 c.in-Some-fault_in.ensures)
+    sym (ap protect_by (spelled ∙ c.in-Some.ensures.some) ∙ protect_by-faulty (take c.in-Some.len c.decode_within.new.room) c.in-Some-fault_in.field-0
+    c.in-Some-fault_in.ensures)

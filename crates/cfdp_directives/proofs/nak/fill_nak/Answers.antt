@@ -2,7 +2,7 @@ use Rattle.std.proofs.Common.{arith, ◌≡◌, ◌+◌, ◌≤◌, ◌∷◌, [
 use Rattle.std.specs.List.{flat_map}
 use Rattle.cfdp_pdus.proofs.WriteSteps.{pdu_len}
 use Rattle.cfdp_pdus.specs.Canonical.{header_octets}
-use Rattle.cfdp_pdus.specs.Placing.{filled, overwritten}
+use Rattle.cfdp_pdus.specs.Placing.{filled, with_octets_at}
 use Rattle.cfdp_directives.specs.Spelling.{nak_field, range_octets}
 use Rattle.cfdp_directives.proofs.Lengths.{nak_parts, range_len}
 use Rattle.cfdp_pdus.proofs.Placing.{then, pdu_filled}
@@ -65,9 +65,9 @@ returns c =
     let within : at ≤ length c.put_header.new.out = omega (arith, pdu_len false h field, c.requires.room, c.put_header.auto.out, c.header_len-at.ensures) in
     let header : c.put_header.new.out ≡ filled (header_octets false h (length field)) c.args.out.now =
     c.put_header.ensures ∙ ap (λ (n : ℕ). filled (header_octets false h n) c.args.out.now) (c.field_len.ensures c.args.scope) in
-    let till_scope : c.put_range.new.out ≡ overwritten c.put_header.new.out at (code ++ scope) =
+    let till_scope : c.put_range.new.out ≡ with_octets_at c.put_header.new.out at (code ++ scope) =
     then c.put_header.new.out c.put_octets.new.out c.put_range.new.out code scope at (at + 1) within c.put_octets.ensures c.put_range.ensures (omega arith) in
-    let till_requests : c.put_ranges.new.out ≡ overwritten c.put_header.new.out at field =
+    let till_requests : c.put_ranges.new.out ≡ with_octets_at c.put_header.new.out at field =
     then c.put_header.new.out c.put_range.new.out c.put_ranges.new.out (code ++ scope) requests at (at + 1 + c.range_len.result)
     within till_scope c.put_ranges.ensures
     (omega (arith, c.range_len.ensures, range_len h.large c.args.scope)) in

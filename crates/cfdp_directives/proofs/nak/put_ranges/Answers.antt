@@ -2,7 +2,7 @@ use Rattle.std.proofs.Common.{arith, get_or, ◌∙◌, ap, sym, length, take}
 use Rattle.std.specs.List.{flat_map}
 use Rattle.std.proofs.lemmas.List.{length-append}
 use Rattle.std.proofs.lemmas.List.Folds.{length-flat_map-take}
-use Rattle.cfdp_pdus.specs.Placing.{overwritten}
+use Rattle.cfdp_pdus.specs.Placing.{with_octets_at}
 use Rattle.cfdp_directives.specs.Spelling.{range_octets}
 use Rattle.cfdp_directives.proofs.Lengths.{range_len}
 use Rattle.cfdp_directives.proofs.Ranges.{octets_more}
@@ -24,7 +24,7 @@ loop-range-preserved c =
       written =
           then c.args.out.now c.loop-range.out c.put_range.new.out octets (range_octets c.args.large item) c.args.at c.loop-range.next
           (omega (arith, c.requires.room)) c.loop-range.invariant.written c.put_range.ensures c.loop-range.invariant.offset
-          ∙ ap (overwritten c.args.out.now c.args.at) (sym more);
+          ∙ ap (with_octets_at c.args.out.now c.args.at) (sym more);
       offset = omega (
         arith,
         c.loop-range.invariant.offset,

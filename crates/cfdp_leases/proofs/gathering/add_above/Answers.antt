@@ -1,7 +1,7 @@
 use Rattle.std.proofs.Common.{◌++◌, subst, List}
 use Rattle.std.specs.Prelude.{OnOk}
 use Rattle.cfdp_paths.specs.Paths.{Path, ancestors}
-use Rattle.cfdp_leases.specs.Footprint.{SameSet}
+use Rattle.cfdp_leases.specs.code.Footprint.{SameSet}
 use Rattle.cfdp_leases.proofs.Ordered.{and_then, above-two}
 use Rattle.cfdp_leases.proofs.gathering.add_above.Goals as goal
 

@@ -2,7 +2,7 @@ use Rattle.std.proofs.Common.{rules, ◌≡◌, sym, ◌∙◌, ◌++◌, ◌∷
 use Rattle.std.specs.Prelude.{OnOk}
 use Rattle.cfdp_status.specs.declared.action.Action.TheVariants.{RenameFile}
 use Rattle.cfdp_paths.specs.Paths.{Path}
-use Rattle.cfdp_leases.specs.Footprint.{SameSet}
+use Rattle.cfdp_leases.specs.code.Footprint.{SameSet}
 use Rattle.cfdp_leases.proofs.Ordered.{and_then, changed-rename}
 use Rattle.cfdp_leases.proofs.gathering.add_changed.Goals as goal
 

@@ -1,7 +1,7 @@
 use Rattle.std.proofs.Common.{◌<◌, ◌++◌, length, take}
 use Rattle.std.specs.List.Sorted.{IsStrictlySortedBy}
 use Rattle.cfdp_paths.specs.Paths.{path_cmp, ancestors}
-use Rattle.cfdp_leases.specs.Footprint.{SameSet}
+use Rattle.cfdp_leases.specs.code.Footprint.{SameSet}
 use Rattle.cfdp_leases.proofs.Closed.{HaveAncestorsTo}
 use Rattle.cfdp_leases.proofs.gathering.insert_ancestors.Given as goal
 

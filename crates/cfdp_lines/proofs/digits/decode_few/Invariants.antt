@@ -1,5 +1,5 @@
 use Rattle.std.proofs.Common.{◌<◌}
-use Rattle.cfdp_lines.specs.Digits.{ArePairs}
+use Rattle.cfdp_lines.specs.code.Digits.{ArePairs}
 use Rattle.cfdp_lines.proofs.digits.decode_few.Given as goal
 
 abbrev pub invariant-pairs : goal.invariant-pairs

@@ -1,10 +1,10 @@
 use Rattle.std.proofs.Common.{◌<◌, ◌-◌, length}
-use Rattle.cfdp_lines.specs.Digits.{ArePairs, AreSmall}
+use Rattle.cfdp_lines.specs.code.Digits.{ArePairs, AreNibbles}
 use Rattle.cfdp_lines.proofs.digits.decode_many.Given as goal
 
 abbrev pub invariant-vectors : goal.invariant-vectors
 invariant-vectors l = record {
-  pairs : ArePairs l.word l.room l.start (AreSmall l.seen);
+  pairs : ArePairs l.word l.room l.start (AreNibbles l.seen);
   within : l.start < length l.room;
 }
 

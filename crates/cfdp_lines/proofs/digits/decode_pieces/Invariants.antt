@@ -1,5 +1,5 @@
 use Rattle.std.proofs.Common.{◌≡◌, ◌≤◌, ◌-◌, true, length}
-use Rattle.cfdp_lines.specs.Digits.{ArePairs}
+use Rattle.cfdp_lines.specs.code.Digits.{ArePairs}
 use Rattle.cfdp_lines.proofs.digits.decode_pieces.Given as goal
 
 -- all pairs so far are of digits

@@ -5,7 +5,8 @@ use Rattle.std.proofs.lemmas.Slice.{take-put_mid}
 use Rattle.std.proofs.lemmas.Iterator.Splits.{YieldsList-from_slice_split}
 use Rattle.std.specs.Slice.Iter.{split_rest, split_done, split_callee}
 use Rattle.hex.specs.Hex.{decode_of}
-use Rattle.cfdp_lines.specs.Hexadecimal.{is_space, octets_in}
+use Rattle.cfdp_lines.specs.Hexadecimal.{is_space}
+use Rattle.cfdp_lines.specs.code.Hexadecimal.{octets_or_none}
 use Rattle.cfdp_lines.proofs.Decoding.{decode_start, decode_on, decode_longer, decode_bad, decode_end, err_octets, ok_octets}
 use Rattle.cfdp_lines.proofs.hexadecimal.decode_within.Goals as goal
 
@@ -49,7 +50,7 @@ loop-word-preserved c =
     let sized : length new ≡ length word / 2 = search rules in
     let more = take-put_mid len _ c.loop-word.room new (len + length word / 2) (omega (arith, sized)) c.loop-word.invariant.1 in (
       rw (more, c.in-Ok.ensures.octets)
-          (decode_on _ c.next.new.self c.in-Some.word c.args.line.now so_far (octets_in (decode_of word)) c.loop-word.invariant.0
+          (decode_on _ c.next.new.self c.in-Some.word c.args.line.now so_far (octets_or_none (decode_of word)) c.loop-word.invariant.0
           c.in-Some.ensures.steps (ok_octets (decode_of word) good)),
       long_enough _ so_far new (len + length word / 2) more
           (omega (arith, sized, length-take len c.loop-word.room, c.loop-word.invariant.1)),

@@ -3,7 +3,8 @@ use Rattle.std.proofs.lemmas.Bool.{false≢true}
 use Rattle.std.proofs.lemmas.Iterator.Splits.{YieldsList-from_slice_split}
 use Rattle.std.specs.Slice.Iter.{split_rest, split_done, split_callee}
 use Rattle.hex.specs.Hex.{decode_of}
-use Rattle.cfdp_lines.specs.Hexadecimal.{is_space, octets_in}
+use Rattle.cfdp_lines.specs.Hexadecimal.{is_space}
+use Rattle.cfdp_lines.specs.code.Hexadecimal.{octets_or_none}
 use Rattle.cfdp_lines.proofs.Decoding.{decode_start, decode_on, decode_bad, decode_end, ok_octets, err_octets}
 use Rattle.cfdp_lines.proofs.hexadecimal.is_hexadecimal.Goals as goal
 
@@ -23,8 +24,8 @@ pub loop-word-preserved : goal.loop-word-preserved
 loop-word-preserved c =
     let so_far = c.loop-word.invariant in
     let word = c.in-Some.word.now in (
-      so_far.0 ++ octets_in (decode_of word),
-      decode_on _ c.next.new.self c.in-Some.word c.args.line.now so_far.0 (octets_in (decode_of word)) so_far.1 c.in-Some.ensures.steps
+      so_far.0 ++ octets_or_none (decode_of word),
+      decode_on _ c.next.new.self c.in-Some.word c.args.line.now so_far.0 (octets_or_none (decode_of word)) so_far.1 c.in-Some.ensures.steps
           (ok_octets (decode_of word) (c.is_decodable.ensures.0 c.if-not-is_decodable.false)),
     )
 

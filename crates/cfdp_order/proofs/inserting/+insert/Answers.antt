@@ -2,7 +2,7 @@ use Rattle.std.proofs.Common.{◌≡◌, ◌≢◌, ◌∷◌, ◌++◌, refl, s
 use Rattle.std.specs.Prelude.{All}
 use Rattle.std.specs.declared.cmp.Ordering.TheVariants.{Less}
 use Rattle.cfdp_order.specs.declared.links.Order.{Order}
-use Rattle.cfdp_order.specs.Orders.{nodes, times, links_at, left_of, right_of}
+use Rattle.cfdp_order.specs.Orders.{nodes, times_in, links_at, left_of, right_of}
 use Rattle.cfdp_order.proofs.TreeLaws.{opened, opened_at, no_nodes}
 use Rattle.cfdp_order.proofs.TestLaws.{some_levels, not_less}
 use Rattle.cfdp_order.proofs.SplitLaws.{All_left, All_right, All_at}
@@ -29,7 +29,8 @@ pub returns-then-is_empty-clause-one_more : goal.returns-then-is_empty-clause-on
 returns-then-is_empty-clause-one_more g t c n =
     let links = c.args.links.now in let a = c.empty in let b = c.empty-then-is_empty in
     let none = no_nodes links c.args.order (c.if-is_empty.ensures.0 refl) in
-    ap (times n) (c.join.ensures.nodes ∙ (λ i. no_nodes links a.result (no_levels a.ensures) i ++ c.args.node ∷ no_nodes links b.result (no_levels b.ensures) i)
+    ap (times_in n) (c.join.ensures.nodes ∙ (λ i. no_nodes links a.result (no_levels a.ensures) i ++ c.args.node ∷ no_nodes links b.result
+    (no_levels b.ensures) i)
     ∙ (λ i. c.args.node ∷ sym none i))
 
 pub compare-requires : goal.compare-requires

@@ -1,7 +1,7 @@
 use Rattle.std.proofs.Common.{◌≡◌, ◌≢◌, ℕ, ◌+◌, ◌≤◌, List, [], ◌∷◌, ◌++◌, length, refl, sym, ap, ◌∙◌, subst, arith, length-append}
 use Rattle.std.specs.Prelude.{All}
 use Rattle.std.specs.declared.cmp.Ordering.TheVariants.{Less}
-use Rattle.cfdp_order.specs.Orders.{nodes, times, links_at, left_of, right_of}
+use Rattle.cfdp_order.specs.Orders.{nodes, times_in, links_at, left_of, right_of}
 use Rattle.cfdp_order.proofs.Counts.{one, one_self, times-append, times_middle}
 use Rattle.cfdp_order.proofs.TreeLaws.{opened, opened_at, no_nodes}
 use Rattle.cfdp_order.proofs.TestLaws.{some_levels, not_less}
@@ -25,7 +25,7 @@ merge-requires g t c =
     record {
       left = o.is_a;
       right = o.is_b;
-      once = (λ k. omega (arith, c.requires.order.once k, ap (times k) o.listed, times_middle k a order.root b, times-append k a b));
+      once = (λ k. omega (arith, c.requires.order.once k, ap (times_in k) o.listed, times_middle k a order.root b, times-append k a b));
       near = o.near;
       small = c.requires.small;
     }
@@ -37,15 +37,16 @@ returns-then-order-node g t c =
     order.root in
     let o = opened c.requires.order (some_levels c.if-is_empty.ensures.1) c.from.ensures c.left.ensures c.right.ensures in
     let merged = c.merge.ensures in let same = sym c.if-order-node.true in
-    let counted : (k : ℕ) → times k (nodes links order) ≡ times k a + (one root k + times k b) = λ k. ap (times k) o.listed ∙ times_middle k a root b in
+    let counted : (k : ℕ) → times_in k (nodes links order) ≡ times_in k a + (one root k + times_in k b) = λ k. ap (times_in k) o.listed
+    ∙ times_middle k a root b in
     record {
       order = merged.order;
       removed = (λ before after parted splits.
           let there = subst (λ k. nodes links order ≡ before ++ k ∷ after) same parted in
-          let parts = unique_split a root b before after (sym o.listed ∙ there) (subst (λ l. times root l ≤ 1) o.listed (c.requires.order.once root)) in
+          let parts = unique_split a root b before after (sym o.listed ∙ there) (subst (λ l. times_in root l ≤ 1) o.listed (c.requires.order.once root)) in
           merged.nodes ∙ (λ i. parts.0 i ++ parts.1 i));
-      absent = (λ none. absurd (let gone = subst (λ j. times j (nodes links order) ≡ 0) same none in omega (arith, gone, counted root, one_self root)));
-      fewer = (λ k. omega (arith, ap (times k) merged.nodes, counted k, times-append k a b));
+      absent = (λ none. absurd (let gone = subst (λ j. times_in j (nodes links order) ≡ 0) same none in omega (arith, gone, counted root, one_self root)));
+      fewer = (λ k. omega (arith, ap (times_in k) merged.nodes, counted k, times-append k a b));
       least = omega (arith, o.high, merged.most, merged.least);
       most = omega (arith, o.high, merged.most, merged.least);
       others = record { long = merged.others.long; same = (λ k none. merged.others.same k (omega (arith, none, counted k, times-append k a b))) };
@@ -113,7 +114,7 @@ returns-in-Less g t c =
           rest_right is o shrunk balanced (λ j. side j ≡ Less) (λ j. side j ≢ Less) k c.if-order-node.false
           (λ apart. apart (sym c.in-Less.ensures)) before after parted splits.less splits.rest
           (λ rest part all. e.removed rest after part (record { less = all; rest = splits.rest })));
-      absent = (λ none. same_right is o shrunk balanced (e.absent (omega (arith, none, counted, ap (times k) o.listed))));
+      absent = (λ none. same_right is o shrunk balanced (e.absent (omega (arith, none, counted, ap (times_in k) o.listed))));
       fewer = now.fewer;
       least = now.least;
       most = now.most;
@@ -138,7 +139,7 @@ returns-in-Equal g t c =
           rest_left is o shrunk balanced (λ j. side j ≡ Less) (λ j. side j ≢ Less) k c.if-order-node.false
           (λ less. not_less c.in-Equal.is (c.compare.ensures ∙ less))
           before after parted splits.less splits.rest (λ rest part all. e.removed before rest part (record { less = splits.less; rest = all })));
-      absent = (λ none. same_left is o shrunk balanced (e.absent (omega (arith, none, counted, ap (times k) o.listed))));
+      absent = (λ none. same_left is o shrunk balanced (e.absent (omega (arith, none, counted, ap (times_in k) o.listed))));
       fewer = now.fewer;
       least = now.least;
       most = now.most;

@@ -1,10 +1,10 @@
 use Rattle.std.proofs.Common.{◌≡◌, ℕ, ◌≤◌, length}
-use Rattle.cfdp_order.specs.Orders.{nodes, times, IsOrder}
+use Rattle.cfdp_order.specs.Orders.{nodes, times_in, IsOrder}
 use Rattle.cfdp_order.proofs.tests.order_of.Given as goal
 
 abbrev pub invariant-loop-node : goal.invariant-loop-node
 invariant-loop-node l = record {
   order : IsOrder l.links.items l.order;
   long : length l.links.items ≡ length l.keys;
-  fresh : (n : ℕ) → l.node ≤ n → times n (nodes l.links.items l.order) ≡ 0;
+  fresh : (n : ℕ) → l.node ≤ n → times_in n (nodes l.links.items l.order) ≡ 0;
 }

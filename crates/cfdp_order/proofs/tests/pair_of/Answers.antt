@@ -3,7 +3,7 @@ use Rattle.std.proofs.lemmas.Bool.{cases_eq}
 use Rattle.std.proofs.lemmas.List.{with_items_is}
 use Rattle.cfdp_order.specs.declared.links.Links.{Links}
 use Rattle.cfdp_order.specs.declared.links.Order.{Order}
-use Rattle.cfdp_order.specs.Orders.{nodes, times, IsOrder, OthersStay}
+use Rattle.cfdp_order.specs.Orders.{nodes, times_in, IsOrder, OtherLinksStay}
 use Rattle.cfdp_order.proofs.Counts.{one, one_most, one_other}
 use Rattle.cfdp_order.proofs.TreeLaws.{none_is, no_nodes, Stays, stays_apart}
 use Rattle.cfdp_order.proofs.HeightLaws.{known_of}
@@ -19,8 +19,8 @@ loop-node-init c =
       even = none_is links c.empty-even.result none;
       odd = none_is links c.empty-odd.result no_odd;
       long = search rules;
-      fresh = (λ n more. omega (arith, ap (times n) a, ap (times n) b));
-      apart = (λ n. omega (arith, ap (times n) a, ap (times n) b));
+      fresh = (λ n more. omega (arith, ap (times_in n) a, ap (times_in n) b));
+      apart = (λ n. omega (arith, ap (times_in n) a, ap (times_in n) b));
     }
 
 pub insert-even-requires-clause-known : goal.insert-even-requires-clause-known
@@ -39,8 +39,8 @@ record Kept (links : List Links) (even odd : Order) (node count : ℕ) : Type 0 
   even_is : IsOrder links even
   odd_is : IsOrder links odd
   long : length links ≡ count
-  fresh : (n : ℕ) → node ≤ n → times n (nodes links even) + times n (nodes links odd) ≡ 0
-  apart : (n : ℕ) → times n (nodes links even) + times n (nodes links odd) ≤ 1
+  fresh : (n : ℕ) → node ≤ n → times_in n (nodes links even) + times_in n (nodes links odd) ≡ 0
+  apart : (n : ℕ) → times_in n (nodes links even) + times_in n (nodes links odd) ≤ 1
 
 kept_at : (links was : List Links) (even more odd other : Order) (node count : ℕ) → links ≡ was → even ≡ more → odd ≡ other → Kept was more other node count →
     Kept links even odd node count
@@ -48,11 +48,11 @@ kept_at links was even more odd other node count e f g kept =
     subst (λ l. Kept l even odd node count) (sym e) (subst (λ o. Kept was o odd node count) (sym f) (subst (λ o. Kept was more o node count) (sym g) kept))
 
 -- a node more in one order, and none in the other
-module _ (old new : List Links) (node : ℕ) (grown other more : Order) (is : IsOrder old other) (others : OthersStay old new (node ∷ nodes old grown))
-    (one_more : (n : ℕ) → times n (nodes new more) ≡ one node n + times n (nodes old grown))
-    (fresh : (n : ℕ) → node ≤ n → times n (nodes old grown) + times n (nodes old other) ≡ 0) (apart : (n : ℕ) → times n (nodes old grown)
-    + times n (nodes old other) ≤ 1) where
-  all_once : (n : ℕ) → one node n + (times n (nodes old grown) + times n (nodes old other)) ≤ 1
+module _ (old new : List Links) (node : ℕ) (grown other more : Order) (is : IsOrder old other) (others : OtherLinksStay old new (node ∷ nodes old grown))
+    (one_more : (n : ℕ) → times_in n (nodes new more) ≡ one node n + times_in n (nodes old grown))
+    (fresh : (n : ℕ) → node ≤ n → times_in n (nodes old grown) + times_in n (nodes old other) ≡ 0) (apart : (n : ℕ) → times_in n (nodes old grown)
+    + times_in n (nodes old other) ≤ 1) where
+  all_once : (n : ℕ) → one node n + (times_in n (nodes old grown) + times_in n (nodes old other)) ≤ 1
   all_once n = elim (cases_eq node n) [
     | inl e ↦ omega (arith, one_most node n, fresh n (omega (arith, e)))
     | inr differs ↦ omega (arith, apart n, one_other node n differs)
@@ -61,16 +61,16 @@ module _ (old new : List Links) (node : ℕ) (grown other more : Order) (is : Is
   other_stays : Stays old new other
   other_stays = stays_apart old new other (node ∷ nodes old grown) is others (λ n. omega (arith, all_once n))
 
-  now_once : (n : ℕ) → times n (nodes new more) + times n (nodes new other) ≤ 1
-  now_once n = omega (arith, all_once n, one_more n, ap (times n) other_stays.listed)
+  now_once : (n : ℕ) → times_in n (nodes new more) + times_in n (nodes new other) ≤ 1
+  now_once n = omega (arith, all_once n, one_more n, ap (times_in n) other_stays.listed)
 
-  now_fresh : (n : ℕ) → node + 1 ≤ n → times n (nodes new more) + times n (nodes new other) ≡ 0
+  now_fresh : (n : ℕ) → node + 1 ≤ n → times_in n (nodes new more) + times_in n (nodes new other) ≡ 0
   now_fresh n later = let differs : node ≢ n = omega (arith, later) in omega (
     arith,
     fresh n (omega (arith, later)),
     one_other node n differs,
     one_more n,
-    ap (times n) other_stays.listed,
+    ap (times_in n) other_stays.listed,
   )
 
 pub loop-node-preserved : goal.loop-node-preserved
@@ -80,9 +80,9 @@ loop-node-preserved c =
       | then-node-eq0 w ↦ (
           let now = w.insert-even.new.links in let more = w.insert-even.result in
           let e = w.insert-even.ensures in let same = w.deref_mut.ensures.value in
-          let others = subst (λ (k : List Links). OthersStay k now (l.node ∷ nodes k l.even)) same e.others in
-          let one_more : (n : ℕ) → times n (nodes now more) ≡ one l.node n + times n (nodes old l.even) = λ n. e.one_more n
-          ∙ ap (λ k. one l.node n + times n (nodes k l.even)) same in
+          let others = subst (λ (k : List Links). OtherLinksStay k now (l.node ∷ nodes k l.even)) same e.others in
+          let one_more : (n : ℕ) → times_in n (nodes now more) ≡ one l.node n + times_in n (nodes old l.even) = λ n. e.one_more n
+          ∙ ap (λ k. one l.node n + times_in n (nodes k l.even)) same in
           kept_at c.if-node-eq0.links.items now c.if-node-eq0.even more c.if-node-eq0.odd l.odd (l.node + 1) count (ap (λ v. v.items) w.links-is
           ∙ with_items_is l.links now (others.long ∙ sym l.links.ok.0)) w.even-is w.odd-is
           (record {
@@ -95,11 +95,11 @@ loop-node-preserved c =
       | else-node-eq0 w ↦ (
           let now = w.insert-odd.new.links in let more = w.insert-odd.result in
           let e = w.insert-odd.ensures in let same = w.deref_mut-else-node-eq0.ensures.value in
-          let others = subst (λ (k : List Links). OthersStay k now (l.node ∷ nodes k l.odd)) same e.others in
-          let one_more : (n : ℕ) → times n (nodes now more) ≡ one l.node n + times n (nodes old l.odd) = λ n. e.one_more n
-          ∙ ap (λ k. one l.node n + times n (nodes k l.odd)) same in
-          let fresh : (n : ℕ) → l.node ≤ n → times n (nodes old l.odd) + times n (nodes old l.even) ≡ 0 = λ n later. omega (arith, inv.fresh n later) in
-          let apart : (n : ℕ) → times n (nodes old l.odd) + times n (nodes old l.even) ≤ 1 = λ n. omega (arith, inv.apart n) in
+          let others = subst (λ (k : List Links). OtherLinksStay k now (l.node ∷ nodes k l.odd)) same e.others in
+          let one_more : (n : ℕ) → times_in n (nodes now more) ≡ one l.node n + times_in n (nodes old l.odd) = λ n. e.one_more n
+          ∙ ap (λ k. one l.node n + times_in n (nodes k l.odd)) same in
+          let fresh : (n : ℕ) → l.node ≤ n → times_in n (nodes old l.odd) + times_in n (nodes old l.even) ≡ 0 = λ n later. omega (arith, inv.fresh n later) in
+          let apart : (n : ℕ) → times_in n (nodes old l.odd) + times_in n (nodes old l.even) ≤ 1 = λ n. omega (arith, inv.apart n) in
           kept_at c.if-node-eq0.links.items now c.if-node-eq0.even l.even c.if-node-eq0.odd more (l.node + 1) count (ap (λ v. v.items) w.links-is
           ∙ with_items_is l.links now (others.long ∙ sym l.links.ok.0)) w.even-is w.odd-is
           (record {

@@ -1,7 +1,8 @@
 use Rattle.std.proofs.Common.{rules}
 use Rattle.std.specs.Option.{option_copied}
 use Rattle.std.proofs.lemmas.List.Sorted.{IsPartitionPoint-from_clause}
-use Rattle.cfdp_paths.specs.Paths.{path_in, is_at_or_below}
+use Rattle.cfdp_paths.specs.Paths.{is_at_or_below}
+use Rattle.cfdp_paths.specs.code.Paths.{path_in}
 use Rattle.cfdp_paths.proofs.Pieces.{piece_of, behind_parted}
 use Rattle.cfdp_paths.proofs.path_map.piece.Goals as goal
 

@@ -1,7 +1,7 @@
 use Rattle.std.proofs.Common.{ap, ◌∙◌, if◌then◌else◌}
 use Rattle.std.specs.List.{insert}
 use Rattle.std.specs.Option.{option_copied}
-use Rattle.cfdp_paths.specs.Paths.{path_in}
+use Rattle.cfdp_paths.specs.code.Paths.{path_in}
 use Rattle.cfdp_paths.proofs.InOrder.{placed, put_at, put_between}
 use Rattle.cfdp_paths.proofs.path_map.put_reserved.Goals as goal
 

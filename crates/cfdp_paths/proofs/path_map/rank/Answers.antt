@@ -2,7 +2,8 @@ use Rattle.std.proofs.Common.{rules, sym, ap, ◌∙◌}
 use Rattle.std.specs.Option.{option_copied}
 use Rattle.std.specs.Ordering.{is_lt}
 use Rattle.std.proofs.lemmas.List.Sorted.{IsPartitionPoint-from_clause}
-use Rattle.cfdp_paths.specs.Paths.{path_cmp, path_in}
+use Rattle.cfdp_paths.specs.Paths.{path_cmp}
+use Rattle.cfdp_paths.specs.code.Paths.{path_in}
 use Rattle.cfdp_paths.proofs.InOrder.{all_before, prefix_len_of_point, ranks_parted}
 use Rattle.cfdp_paths.proofs.path_map.rank.Goals as goal
 

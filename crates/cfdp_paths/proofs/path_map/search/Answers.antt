@@ -1,7 +1,8 @@
 use Rattle.std.proofs.Common.{get_or, sym, ap, ◌∙◌, subst, ◌≡◌, false, arith}
 use Rattle.std.specs.Option.{option_copied}
 use Rattle.std.specs.Ordering.{is_eq}
-use Rattle.cfdp_paths.specs.Paths.{path_cmp, path_in}
+use Rattle.cfdp_paths.specs.Paths.{path_cmp}
+use Rattle.cfdp_paths.specs.code.Paths.{path_in}
 use Rattle.cfdp_paths.proofs.InOrder.{none_behind, none_other, place_of}
 use Rattle.cfdp_paths.proofs.path_map.search.Goals as goal
 use Rattle.cfdp_paths.proofs.path_map.search.Goals.{else-place-entries-via-then-place-entries+else-is_eq, else-place-entries-via-else-place-entries}

@@ -1,6 +1,6 @@
 use Rattle.std.proofs.Common.{◌≡◌, ◌+◌, ◌≤◌, ◌++◌, length, vec_len, vec_capacity}
 use Rattle.std.specs.Vec.Iter.{into_iter_items, into_iter_len}
-use Rattle.cfdp_paths.specs.PathMaps.{with_paths}
+use Rattle.cfdp_paths.specs.code.PathMaps.{with_paths}
 use Rattle.cfdp_paths.proofs.relocating.renamed.Given as goal
 
 -- those renamed so far, and those to rename yet

@@ -1,6 +1,6 @@
 use Rattle.std.proofs.Common.{rules, arith, ◌≡◌, ◌+◌, ◌*◌, ℕ, ap, ◌∙◌, ◌∷◌, []}
 use Rattle.cfdp_pdus.specs.Canonical.{first_octet}
-use Rattle.cfdp_pdus.specs.Placing.{overwritten}
+use Rattle.cfdp_pdus.specs.Placing.{with_octets_at}
 use Rattle.cfdp_pdus.proofs.Placing.{header_filled}
 use Rattle.cfdp_pdus.proofs.buffer.put_header.Goals as goal
 
@@ -11,7 +11,7 @@ returns c =
     search rules in
     header_filled c.args.file_data h c.args.len c.args.out.now c.put_octets.new.out c.put_number.new.out c.put_octets-2.new.out
     c.put_number-2.new.out c.put_number-3.new.out c.put_number-4.new.out (4 + c.from-id_len.result) (4 + c.from-id_len.result + c.from-number_len.result)
-    (c.put_octets.ensures ∙ ap (λ (o : ℕ). overwritten c.args.out.now 0 (o ∷ [])) first)
+    (c.put_octets.ensures ∙ ap (λ (o : ℕ). with_octets_at c.args.out.now 0 (o ∷ [])) first)
     (rw (← c.from-2.ensures) c.put_number.ensures)
     c.put_octets-2.ensures
     (rw (← c.from-id_len.ensures) c.put_number-2.ensures)

@@ -1,7 +1,7 @@
 use Rattle.std.proofs.Common.{sym, ap, ◌∙◌, arith}
 use Rattle.std.proofs.lemmas.Bool.{ne_eqb}
 use Rattle.std.proofs.lemmas.Result.{err_from_is_err_and}
-use Rattle.cfdp_pdus.specs.Counting.{count_of}
+use Rattle.cfdp_pdus.specs.code.Counting.{count_read}
 use Rattle.cfdp_pdus.specs.First.{fields_at, requests_of}
 use Rattle.cfdp_pdus.proofs.Splits.{not_nil, nil_is, shorter}
 use Rattle.cfdp_pdus.proofs.CountSteps.{counted, count_none, count_next}
@@ -33,7 +33,7 @@ fields-preserved c =
           (sym w.in_ok-read_request_parts.ensures) in
           record {
             found = rw w.count-is (count_next c.fields.count request (requests_of (fields_at rest)) (requests_of (fields_at field.rest.now))
-                (count_of (requests_of (fields_at c.args.octets.now))) here c.fields.invariant.found);
+                (count_read (requests_of (fields_at c.args.octets.now))) here c.fields.invariant.found);
             small = omega (arith, less, w.count-is, c.fields.invariant.small);
           }
       | else-field-eq-FILESTORE_REQUEST w ↦

@@ -1,7 +1,7 @@
 use Rattle.std.proofs.Common.{sym, ap, ◌∙◌, arith}
 use Rattle.std.proofs.lemmas.Bool.{ne_eqb}
 use Rattle.std.proofs.lemmas.Result.{err_from_is_err_and}
-use Rattle.cfdp_pdus.specs.First.{fields_at, outcome_of}
+use Rattle.cfdp_pdus.specs.First.{fields_at, outcome_fields}
 use Rattle.cfdp_pdus.proofs.Splits.{not_nil, nil_is, shorter}
 use Rattle.cfdp_pdus.proofs.OutcomeLoop.{tells, locates, passes, refused_response, refused_entity, cut, none_left, counted_outcome, count_none, count_response, count_entity}
 use Rattle.cfdp_pdus.proofs.field.count_responses.Goals as goal
@@ -30,7 +30,7 @@ pub fields-preserved : goal.fields-preserved
 fields-preserved c =
     let rest = c.fields.rest.now in
     let field = c.in-Ok.field in
-    let after = outcome_of (fields_at field.rest.now) in
+    let after = outcome_fields (fields_at field.rest.now) in
     let less = shorter rest (field.kind, field.value.now, field.rest.now) c.in-Ok.ensures.exact in
     elim c.if-field-eq-FILESTORE_RESPONSE.branch [
       | then-field-eq-FILESTORE_RESPONSE+in_ok-read_response_parts w ↦
@@ -62,4 +62,4 @@ fields-preserved c =
 pub returns : goal.returns
 returns c =
     let here = none_left c.fields.rest.now (nil_is c.fields.rest.now c.fields-test.ensures) in
-    sym (count_none c.fields.count c.fields.fault (outcome_of (fields_at c.fields.rest.now)) here) ∙ c.fields.invariant.found
+    sym (count_none c.fields.count c.fields.fault (outcome_fields (fields_at c.fields.rest.now)) here) ∙ c.fields.invariant.found

@@ -6,7 +6,8 @@ use Rattle.cfdp_pdus.specs.declared.fault.PduFault.TheVariants.{Memory}
 use Rattle.cfdp_pdus.specs.First.{pdu_at}
 use Rattle.cfdp_pdus.specs.Grammar.{SpellsPdu}
 use Rattle.cfdp_pdus.specs.Sound.{IsSound}
-use Rattle.cfdp_pdus.specs.Receiving.{received, received_in, ReceivesLean}
+use Rattle.cfdp_pdus.specs.Receiving.{received, received_of}
+use Rattle.cfdp_pdus.specs.code.Receiving.{ReceivesLean}
 use Rattle.cfdp_pdus.proofs.PduSteps.{pdu_again}
 use Rattle.cfdp_pdus.proofs.ReceiveSteps.{told_holds, copied}
 use Rattle.cfdp_pdus.proofs.FaultSteps.{never_memory}
@@ -21,13 +22,13 @@ returns-clause-found c =
 pub returns-clause-only : goal.returns-clause-only
 returns-clause-only c = λ pdu spelled.
     let octets = c.args.octets.now in
-    only_ok Memory c.receive_whole.result (received_in (pdu_at octets)) (received pdu) c.receive_whole.ensures.exact
-    (ap received_in (pdu_again octets pdu spelled))
+    only_ok Memory c.receive_whole.result (received_of (pdu_at octets)) (received pdu) c.receive_whole.ensures.exact
+    (ap received_of (pdu_again octets pdu spelled))
 
 pub returns-clause-lean : goal.returns-clause-lean
 returns-clause-lean c = λ pdu spelled lean.
     let read : pdu_at c.args.octets.now ≡ Ok pdu = pdu_again c.args.octets.now pdu spelled in
-    c.receive_whole.ensures.lean (subst (λ (r : Result Pdu PduFault). ReceivesLean r) (sym read) lean) ∙ ap received_in read
+    c.receive_whole.ensures.lean (subst (λ (r : Result Pdu PduFault). ReceivesLean r) (sym read) lean) ∙ ap received_of read
 
 pub returns-clause-memory : goal.returns-clause-memory
 returns-clause-memory c = λ wanting.

@@ -4,7 +4,7 @@ use Rattle.cfdp_pdus.proofs.SoundSteps.{octets_from, is_sound}
 use Rattle.cfdp_pdus.specs.declared.pdu.Pdu.{Pdu}
 use Rattle.cfdp_pdus.specs.declared.fault.PduFault.{PduFault}
 use Rattle.cfdp_pdus.specs.First.{pdu_at}
-use Rattle.cfdp_pdus.specs.Sound.{GivesLean}
+use Rattle.cfdp_pdus.specs.code.Sound.{GivesLean}
 use Rattle.cfdp_pdus.proofs.read.read_pdu.Goals as goal
 
 pub returns-clause-found : goal.returns-clause-found

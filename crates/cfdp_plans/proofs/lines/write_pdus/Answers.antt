@@ -1,12 +1,12 @@
 use Rattle.std.proofs.Common.{◌≡◌, ℕ, suc, ◌+◌, ◌++◌, List, take, flat_map, ap, sym, ◌∙◌, arith}
-use Rattle.cfdp_uploads.specs.Uploads.{pdus_of}
+use Rattle.cfdp_uploads.specs.Uploads.{upload_pdus}
 use Rattle.cfdp_plans.specs.Lines.{pdu_line}
 use Rattle.cfdp_plans.proofs.Taking.{line_taken, appends_more}
 use Rattle.cfdp_plans.proofs.lines.write_pdus.Goals as goal
 
 pub loop-number-preserved : goal.loop-number-preserved
 loop-number-preserved g c =
-    let pdus = pdus_of c.args.upload.now in
+    let pdus = upload_pdus c.args.upload.now in
     let number : ℕ = c.loop-number.number in
     let next : number + 1 ≡ suc number = omega arith in
     let more =

@@ -1,8 +1,9 @@
 use Rattle.std.proofs.Common.{ap, subst, ◌∙◌}
 use Rattle.cfdp_pdus.specs.Canonical.{IsHeader}
-use Rattle.cfdp_sessions.specs.Sessions.{SessionFields, IsEnding, IsSizedStage}
+use Rattle.cfdp_sessions.specs.Sessions.{SessionFields, IsEnding}
+use Rattle.cfdp_sessions.specs.code.Sessions.{IsSizedStage}
 use Rattle.cfdp_sessions.specs.declared.session.Stage.{Stage}
-use Rattle.cfdp_receiver.specs.State.{turned}
+use Rattle.cfdp_receiver.specs.State.{turned_header}
 use Rattle.cfdp_receiver.proofs.Endings.{ending_writable}
 use Rattle.cfdp_receiver.proofs.outcomes.outcome_of_ending.Goals as goal
 
@@ -15,5 +16,5 @@ returns-clause-writable c =
     let sized : IsEnding s.header ending =
     subst (λ (stage : Stage). IsSizedStage s.header stage) c.requires
     (subst (λ (x : SessionFields). IsSizedStage x.header x.stage) v c.session.invariant.sized) in
-    let turned_of = c.turned.ensures ∙ ap (λ (x : SessionFields). turned x.header) v in
+    let turned_of = c.turned.ensures ∙ ap (λ (x : SessionFields). turned_header x.header) v in
     rw (turned_of, c.new.ensures.items) (ending_writable s ending header sized)

@@ -3,7 +3,7 @@ use Rattle.cfdp_actions.specs.Filestore.{File, weight}
 use Rattle.cfdp_transactions.specs.Beginning.{put_fault}
 use Rattle.cfdp_transactions.specs.Restart.{CanPutAll, put_all}
 use Rattle.cfdp_transactions.specs.World.{free}
-use Rattle.cfdp_transactions.proofs.PutThere.{file_weight}
+use Rattle.cfdp_transactions.proofs.Beginnings.PutThere.{file_weight}
 use Rattle.cfdp_run.specs.Putting.{as_directory, missing, needed}
 use Rattle.cfdp_run.proofs.Puts.{puts_at, no_room, has_room, free_in}
 use Rattle.cfdp_run.proofs.putting.put_file.Goals as goal

@@ -2,8 +2,9 @@ use Rattle.std.proofs.Common.{◌≡◌, ℕ, ◌+◌, List, ◌++◌, drop, len
 use Rattle.std.specs.List.{AllByRecursion}
 use Rattle.std.specs.Vec.Iter.{into_iter_items}
 use Rattle.cfdp_engine.specs.Seats.{Seated}
-use Rattle.cfdp_engine.specs.Sharing.{told_of}
-use Rattle.cfdp_commands.specs.Linked.{AllNumbered, AreHanded, HasReadable, IsHeard, IsWork, took_of}
+use Rattle.cfdp_engine.specs.Sharing.{receipt_events}
+use Rattle.cfdp_commands.specs.Linked.{AllNumbered, AreHanded, HasReadable, IsHeard, IsWork}
+use Rattle.cfdp_commands.specs.code.Linked.{took_of}
 use Rattle.cfdp_commands.specs.Links.{said_of}
 use Rattle.cfdp_sim.proofs.link_scripts.settle_all.Given as goal
 
@@ -13,9 +14,10 @@ invariant-loop-worked l = record {
   finished : AllByRecursion (λ worked. worked.stopped ≡ None) (into_iter_items l.worked-iterator);
   heard : AllByRecursion (λ file. AllByRecursion IsHeard (map said_of file.items)) (drop (length l.seats.items) l.files);
   handed : (others : List Seated) (counts : List ℕ)
-      → AreHanded (λ seat. told_of seat.receipts) (length l.seats.items) (map (λ file. map said_of file.items) (drop (length l.seats.items) l.files)) others
+      → AreHanded (λ seat. receipt_events seat.receipts) (length l.seats.items) (map (λ file. map said_of file.items)
+      (drop (length l.seats.items) l.files)) others
       counts
-      → AreHanded (λ seat. told_of seat.receipts) 0 (map (λ file. map said_of file.items) l.files) (l.seats.items ++ others) (l.dropped.items ++ counts);
+      → AreHanded (λ seat. receipt_events seat.receipts) 0 (map (λ file. map said_of file.items) l.files) (l.seats.items ++ others) (l.dropped.items ++ counts);
   readable : AllByRecursion HasReadable l.seats.items;
   seats : map (λ worked. worked.seat) l.fn.workers.items ≡ l.seats.items ++ map (λ worked. worked.seat) (into_iter_items l.worked-iterator);
   took : took_of (into_iter_items l.worked-iterator) ≡ map (λ file. map said_of file.items) (drop (length l.seats.items) l.files)

@@ -1,5 +1,5 @@
 use Rattle.std.proofs.Common.{◌≡◌, map, take}
-use Rattle.cfdp_states.specs.Closed.{moved_path}
+use Rattle.cfdp_states.specs.code.Closed.{moved_path}
 use Rattle.cfdp_states.proofs.closed.moved.Given as goal
 
 -- those so far have moved

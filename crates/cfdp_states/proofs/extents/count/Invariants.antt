@@ -1,5 +1,5 @@
 use Rattle.std.proofs.Common.{◌≡◌, ◌+◌, ◌*◌, ◌≤◌, ◌^◌, drop}
-use Rattle.cfdp_states.specs.Sketching.{total_weight}
+use Rattle.cfdp_states.specs.code.Sketching.{total_weight}
 use Rattle.cfdp_states.proofs.extents.count.Given as goal
 
 -- the blocks so far, and those to count yet

@@ -1,5 +1,5 @@
 use Rattle.std.proofs.Common.{◌≡◌}
-use Rattle.cfdp_states.specs.Sketching.{added}
+use Rattle.cfdp_states.specs.code.Sketching.{added}
 use Rattle.cfdp_states.proofs.surveying.add_all.Given as goal
 
 -- those added so far, and those to add yet

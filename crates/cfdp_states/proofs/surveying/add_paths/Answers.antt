@@ -1,5 +1,6 @@
 use Rattle.std.proofs.Common.{sym, ◌∙◌, subst}
-use Rattle.cfdp_states.specs.Sketching.{Adds, Extents}
+use Rattle.cfdp_states.specs.Sketching.{Extents}
+use Rattle.cfdp_states.specs.code.Sketching.{AddsWhere}
 use Rattle.cfdp_paths.specs.Paths.{same_path}
 use Rattle.cfdp_states.proofs.Surveys.{adds_paths, adds_one, adds_none}
 use Rattle.cfdp_states.proofs.surveying.add_paths.Goals as goal
@@ -18,5 +19,5 @@ loop-path-preserved g c =
     let m = c.loop-path.extents in
     let path = c.path-item.result in
     adds_paths c.args.paths.now c.loop-path.path-index path F c.args.extents.now m c.put.new.self c.loop-path-test.true c.path-item.is c.loop-path.invariant
-    (subst (λ (n : Extents). Adds (λ p. same_path p path) F m n) (sym c.in_ok-put.ensures.ok)
+    (subst (λ (n : Extents). AddsWhere (λ p. same_path p path) F m n) (sym c.in_ok-put.ensures.ok)
     (adds_one F m path c.in-Some.extent (sym c.extent_at.ensures ∙ c.in-Some.is)))

@@ -1,13 +1,13 @@
 use Rattle.std.proofs.Common.{◌≤◌, length}
 use Rattle.std.specs.FinMap.{empty}
-use Rattle.cfdp_states.specs.Sketching.{Adds}
+use Rattle.cfdp_states.specs.code.Sketching.{AddsWhere}
 use Rattle.cfdp_states.proofs.Surveys.{up_to}
 use Rattle.cfdp_states.proofs.surveying.survey.Given as goal
 
 -- what is at and below the roots so far, and at the paths before them
 abbrev pub invariant-loop-place : goal.invariant-loop-place
 invariant-loop-place g l = record {
-  adds : Adds (up_to l.exclusive l.shared l.place l.next) (g.S.Filestore.state l.store).filestore empty l.extents;
+  adds : AddsWhere (up_to l.exclusive l.shared l.place l.next) (g.S.Filestore.state l.store).filestore empty l.extents;
   next : l.next ≤ length l.shared;
   last : l.last ≤ l.place;
 }

@@ -1,6 +1,6 @@
 use Rattle.std.proofs.Common.{◌≡◌, [], refl}
-use Rattle.cfdp_transactions.specs.Rows.{fresh_row}
-use Rattle.cfdp_transactions.proofs.RowAdded.{final_booked}
+use Rattle.cfdp_transactions.specs.code.TableEntries.{fresh_entry}
+use Rattle.cfdp_transactions.proofs.KeptTable.EntryAdded.{final_booked}
 use Rattle.cfdp_transactions.proofs.admission.add_final.Goals as goal
 
 pub returns-in_err-push-clause-booked : goal.returns-in_err-push-clause-booked
@@ -8,6 +8,6 @@ returns-in_err-push-clause-booked g c = rw c.in_err-push.ensures.err c.requires.
 
 pub returns-clause-booked : goal.returns-clause-booked
 returns-clause-booked g c =
-    let row : c.new-entry.result ≡ fresh_row c.args.header.now c.args.metadata c.args.phase 0 [] 0 0 = rw (c.new-entry.ensures, c.new.ensures.items) refl in
+    let row : c.new-entry.result ≡ fresh_entry c.args.header.now c.args.metadata c.args.phase 0 [] 0 0 = rw (c.new-entry.ensures, c.new.ensures.items) refl in
     rw (c.in_ok-push.ensures.ok, row) (final_booked (g.S.Filestore.state c.args.store.now) c.args.books.now c.requires.booked c.args.header.now c.args.metadata
     c.args.phase c.requires.over)

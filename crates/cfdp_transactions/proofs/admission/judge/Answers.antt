@@ -1,9 +1,9 @@
 use Rattle.std.proofs.Common.{◌≡◌, refl, sym, ◌∙◌}
 use Rattle.std.specs.Prelude.{IsFalse, ◌&&◌, not, true, false}
-use Rattle.cfdp_verifier.specs.Answers.{answered}
+use Rattle.cfdp_verifier.specs.Answers.{verdict_said}
 use Rattle.cfdp_transactions.specs.Entry.{has_file}
 use Rattle.cfdp_transactions.specs.Admission.{is_known_checksum}
-use Rattle.cfdp_transactions.proofs.RowGranted.{verdict_in, file_known}
+use Rattle.cfdp_transactions.proofs.KeptTable.EntryGranted.{verdict_in, file_known}
 use Rattle.cfdp_transactions.proofs.admission.judge.Goals as goal
 use Rattle.cfdp_transactions.proofs.admission.judge.Goals.{else-names_file-via-then-names_file+else-not-is_known_checksum, else-names_file-via-else-names_file}
 
@@ -21,7 +21,7 @@ returns g c =
     record {
       ruled = (
         known,
-        verdict_in s c.args.books.now c.requires.booked m (answered c.in_ok-verdict.verdict) c.in_ok-verdict.ensures.verdict,
+        verdict_in s c.args.books.now c.requires.booked m (verdict_said c.in_ok-verdict.verdict) c.in_ok-verdict.ensures.verdict,
         c.in_ok-verdict.ensures.footprint,
       );
     }

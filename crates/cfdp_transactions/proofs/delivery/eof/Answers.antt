@@ -3,12 +3,12 @@ use Rattle.std.proofs.lemmas.Bool.{eqb-true}
 use Rattle.std.specs.Prelude.{◌==◌}
 use Rattle.std.proofs.lemmas.Bool.Decides.{nat_tests}
 use Rattle.cfdp_transactions.specs.Entry.{is_live, is_receiving, has_file}
-use Rattle.cfdp_transactions.specs.Rows.{entry_in}
-use Rattle.cfdp_transactions.specs.Books.{world_of}
-use Rattle.cfdp_transactions.proofs.Answering.{live_at, entry_is, carry}
-use Rattle.cfdp_transactions.proofs.RowChange.{slot_below}
-use Rattle.cfdp_transactions.proofs.Turning.{empty_by_length}
-use Rattle.cfdp_transactions.proofs.EofAnswers.{eof_fault, eof_again, eof_first, eof_bare, eof_no_file, eof_size, eof_waits, eof_whole, is_wrong_size, received_size, whole_row}
+use Rattle.cfdp_transactions.specs.code.TableEntries.{entry_in}
+use Rattle.cfdp_transactions.specs.code.Books.{world_of}
+use Rattle.cfdp_transactions.proofs.KeptTable.Answering.{live_at, entry_is, carry}
+use Rattle.cfdp_transactions.proofs.KeptTable.EntryChanged.{slot_below}
+use Rattle.cfdp_transactions.proofs.Soundness.Turning.{empty_by_length}
+use Rattle.cfdp_transactions.proofs.KeptTable.EofAnswers.{eof_fault, eof_again, eof_first, eof_bare, eof_no_file, eof_size, eof_waits, eof_whole, is_wrong_size, received_size, whole_row}
 use Rattle.cfdp_transactions.proofs.delivery.eof.Goals as goal
 
 pub end-requires-clause-live : goal.end-requires-clause-live

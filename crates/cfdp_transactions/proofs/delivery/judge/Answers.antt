@@ -1,8 +1,8 @@
 use Rattle.std.proofs.Common.{◌≡◌, ◌∙◌, sym, true, false}
 use Rattle.cfdp_transactions.specs.Delivery.{is_right_checksum}
-use Rattle.cfdp_transactions.proofs.Answering.{entry_is, whole_fault, whole_complete}
-use Rattle.cfdp_transactions.proofs.EofAnswers.{right_row}
-use Rattle.cfdp_transactions.proofs.RowChange.{live_row, slot_below}
+use Rattle.cfdp_transactions.proofs.KeptTable.Answering.{entry_is, whole_fault, whole_complete}
+use Rattle.cfdp_transactions.proofs.KeptTable.EofAnswers.{right_row}
+use Rattle.cfdp_transactions.proofs.KeptTable.EntryChanged.{live_row, slot_below}
 use Rattle.cfdp_transactions.proofs.delivery.judge.Goals as goal
 
 pub is_right-requires : goal.is_right-requires

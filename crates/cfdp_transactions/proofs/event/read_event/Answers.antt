@@ -1,4 +1,4 @@
-use Rattle.cfdp_transactions.proofs.Readable.{made_readable}
+use Rattle.cfdp_transactions.proofs.Promises.Readable.{made_readable}
 use Rattle.cfdp_transactions.proofs.event.read_event.Goals as goal
 
 pub returns-clause-readable : goal.returns-clause-readable

@@ -1,10 +1,10 @@
 use Rattle.std.proofs.Common.{◌≡◌, ◌∙◌, refl, sym}
 use Rattle.std.specs.Prelude.{true, Some}
 use Rattle.cfdp_transactions.specs.Entry.{Awaiting, is_live}
-use Rattle.cfdp_transactions.specs.Books.{world_of}
-use Rattle.cfdp_transactions.proofs.Answering.{live_at, entry_is}
-use Rattle.cfdp_transactions.proofs.EofAnswers.{whole_row}
-use Rattle.cfdp_transactions.proofs.DataAnswers.{last_waits, last_whole}
+use Rattle.cfdp_transactions.specs.code.Books.{world_of}
+use Rattle.cfdp_transactions.proofs.KeptTable.Answering.{live_at, entry_is}
+use Rattle.cfdp_transactions.proofs.KeptTable.EofAnswers.{whole_row}
+use Rattle.cfdp_transactions.proofs.KeptTable.DataAnswers.{last_waits, last_whole}
 use Rattle.cfdp_transactions.proofs.file_data.judge_last.Goals as goal
 
 pub judge-requires-clause-live : goal.judge-requires-clause-live

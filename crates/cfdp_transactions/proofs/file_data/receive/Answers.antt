@@ -6,12 +6,12 @@ use Rattle.cfdp_transactions.specs.Received.{kept_with, pieces}
 use Rattle.cfdp_transactions.specs.Pieces.{with_range}
 use Rattle.cfdp_pdus.specs.Values.{FileDataFields}
 use Rattle.cfdp_transactions.specs.Entry.{takes_data}
-use Rattle.cfdp_transactions.specs.Rows.{entry_in}
+use Rattle.cfdp_transactions.specs.code.TableEntries.{entry_in}
 use Rattle.cfdp_transactions.specs.Delivery.{limit}
-use Rattle.cfdp_transactions.proofs.Answering.{live_at, entry_is}
-use Rattle.cfdp_transactions.proofs.DataAnswers.{stored_length, many_pieces, few_pieces, data_past, data_dropped, data_stored}
-use Rattle.cfdp_transactions.proofs.RowWorld.{row_at}
-use Rattle.cfdp_transactions.proofs.Needs.{data_live}
+use Rattle.cfdp_transactions.proofs.KeptTable.Answering.{live_at, entry_is}
+use Rattle.cfdp_transactions.proofs.KeptTable.DataAnswers.{stored_length, many_pieces, few_pieces, data_past, data_dropped, data_stored}
+use Rattle.cfdp_transactions.proofs.KeptTable.WorldOfTable.{row_at}
+use Rattle.cfdp_transactions.proofs.Soundness.Needs.{data_live}
 use Rattle.cfdp_transactions.proofs.file_data.receive.Goals as goal
 
 pub end-requires-clause-live : goal.end-requires-clause-live

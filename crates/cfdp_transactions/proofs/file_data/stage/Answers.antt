@@ -1,9 +1,9 @@
 use Rattle.std.proofs.Common.{◌≡◌, ap, arith}
 use Rattle.std.specs.Prelude.{length, ◌+◌}
 use Rattle.cfdp_pdus.specs.Values.{FileDataFields}
-use Rattle.cfdp_transactions.proofs.DataStored.{live, kept_is, pieces_here, zeros_here, room, reserved, can_store, stored_at, stored_sound, stored_booked}
-use Rattle.cfdp_transactions.proofs.StepDone.{get_below}
-use Rattle.cfdp_transactions.proofs.RowChange.{slot_below}
+use Rattle.cfdp_transactions.proofs.KeptTable.DataStored.{live, kept_is, pieces_here, zeros_here, room, reserved, can_store, stored_at, stored_sound, stored_booked}
+use Rattle.cfdp_transactions.proofs.KeptTable.StepDone.{get_below}
+use Rattle.cfdp_transactions.proofs.KeptTable.EntryChanged.{slot_below}
 use Rattle.cfdp_transactions.proofs.file_data.stage.Goals as goal
 
 pub keep-requires-clause-slot : goal.keep-requires-clause-slot

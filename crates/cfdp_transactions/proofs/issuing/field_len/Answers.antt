@@ -3,9 +3,9 @@ use Rattle.cfdp_pdus.specs.Canonical.{fault_location}
 use Rattle.cfdp_pdus.proofs.CanonicalSteps.{finished_short}
 use Rattle.cfdp_pdus.proofs.WriteSteps.{finished_len}
 use Rattle.cfdp_transactions.specs.declared.outcome.Outcome.{Outcome}
-use Rattle.cfdp_transactions.specs.Issuing.{answered_with}
-use Rattle.cfdp_transactions.specs.Taking.{statuses_of}
-use Rattle.cfdp_transactions.proofs.ResponsesPut.{answers_len}
+use Rattle.cfdp_transactions.specs.code.Issuing.{answered_with}
+use Rattle.cfdp_transactions.specs.code.Taking.{statuses_of}
+use Rattle.cfdp_transactions.proofs.FinishedPdus.ResponsesPut.{answers_len}
 use Rattle.cfdp_transactions.proofs.issuing.field_len.Goals as goal
 
 pub overflow_add-result : goal.overflow_add-result

@@ -2,14 +2,14 @@ use Rattle.std.proofs.Common.{rules, arith, ◌≡◌, ◌+◌, ◌-◌, ◌*◌
 use Rattle.std.specs.List.{flat_map}
 use Rattle.cfdp_pdus.specs.Bits.{digit}
 use Rattle.cfdp_pdus.specs.Canonical.{fault_location, finished_field, response_field}
-use Rattle.cfdp_pdus.specs.Placing.{overwritten}
+use Rattle.cfdp_pdus.specs.Placing.{with_octets_at}
 use Rattle.cfdp_pdus.specs.Values.{FinishedFields}
 use Rattle.cfdp_pdus.proofs.CanonicalSteps.{finished_short}
 use Rattle.cfdp_pdus.proofs.Placing.{then}
 use Rattle.cfdp_pdus.proofs.WriteSteps.{finished_len, pdu_len}
-use Rattle.cfdp_transactions.specs.Issuing.{answered_with}
-use Rattle.cfdp_transactions.proofs.PutBefore.{header_before}
-use Rattle.cfdp_transactions.proofs.ResponsesPut.{all_short}
+use Rattle.cfdp_transactions.specs.code.Issuing.{answered_with}
+use Rattle.cfdp_transactions.proofs.FinishedPdus.PutBefore.{header_before}
+use Rattle.cfdp_transactions.proofs.FinishedPdus.ResponsesPut.{all_short}
 use Rattle.cfdp_transactions.proofs.issuing.fill_finished.Goals as goal
 
 pub put_octets-requires : goal.put_octets-requires
@@ -106,15 +106,16 @@ returns-clause-written c =
     let at = c.header_len-at.result in
     let buffer = c.args.out.now in
     let within : at ≤ length buffer = omega (arith, pdu_len false h field, c.requires.room, c.header_len-at.ensures) in
-    let till_codes : c.put_octets.new.out ≡ overwritten buffer at front = c.put_octets.ensures ∙ ap (λ (n : ℕ). overwritten buffer at (5 ∷ n ∷ [])) codes in
-    let till_responses : c.put_responses-responses_end.new.out ≡ overwritten buffer at (front ++ responses) =
+    let till_codes : c.put_octets.new.out ≡ with_octets_at buffer at front = c.put_octets.ensures ∙ ap
+    (λ (n : ℕ). with_octets_at buffer at (5 ∷ n ∷ [])) codes in
+    let till_responses : c.put_responses-responses_end.new.out ≡ with_octets_at buffer at (front ++ responses) =
     then buffer c.put_octets.new.out c.put_responses-responses_end.new.out front responses at (at + 2) within till_codes
     c.put_responses-responses_end.ensures.written (omega arith) in
-    let till_location : c.put_fault-end.new.out ≡ overwritten buffer at field =
+    let till_location : c.put_fault-end.new.out ≡ with_octets_at buffer at field =
     then buffer c.put_responses-responses_end.new.out c.put_fault-end.new.out (front ++ responses) location at c.put_responses-responses_end.result
     within till_responses
     (c.put_fault-end.ensures.written
-    ∙ ap (λ (f : FinishedFields). overwritten c.put_responses-responses_end.new.out c.put_responses-responses_end.result (fault_location h.id_len f.fault))
+    ∙ ap (λ (f : FinishedFields). with_octets_at c.put_responses-responses_end.new.out c.put_responses-responses_end.result (fault_location h.id_len f.fault))
     c.finished.view_is)
     (omega (arith, c.put_responses-responses_end.ensures.end)) in
     let len : c.put_fault-end.result - at ≡ length field =

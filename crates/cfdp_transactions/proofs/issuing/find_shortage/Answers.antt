@@ -1,7 +1,7 @@
 use Rattle.std.proofs.Common.{arith, false}
 use Rattle.cfdp_pdus.specs.Canonical.{finished_field}
 use Rattle.cfdp_pdus.proofs.WriteSteps.{pdu_len}
-use Rattle.cfdp_transactions.specs.Issuing.{answered_with}
+use Rattle.cfdp_transactions.specs.code.Issuing.{answered_with}
 use Rattle.cfdp_transactions.proofs.issuing.find_shortage.Goals as goal
 
 pub returns-then-room-needed-clause-short : goal.returns-then-room-needed-clause-short

@@ -4,12 +4,12 @@ use Rattle.std.proofs.lemmas.List.{length-append}
 use Rattle.cfdp_status.specs.declared.status.Status.TheVariants.{Successful, NotPerformed}
 use Rattle.cfdp_tlv.specs.Values.{ResponseFields}
 use Rattle.cfdp_pdus.specs.Canonical.{is_short_response, response_field}
-use Rattle.cfdp_pdus.specs.Placing.{overwritten}
+use Rattle.cfdp_pdus.specs.Placing.{with_octets_at}
 use Rattle.cfdp_pdus.proofs.WriteSteps.{and_true}
 use Rattle.cfdp_transactions.specs.Outcome.{answered, responses_of}
-use Rattle.cfdp_transactions.specs.Taking.{statuses_of}
-use Rattle.cfdp_transactions.proofs.ResponsesPut.{next_is, one_more, responses_from}
-use Rattle.cfdp_transactions.proofs.TakenOut.{status_at, status_of_number}
+use Rattle.cfdp_transactions.specs.code.Taking.{statuses_of}
+use Rattle.cfdp_transactions.proofs.FinishedPdus.ResponsesPut.{next_is, one_more, responses_from}
+use Rattle.cfdp_transactions.proofs.KeptTable.EntryTakenOut.{status_at, status_of_number}
 use Rattle.cfdp_transactions.proofs.issuing.put_responses.Goals as goal
 
 pub loop-place-preserved : goal.loop-place-preserved
@@ -27,8 +27,8 @@ loop-place-preserved c =
     let x = answered r c.status_of-status.result in
     let left : responses_from requests performed place ≡ x ∷ rest =
     next_is requests performed place r c.loop-place-test.true c.index-requests-place.is ∙ rw (← status) refl in
-    let whole = subst (λ (xs : List ResponseFields). overwritten c.loop-place.out c.loop-place.end (flat_map response_field xs)
-    ≡ overwritten c.args.out.now c.args.at (flat_map response_field all))
+    let whole = subst (λ (xs : List ResponseFields). with_octets_at c.loop-place.out c.loop-place.end (flat_map response_field xs)
+    ≡ with_octets_at c.args.out.now c.args.at (flat_map response_field all))
     left c.loop-place.invariant.written in
     let short : list_all is_short_response (x ∷ rest) ≡ true = sym (ap (list_all is_short_response) left) ∙ c.loop-place.invariant.short in
     let offset : c.loop-place.end + length (flat_map response_field (x ∷ rest)) ≡ c.args.at + length (flat_map response_field all) =

@@ -1,6 +1,6 @@
 use Rattle.std.proofs.Common.{◌≡◌, length, take, min}
 use Rattle.std.specs.List.{flat_map}
-use Rattle.cfdp_transactions.specs.Issuing.{unperformed_field}
+use Rattle.cfdp_transactions.specs.code.Issuing.{unperformed_field}
 use Rattle.cfdp_transactions.proofs.issuing.responses_len.Given as goal
 
 abbrev pub invariant-loop-request : goal.invariant-loop-request

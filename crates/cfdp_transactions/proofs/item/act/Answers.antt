@@ -1,7 +1,7 @@
 use Rattle.std.proofs.Common.{refl}
 use Rattle.std.proofs.lemmas.Bool.{leb-true}
 use Rattle.cfdp_actions.specs.Store.{free_blocks}
-use Rattle.cfdp_transactions.proofs.Acting.{is_allowed, is_installed}
+use Rattle.cfdp_transactions.proofs.KeptTable.Acting.{is_allowed, is_installed}
 use Rattle.cfdp_transactions.proofs.item.act.Goals as goal
 
 pub install-requires-clause-parent : goal.install-requires-clause-parent

@@ -1,4 +1,4 @@
-use Rattle.cfdp_transactions.proofs.Installed as installed
+use Rattle.cfdp_transactions.proofs.Promises.Installed as installed
 use Rattle.cfdp_transactions.proofs.laws.done_is_installed.Goals as goal
 
 pub returns : goal.returns

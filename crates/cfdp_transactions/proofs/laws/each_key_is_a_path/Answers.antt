@@ -1,4 +1,4 @@
-use Rattle.cfdp_transactions.proofs.Keys as keys
+use Rattle.cfdp_transactions.proofs.Promises.Keys as keys
 use Rattle.cfdp_transactions.proofs.laws.each_key_is_a_path.Goals as goal
 
 pub returns : goal.returns

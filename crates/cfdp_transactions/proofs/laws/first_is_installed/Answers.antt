@@ -1,4 +1,4 @@
-use Rattle.cfdp_transactions.proofs.InstallReplies as replies
+use Rattle.cfdp_transactions.proofs.Promises.InstallReplies as replies
 use Rattle.cfdp_transactions.proofs.laws.first_is_installed.Goals as goal
 
 pub returns : goal.returns

@@ -1,7 +1,7 @@
 use Rattle.cfdp_actions.specs.Filestore.{empty_filestore}
 use Rattle.cfdp_transactions.specs.Beginning.{start_with}
-use Rattle.cfdp_transactions.proofs.Starting.{start_sound}
-use Rattle.cfdp_transactions.proofs.Promise.{at_each}
+use Rattle.cfdp_transactions.proofs.Beginnings.Starting.{start_sound}
+use Rattle.cfdp_transactions.proofs.Promises.Promise.{at_each}
 use Rattle.cfdp_transactions.proofs.laws.headline.Goals as goal
 
 pub returns : goal.returns

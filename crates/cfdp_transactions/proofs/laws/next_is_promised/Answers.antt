@@ -1,4 +1,4 @@
-use Rattle.cfdp_transactions.proofs.Promise.{next_promised}
+use Rattle.cfdp_transactions.proofs.Promises.Promise.{next_promised}
 use Rattle.cfdp_transactions.proofs.laws.next_is_promised.Goals as goal
 
 pub returns : goal.returns

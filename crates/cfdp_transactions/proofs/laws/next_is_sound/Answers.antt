@@ -1,4 +1,4 @@
-use Rattle.cfdp_transactions.proofs.NextWorld.{next_sound}
+use Rattle.cfdp_transactions.proofs.Soundness.NextWorld.{next_sound}
 use Rattle.cfdp_transactions.proofs.laws.next_is_sound.Goals as goal
 
 pub returns : goal.returns

@@ -1,4 +1,4 @@
-use Rattle.cfdp_transactions.proofs.Entries as entries
+use Rattle.cfdp_transactions.proofs.Promises.AddedAndTaken as entries
 use Rattle.cfdp_transactions.proofs.laws.only_metadata_adds.Goals as goal
 
 pub returns : goal.returns

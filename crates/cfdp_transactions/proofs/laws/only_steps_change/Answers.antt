@@ -1,4 +1,4 @@
-use Rattle.cfdp_transactions.proofs.Standing as standing
+use Rattle.cfdp_transactions.proofs.Promises.OnlyStepsChange as standing
 use Rattle.cfdp_transactions.proofs.laws.only_steps_change.Goals as goal
 
 pub returns : goal.returns

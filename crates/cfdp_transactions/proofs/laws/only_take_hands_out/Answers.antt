@@ -1,4 +1,4 @@
-use Rattle.cfdp_transactions.proofs.Handing as handing
+use Rattle.cfdp_transactions.proofs.Promises.OnlyTakeHandsOut as handing
 use Rattle.cfdp_transactions.proofs.laws.only_take_hands_out.Goals as goal
 
 pub returns : goal.returns

@@ -1,4 +1,4 @@
-use Rattle.cfdp_transactions.proofs.Starting.{start_sound}
+use Rattle.cfdp_transactions.proofs.Beginnings.Starting.{start_sound}
 use Rattle.cfdp_transactions.proofs.laws.start_is_sound.Goals as goal
 
 pub returns : goal.returns

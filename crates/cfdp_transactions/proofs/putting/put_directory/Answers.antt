@@ -1,9 +1,9 @@
 use Rattle.std.proofs.Common.{refl, sym, ap, ◌∙◌}
 use Rattle.cfdp_actions.specs.Filestore.{Directory}
 use Rattle.cfdp_quota.specs.Budget.{unreserved}
-use Rattle.cfdp_transactions.specs.Books.{world_of}
-use Rattle.cfdp_transactions.proofs.PutThere.{can_put, no_memory}
-use Rattle.cfdp_transactions.proofs.StartWhole.{put_booked, room_in}
+use Rattle.cfdp_transactions.specs.code.Books.{world_of}
+use Rattle.cfdp_transactions.proofs.Beginnings.PutThere.{can_put, no_memory}
+use Rattle.cfdp_transactions.proofs.Beginnings.StartWhole.{put_booked, room_in}
 use Rattle.cfdp_transactions.proofs.putting.put_directory.Goals as goal
 
 pub returns-in-Some-clause-err : goal.returns-in-Some-clause-err

@@ -1,9 +1,9 @@
 use Rattle.std.proofs.Common.{sym, ap, ◌∙◌}
 use Rattle.cfdp_actions.specs.Filestore.{File}
 use Rattle.cfdp_quota.specs.Budget.{unreserved}
-use Rattle.cfdp_transactions.specs.Books.{world_of}
-use Rattle.cfdp_transactions.proofs.PutThere.{CanPut, can_put, no_memory, file_weight, none_live}
-use Rattle.cfdp_transactions.proofs.StartWhole.{put_booked, room_in}
+use Rattle.cfdp_transactions.specs.code.Books.{world_of}
+use Rattle.cfdp_transactions.proofs.Beginnings.PutThere.{CanPut, can_put, no_memory, file_weight, none_live}
+use Rattle.cfdp_transactions.proofs.Beginnings.StartWhole.{put_booked, room_in}
 use Rattle.cfdp_transactions.proofs.putting.put_file.Goals as goal
 
 pub returns-in-Some-clause-err : goal.returns-in-Some-clause-err

@@ -1,4 +1,4 @@
-use Rattle.cfdp_transactions.proofs.PutThere.{file_put, room_for_file}
+use Rattle.cfdp_transactions.proofs.Beginnings.PutThere.{file_put, room_for_file}
 use Rattle.cfdp_transactions.proofs.putting.write_file.Goals as goal
 
 pub install-requires-clause-room : goal.install-requires-clause-room

@@ -3,10 +3,10 @@ use Rattle.std.specs.Prelude.{◌==◌, ◌≢◌, ℕ, false, suc, length, ◌+
 use Rattle.cfdp_actions.specs.Store.{free_blocks}
 use Rattle.std.proofs.Common.{◌≡◌, ◌∙◌, refl, ap, sym, arith, add-one, eq-eqb}
 use Rattle.cfdp_transactions.specs.Entry.{Executing}
-use Rattle.cfdp_transactions.specs.Items.{item_of}
-use Rattle.cfdp_transactions.proofs.Answering.{answered_reply}
-use Rattle.cfdp_transactions.proofs.RowChange.{slot_below}
-use Rattle.cfdp_transactions.proofs.StepDone.{done_as, succeeds, opened, free_before, taken_within, given_within, few_items, next_below, can_advance, step_answer, booked_more, booked_done, idle_step}
+use Rattle.cfdp_transactions.specs.code.Items.{item_of}
+use Rattle.cfdp_transactions.proofs.KeptTable.Answering.{answered_reply}
+use Rattle.cfdp_transactions.proofs.KeptTable.EntryChanged.{slot_below}
+use Rattle.cfdp_transactions.proofs.KeptTable.StepDone.{done_as, succeeds, opened, free_before, taken_within, given_within, few_items, next_below, can_advance, step_answer, booked_more, booked_done, idle_step}
 use Rattle.cfdp_transactions.proofs.step.step.Goals as goal
 
 differ : (x y : ℕ) → x ≢ y → (x == y) ≡ false
@@ -56,8 +56,8 @@ act-requires-clause-succeeds g c =
     let there = sym (rw c.in-Some.is at c.item.ensures) in
     rw (c.protected.ensures, c.slot-slot.ensures) (succeeds c.requires.laws s b c.requires.sound c.requires.booked c.args.place r at n executing item there)
 
-pub settle-requires-clause-slot : goal.settle-requires-clause-slot
-settle-requires-clause-slot g c =
+pub settle_quota-requires-clause-slot : goal.settle_quota-requires-clause-slot
+settle_quota-requires-clause-slot g c =
     let s = g.S.Filestore.state c.args.store.now in
     let b = c.args.books.now in
     let r = c.at-entry.result.now in
@@ -66,8 +66,8 @@ settle-requires-clause-slot g c =
     let executing : r.phase ≡ Executing n = cc in
     rw c.slot-slot.ensures (slot_below s b c.requires.sound c.requires.booked c.args.place r at (rw executing refl))
 
-pub settle-requires-clause-opened : goal.settle-requires-clause-opened
-settle-requires-clause-opened g c =
+pub settle_quota-requires-clause-opened : goal.settle_quota-requires-clause-opened
+settle_quota-requires-clause-opened g c =
     let s = g.S.Filestore.state c.args.store.now in
     let b = c.args.books.now in
     let r = c.at-entry.result.now in
@@ -78,8 +78,8 @@ settle-requires-clause-opened g c =
     let there = sym (rw c.in-Some.is at c.item.ensures) in
     rw c.slot-slot.ensures (opened c.requires.laws s b c.requires.sound c.requires.booked c.args.place r at n executing item there)
 
-pub settle-requires-clause-taken : goal.settle-requires-clause-taken
-settle-requires-clause-taken g c =
+pub settle_quota-requires-clause-taken : goal.settle_quota-requires-clause-taken
+settle_quota-requires-clause-taken g c =
     let s = g.S.Filestore.state c.args.store.now in
     let b = c.args.books.now in
     let r = c.at-entry.result.now in
@@ -93,8 +93,8 @@ settle-requires-clause-taken g c =
     rw (c.slot-slot.ensures, c.free-before.ensures.value, c.free-after.ensures.value, state)
     (taken_within c.requires.laws s b c.requires.sound c.requires.booked c.args.place r at n executing item there)
 
-pub settle-requires-clause-given : goal.settle-requires-clause-given
-settle-requires-clause-given g c =
+pub settle_quota-requires-clause-given : goal.settle_quota-requires-clause-given
+settle_quota-requires-clause-given g c =
     let s = g.S.Filestore.state c.args.store.now in
     let b = c.args.books.now in
     let r = c.at-entry.result.now in
@@ -108,8 +108,8 @@ settle-requires-clause-given g c =
     rw (c.free-before.ensures.value, c.free-after.ensures.value, state) (given_within c.requires.laws s b c.requires.sound c.requires.booked c.args.place r at n
     executing item there)
 
-pub settle-requires-clause-unused : goal.settle-requires-clause-unused
-settle-requires-clause-unused g c =
+pub settle_quota-requires-clause-unused : goal.settle_quota-requires-clause-unused
+settle_quota-requires-clause-unused g c =
     let s = g.S.Filestore.state c.args.store.now in
     let b = c.args.books.now in
     let r = c.at-entry.result.now in
@@ -270,13 +270,13 @@ returns-then-last-clause-booked g c =
     let ticks_are = rw (c.protected.ensures, c.slot-slot.ensures, same) at c.in-Ok.ensures.ticks in
     let is_after = c.free-after.ensures.value ∙ ap free_blocks state in
     let is_last : (c.from.result + 1 == c.item_count.result) ≡ (suc n == length r.items) = rw (c.from.ensures, c.item_count.ensures, add-one) refl in
-    let settles = rw c.slot-slot.ensures at c.settle.ensures in
+    let settles = rw c.slot-slot.ensures at c.settle_quota.ensures in
     let close = rw c.slot-slot.ensures at c.close.ensures.closed in
     let back = rw c.slot-slot.ensures at c.close.ensures.spare in
     rw (state, c.advance.ensures r at, c.release.ensures, c.name-transaction.ensures)
     (booked_done c.requires.laws s b c.requires.sound c.requires.booked c.args.place r at n executing item there c.free-before.result c.free-after.result
     c.in-Ok.ticks (c.from.result + 1 == c.item_count.result) c.is_install-install.result c.free-before.ensures.value is_after ticks_are
-    c.is_install-install.ensures is_last c.settle.new.quota settles c.close.new.self close back
+    c.is_install-install.ensures is_last c.settle_quota.new.quota settles c.close.new.self close back
     (eq-eqb (c.from.result + 1) c.item_count.result c.if-last.true))
 
 pub returns-else-last-clause-booked : goal.returns-else-last-clause-booked
@@ -294,8 +294,8 @@ returns-else-last-clause-booked g c =
     let ticks_are = rw (c.protected.ensures, c.slot-slot.ensures, same) at c.in-Ok.ensures.ticks in
     let is_after = c.free-after.ensures.value ∙ ap free_blocks state in
     let is_last : (c.from.result + 1 == c.item_count.result) ≡ (suc n == length r.items) = rw (c.from.ensures, c.item_count.ensures, add-one) refl in
-    let settles = rw c.slot-slot.ensures at c.settle.ensures in
+    let settles = rw c.slot-slot.ensures at c.settle_quota.ensures in
     rw (state, c.advance.ensures r at) (booked_more c.requires.laws s b c.requires.sound c.requires.booked c.args.place r at n executing item there
     c.free-before.result c.free-after.result c.in-Ok.ticks (c.from.result
     + 1 == c.item_count.result) c.is_install-install.result c.free-before.ensures.value is_after ticks_are c.is_install-install.ensures is_last
-    c.settle.new.quota settles (differ (c.from.result + 1) c.item_count.result c.if-last.false))
+    c.settle_quota.new.quota settles (differ (c.from.result + 1) c.item_count.result c.if-last.false))

@@ -2,15 +2,15 @@ use Rattle.std.proofs.Common.{◌≡◌, ◌-◌, ◌<◌, ℕ, refl, length, ta
 use Rattle.cfdp_arena.specs.Arena.{Blocks}
 use Rattle.cfdp_arena.proofs.Chains.{live_within}
 use Rattle.cfdp_tree.specs.declared.runs.Run.{Run}
-use Rattle.cfdp_tree.specs.Row.{Row, row_of, name_of}
-use Rattle.cfdp_tree.specs.Runs.{IsHeld, nth}
-use Rattle.cfdp_tree.specs.Files.{with_contents}
-use Rattle.cfdp_tree.proofs.Counts.{free_count-written}
-use Rattle.cfdp_tree.proofs.FileRows.{run_keeps}
-use Rattle.cfdp_tree.proofs.HeldLaws.{held_part}
-use Rattle.cfdp_tree.proofs.TreeLaws.{node_live, node_octets}
-use Rattle.cfdp_tree.proofs.SpareLaws.{runs_stay}
-use Rattle.cfdp_tree.proofs.WriteLaws.{written_octets, written_nodes}
+use Rattle.cfdp_tree.specs.code.NodeFields.{NodeFields, node_fields_of, node_name}
+use Rattle.cfdp_tree.specs.code.Runs.{IsHeld, nth}
+use Rattle.cfdp_tree.specs.code.Files.{with_contents}
+use Rattle.cfdp_tree.proofs.OfRuns.Counts.{free_count-written}
+use Rattle.cfdp_tree.proofs.OfStore.FileNodeLaws.{run_keeps}
+use Rattle.cfdp_tree.proofs.OfRuns.HeldLaws.{held_part}
+use Rattle.cfdp_tree.proofs.OfNodes.TreeLaws.{node_live, node_octets}
+use Rattle.cfdp_tree.proofs.OfRuns.SpareLaws.{runs_stay}
+use Rattle.cfdp_tree.proofs.OfNodes.WriteLaws.{written_octets, written_nodes}
 use Rattle.cfdp_tree.proofs.files.set_contents.Goals as goal
 
 -- the blocks of a run are in the arena
@@ -33,24 +33,24 @@ returns-clause-nodes c =
 pub returns-clause-row : goal.returns-clause-row
 returns-clause-row c =
     let arena = c.args.arena.now in let b = c.args.node.now in let shown = c.bytes_mut-block.result.now in let contents = c.args.contents.now in
-    ap row_of (written_octets arena b shown c.set_sum.new.block c.requires.node c.bytes_mut-block.ensures.octets (c.set_sum.ensures.header
+    ap node_fields_of (written_octets arena b shown c.set_sum.new.block c.requires.node c.bytes_mut-block.ensures.octets (c.set_sum.ensures.header
     ∙ c.set_size.ensures.header ∙ c.set_run.ensures.header))
     ∙ c.set_sum.ensures.row
-    ∙ ap (λ (r : Row). record r { sum = contents.sum }) c.set_size.ensures.row
-    ∙ ap (λ (r : Row). record r { size = contents.size; sum = contents.sum }) c.set_run.ensures.row
-    ∙ ap (λ xs. with_contents (row_of xs) contents) (node_octets arena b c.requires.node shown c.bytes_mut-block.ensures.octets)
+    ∙ ap (λ (r : NodeFields). record r { sum = contents.sum }) c.set_size.ensures.row
+    ∙ ap (λ (r : NodeFields). record r { size = contents.size; sum = contents.sum }) c.set_run.ensures.row
+    ∙ ap (λ xs. with_contents (node_fields_of xs) contents) (node_octets arena b c.requires.node shown c.bytes_mut-block.ensures.octets)
 
 pub returns-clause-name : goal.returns-clause-name
 returns-clause-name c =
     let arena = c.args.arena.now in let b = c.args.node.now in let shown = c.bytes_mut-block.result.now in let new = c.set_sum.new.block in let run =
     c.args.contents.now.run in
-    let long = ap (λ (r : Row). r.name_length) c.set_sum.ensures.row ∙ ap (λ (r : Row). r.name_length) c.set_size.ensures.row
-    ∙ ap (λ (r : Row). r.name_length) c.set_run.ensures.row ∙ run_keeps (λ (r : Row). r.name_length) (row_of shown) run refl in
-    let name : name_of new ≡ name_of shown = (λ k. take (long k) ((c.set_sum.ensures.name ∙ c.set_size.ensures.name ∙ c.set_run.ensures.name) k)) in
-    ap name_of (written_octets arena b shown new c.requires.node c.bytes_mut-block.ensures.octets (c.set_sum.ensures.header ∙ c.set_size.ensures.header
+    let long = ap (λ (r : NodeFields). r.name_length) c.set_sum.ensures.row ∙ ap (λ (r : NodeFields). r.name_length) c.set_size.ensures.row
+    ∙ ap (λ (r : NodeFields). r.name_length) c.set_run.ensures.row ∙ run_keeps (λ (r : NodeFields). r.name_length) (node_fields_of shown) run refl in
+    let name : node_name new ≡ node_name shown = (λ k. take (long k) ((c.set_sum.ensures.name ∙ c.set_size.ensures.name ∙ c.set_run.ensures.name) k)) in
+    ap node_name (written_octets arena b shown new c.requires.node c.bytes_mut-block.ensures.octets (c.set_sum.ensures.header ∙ c.set_size.ensures.header
     ∙ c.set_run.ensures.header))
     ∙ name
-    ∙ ap name_of (node_octets arena b c.requires.node shown c.bytes_mut-block.ensures.octets)
+    ∙ ap node_name (node_octets arena b c.requires.node shown c.bytes_mut-block.ensures.octets)
 
 pub returns-clause-whole : goal.returns-clause-whole
 returns-clause-whole c =

@@ -1,13 +1,13 @@
 use Rattle.std.proofs.Common.{◌≡◌, ◌+◌, ◌-◌, suc, None, length, sym, ap, ◌∙◌, subst, arith, inl, inr}
 use Rattle.std.proofs.lemmas.List.Elements.{Contains-append_cases}
 use Rattle.std.specs.Prelude.{All, Contains}
-use Rattle.cfdp_tree.specs.Row.{row_of}
-use Rattle.cfdp_tree.specs.Nodes.{nodes_in}
-use Rattle.cfdp_tree.specs.Tree.{IsNode, IsEntry, row_at}
-use Rattle.cfdp_tree.specs.Index.{chain, list_of, place_of, HasHead, IsHead}
-use Rattle.cfdp_tree.proofs.TreeLaws.{node_live, node_octets}
-use Rattle.cfdp_tree.proofs.IndexLaws.{chain_more, chain_some, own_first, own_rest, rest_has, no_entry}
-use Rattle.cfdp_tree.proofs.HeadLaws.{all_left, head_here}
+use Rattle.cfdp_tree.specs.code.NodeFields.{node_fields_of}
+use Rattle.cfdp_tree.specs.code.Nodes.{nodes_in}
+use Rattle.cfdp_tree.specs.code.Tree.{IsNode, IsEntry, node_fields_at}
+use Rattle.cfdp_tree.specs.code.Index.{index_chain, list_of, head_place, HasHead, IsHead}
+use Rattle.cfdp_tree.proofs.OfNodes.TreeLaws.{node_live, node_octets}
+use Rattle.cfdp_tree.proofs.OfIndex.IndexLaws.{chain_more, chain_some, own_first, own_rest, rest_has, no_entry}
+use Rattle.cfdp_tree.proofs.OfIndex.HeadLaws.{all_left, head_here}
 use Rattle.cfdp_tree.proofs.index.find.Goals as goal
 
 pub loop-step-init : goal.loop-step-init
@@ -18,8 +18,8 @@ loop-step-init c =
     let listed = all_left (HasHead nodes None (length heads) place) (list_of nodes head) is.rest is.own in
     let all : head.listed ≡ head.listed - 0 = omega arith in
     record {
-      own = subst (λ n. All (IsNode nodes) (chain nodes n head.first)) all (λ i d less. (listed i d less).node);
-      left = (λ b entry has. subst (λ n. Contains (chain nodes n head.first) b) all has);
+      own = subst (λ n. All (IsNode nodes) (index_chain nodes n head.first)) all (λ i d less. (listed i d less).node);
+      left = (λ b entry has. subst (λ n. Contains (index_chain nodes n head.first) b) all has);
     }
 
 pub is_entry-requires-clause-node : goal.is_entry-requires-clause-node
@@ -27,7 +27,7 @@ is_entry-requires-clause-node c =
     let l = c.loop-step in let nodes = nodes_in c.args.arena.now in let count = c.index-heads-place.result.listed in
     let m = count - (l._step + 1) in
     let more : count - l._step ≡ suc m = omega arith in
-    own_first (IsNode nodes) l.node (chain nodes m (row_at nodes l.node).same_head)
+    own_first (IsNode nodes) l.node (index_chain nodes m (node_fields_at nodes l.node).same_head)
     (subst (All (IsNode nodes)) (chain_more nodes (count - l._step) m l.node more) l.invariant.own)
 
 pub bytes-requires : goal.bytes-requires
@@ -36,7 +36,7 @@ bytes-requires c =
     let m = count - (l._step + 1) in
     let more : count - l._step ≡ suc m = omega arith in
     record {
-      live = node_live c.args.arena.now l.node (own_first (IsNode nodes) l.node (chain nodes m (row_at nodes l.node).same_head)
+      live = node_live c.args.arena.now l.node (own_first (IsNode nodes) l.node (index_chain nodes m (node_fields_at nodes l.node).same_head)
           (subst (All (IsNode nodes)) (chain_more nodes (count - l._step) m l.node more) l.invariant.own));
     }
 
@@ -44,18 +44,18 @@ pub loop-step-preserved : goal.loop-step-preserved
 loop-step-preserved c =
     let l = c.loop-step in let nodes = nodes_in c.args.arena.now in let count = c.index-heads-place.result.listed in
     let m = count - (l._step + 1) in
-    let next = (row_at nodes l.node).same_head in
+    let next = (node_fields_at nodes l.node).same_head in
     let more : count - l._step ≡ suc m = omega arith in
     let list = chain_more nodes (count - l._step) m l.node more in
     let listed = subst (All (IsNode nodes)) list l.invariant.own in
-    let node = own_first (IsNode nodes) l.node (chain nodes m next) listed in
+    let node = own_first (IsNode nodes) l.node (index_chain nodes m next) listed in
     let next_is : next ≡ c.same_head_of-node.result =
-    ap (λ o. (row_of o).same_head) (sym (node_octets c.args.arena.now l.node node c.bytes.result.now c.bytes.ensures.octets))
+    ap (λ o. (node_fields_of o).same_head) (sym (node_octets c.args.arena.now l.node node c.bytes.result.now c.bytes.ensures.octets))
     ∙ sym c.same_head_of-node.ensures.value in
     record {
-      own = subst (λ b. All (IsNode nodes) (chain nodes m b)) next_is (own_rest (IsNode nodes) l.node (chain nodes m next) listed);
-      left = (λ b entry has. subst (λ n. Contains (chain nodes m n) b) next_is
-          (rest_has l.node (chain nodes m next) b (subst (λ xs. Contains xs b) list (l.invariant.left b entry has))
+      own = subst (λ b. All (IsNode nodes) (index_chain nodes m b)) next_is (own_rest (IsNode nodes) l.node (index_chain nodes m next) listed);
+      left = (λ b entry has. subst (λ n. Contains (index_chain nodes m n) b) next_is
+          (rest_has l.node (index_chain nodes m next) b (subst (λ xs. Contains xs b) list (l.invariant.left b entry has))
           (λ e. no_entry (c.is_entry.ensures.1 (subst (IsEntry nodes c.args.directory c.args.name.now) (sym e) entry)) c.if-is_entry.false)));
     }
 
@@ -66,7 +66,7 @@ returns-then-head-eq0-clause-none c b entry =
     let is = subst (IsHead nodes None (length heads) place) (head_here heads place head within c.index-heads-place.is) (c.requires.index.each place within) in
     let has = is.all b record {
       node = entry.node;
-      place = (λ k. place_of (entry.there k) (entry.named k) (length heads)) ∙ sym c.place_of-place.ensures.place;
+      place = (λ k. head_place (entry.there k) (entry.named k) (length heads)) ∙ sym c.place_of-place.ensures.place;
       inside = (λ e. cc);
     } in
     elim (Contains-append_cases (list_of nodes head) is.rest b has) [

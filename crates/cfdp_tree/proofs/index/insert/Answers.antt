@@ -4,16 +4,16 @@ use Rattle.std.proofs.lemmas.List.Sums.{get_or-le-sum_by}
 use Rattle.std.specs.Prelude.{◌==◌, if◌then◌else◌, slice_set}
 use Rattle.cfdp_arena.proofs.Chains.{live_within}
 use Rattle.cfdp_tree.specs.declared.index.Head.{Head}
-use Rattle.cfdp_tree.specs.Row.{Row}
-use Rattle.cfdp_tree.specs.Nodes.{only_node, nodes_in}
-use Rattle.cfdp_tree.specs.Tree.{Relinked}
-use Rattle.cfdp_tree.specs.Index.{no_head, place_of, count_of, IsIndex}
-use Rattle.cfdp_tree.proofs.Counts.{live_count-within, free_count-written}
-use Rattle.cfdp_tree.proofs.TreeLaws.{node_live}
-use Rattle.cfdp_tree.proofs.LinkLaws.{link_noted, link_row, link_name, link_links}
-use Rattle.cfdp_tree.proofs.SpareLaws.{runs_stay}
-use Rattle.cfdp_tree.proofs.HeadLaws.{head_here}
-use Rattle.cfdp_tree.proofs.InsertLaws.{inserted_beside, inserted}
+use Rattle.cfdp_tree.specs.code.NodeFields.{NodeFields}
+use Rattle.cfdp_tree.specs.code.Nodes.{only_node, nodes_in}
+use Rattle.cfdp_tree.specs.code.Tree.{Relinked}
+use Rattle.cfdp_tree.specs.code.Index.{no_head, head_place, head_count, IsIndex}
+use Rattle.cfdp_tree.proofs.OfRuns.Counts.{live_count-within, free_count-written}
+use Rattle.cfdp_tree.proofs.OfNodes.TreeLaws.{node_live}
+use Rattle.cfdp_tree.proofs.OfNodes.LinkLaws.{link_noted, link_row, link_name, link_links}
+use Rattle.cfdp_tree.proofs.OfRuns.SpareLaws.{runs_stay}
+use Rattle.cfdp_tree.proofs.OfIndex.HeadLaws.{head_here}
+use Rattle.cfdp_tree.proofs.OfIndex.InsertLaws.{inserted_beside, inserted}
 use Rattle.cfdp_tree.proofs.index.insert.Goals as goal
 
 pub set_same_head-requires : goal.set_same_head-requires
@@ -31,8 +31,8 @@ overflow_add-heads c =
     omega (
       arith,
       full,
-      ap (λ (h : Head). count_of h) same,
-      get_or-le-sum_by (λ (h : Head). count_of h) heads place no_head within,
+      ap (λ (h : Head). head_count h) same,
+      get_or-le-sum_by (λ (h : Head). head_count h) heads place no_head within,
       c.requires.index.counted,
       live_count-within (nodes_in c.args.arena.now),
       length-map c.args.arena.now only_node,
@@ -50,7 +50,7 @@ returns-then-head-eq-MOST_LISTED-clause-index c =
     let heads = c.args.heads.now in let entry = c.requires.entry in let place = c.place_of-place.result in let within = c.place_of-place.ensures.within in
     let head = c.index-heads-place.result in
     inserted_beside (nodes_in c.args.arena.now) heads c.args.node.now place within c.requires.index entry.node
-    ((λ i. place_of (entry.there i) (entry.named i) (length heads)) ∙ sym c.place_of-place.ensures.place)
+    ((λ i. head_place (entry.there i) (entry.named i) (length heads)) ∙ sym c.place_of-place.ensures.place)
     head (sym (head_here heads place head within c.index-heads-place.is))
 
 pub returns-clause-index : goal.returns-clause-index
@@ -67,10 +67,10 @@ returns-clause-index c =
     let name = link_name arena b shown new head.first entry.node is e.row e.header e.name in
     subst (λ after. IsIndex after (slice_set heads place record { first = b; listed = head.listed + 1; unlisted = head.unlisted }) None) (sym noted)
     (inserted nodes heads b place within c.requires.index entry.node
-    ((λ i. place_of (entry.there i) (entry.named i) (length heads)) ∙ sym c.place_of-place.ensures.place)
+    ((λ i. head_place (entry.there i) (entry.named i) (length heads)) ∙ sym c.place_of-place.ensures.place)
     head (sym same) new room
-    (ap (λ (r : Row). r.same_head) row)
-    (ap (λ (r : Row). if r.parent == b then None else Some r.parent) row)
+    (ap (λ (r : NodeFields). r.same_head) row)
+    (ap (λ (r : NodeFields). if r.parent == b then None else Some r.parent) row)
     name
     (omega (arith, live_within arena b (node_live arena b entry.node), c.free-free.ensures.capacity)))
 

@@ -1,9 +1,9 @@
 use Rattle.std.proofs.Common.{◌≡◌, sym, ap, ◌∙◌}
 use Rattle.cfdp_arena.specs.Arena.{octets_of}
-use Rattle.cfdp_tree.specs.Row.{name_of}
-use Rattle.cfdp_tree.specs.Nodes.{nodes_in}
-use Rattle.cfdp_tree.specs.Tree.{home_in}
-use Rattle.cfdp_tree.proofs.TreeLaws.{node_octets}
+use Rattle.cfdp_tree.specs.code.NodeFields.{node_name}
+use Rattle.cfdp_tree.specs.code.Nodes.{nodes_in}
+use Rattle.cfdp_tree.specs.code.Tree.{home_in}
+use Rattle.cfdp_tree.proofs.OfNodes.TreeLaws.{node_octets}
 use Rattle.cfdp_tree.proofs.index.is_entry.Goals as goal
 
 pub returns-then-home_is : goal.returns-then-home_is
@@ -13,9 +13,9 @@ returns-then-home_is c =
       (λ named. record {
         node = c.requires.node;
         there = ap (home_in b) (sym same) ∙ c.home_is.ensures.0 c.if-home_is.true;
-        named = ap name_of (sym same) ∙ c.name_is.ensures.0 named;
+        named = ap node_name (sym same) ∙ c.name_is.ensures.0 named;
       }),
-      (λ entry. c.name_is.ensures.1 (ap name_of same ∙ entry.named)),
+      (λ entry. c.name_is.ensures.1 (ap node_name same ∙ entry.named)),
     )
 
 pub returns-else-home_is : goal.returns-else-home_is

@@ -1,12 +1,12 @@
 use Rattle.std.proofs.Common.{◌≡◌, ◌+◌, ◌-◌, suc, sym, ap, ◌∙◌, subst, arith}
 use Rattle.std.proofs.lemmas.Bool.{eqb-true, eqb-false}
 use Rattle.std.specs.Prelude.{All, Contains}
-use Rattle.cfdp_tree.specs.Row.{row_of}
-use Rattle.cfdp_tree.specs.Nodes.{nodes_in}
-use Rattle.cfdp_tree.specs.Tree.{IsNode, row_at}
-use Rattle.cfdp_tree.specs.Index.{chain}
-use Rattle.cfdp_tree.proofs.TreeLaws.{node_live, node_octets}
-use Rattle.cfdp_tree.proofs.IndexLaws.{chain_more, chain_some, own_first, own_rest, rest_has, has_later, has_first, chain_one}
+use Rattle.cfdp_tree.specs.code.NodeFields.{node_fields_of}
+use Rattle.cfdp_tree.specs.code.Nodes.{nodes_in}
+use Rattle.cfdp_tree.specs.code.Tree.{IsNode, node_fields_at}
+use Rattle.cfdp_tree.specs.code.Index.{index_chain}
+use Rattle.cfdp_tree.proofs.OfNodes.TreeLaws.{node_live, node_octets}
+use Rattle.cfdp_tree.proofs.OfIndex.IndexLaws.{chain_more, chain_some, own_first, own_rest, rest_has, has_later, has_first, chain_one}
 use Rattle.cfdp_tree.proofs.index.node_before.Goals as goal
 
 pub loop-step-init : goal.loop-step-init
@@ -14,9 +14,9 @@ loop-step-init c =
     let nodes = nodes_in c.args.arena.now in let head = c.args.head.now in
     let all : head.listed ≡ head.listed + 1 - 1 = omega arith in
     record {
-      nodes = subst (λ n. All (IsNode nodes) (chain nodes n head.first)) all c.requires.nodes;
+      nodes = subst (λ n. All (IsNode nodes) (index_chain nodes n head.first)) all c.requires.nodes;
       later = (λ some. c.requires.later (omega (arith, some)));
-      left = (λ has. subst (λ n. Contains (chain nodes n head.first) c.args.node.now) all has);
+      left = (λ has. subst (λ n. Contains (index_chain nodes n head.first) c.args.node.now) all has);
       behind = (λ b has. has);
     }
 
@@ -27,7 +27,7 @@ bytes-requires c =
     let more : count + 1 - l._step ≡ suc m = omega arith in
     let list = chain_more nodes (count + 1 - l._step) m l.before more in
     record {
-      live = node_live c.args.arena.now l.before (own_first (IsNode nodes) l.before (chain nodes m (row_at nodes l.before).same_head)
+      live = node_live c.args.arena.now l.before (own_first (IsNode nodes) l.before (index_chain nodes m (node_fields_at nodes l.before).same_head)
           (subst (All (IsNode nodes)) list l.invariant.nodes));
     }
 
@@ -35,25 +35,26 @@ pub loop-step-preserved : goal.loop-step-preserved
 loop-step-preserved c =
     let l = c.loop-step in let nodes = nodes_in c.args.arena.now in let b = c.args.node.now in let count = c.args.head.now.listed in
     let m = count - l._step in
-    let next = (row_at nodes l.before).same_head in
+    let next = (node_fields_at nodes l.before).same_head in
     let more : count + 1 - l._step ≡ suc m = omega arith in
     let same : m ≡ count + 1 - (l._step + 1) = omega arith in
     let fewer : m ≡ suc (count - (l._step + 1)) = omega arith in
     let list = chain_more nodes (count + 1 - l._step) m l.before more in
     let owned = subst (All (IsNode nodes)) list l.invariant.nodes in
-    let node = own_first (IsNode nodes) l.before (chain nodes m next) owned in
+    let node = own_first (IsNode nodes) l.before (index_chain nodes m next) owned in
     let next_is : next ≡ c.same_head_of-next.result =
-    ap (λ o. (row_of o).same_head) (sym (node_octets c.args.arena.now l.before node c.bytes.result.now c.bytes.ensures.octets))
+    ap (λ o. (node_fields_of o).same_head) (sym (node_octets c.args.arena.now l.before node c.bytes.result.now c.bytes.ensures.octets))
     ∙ sym c.same_head_of-next.ensures.value in
-    let rest_is : chain nodes m next ≡ chain nodes (count + 1 - (l._step + 1)) c.same_head_of-next.result = (λ k. chain nodes (same k) (next_is k)) in
+    let rest_is : index_chain nodes m next ≡ index_chain nodes (count + 1 - (l._step + 1)) c.same_head_of-next.result =
+    (λ k. index_chain nodes (same k) (next_is k)) in
     record {
-      nodes = subst (All (IsNode nodes)) rest_is (own_rest (IsNode nodes) l.before (chain nodes m next) owned);
+      nodes = subst (All (IsNode nodes)) rest_is (own_rest (IsNode nodes) l.before (index_chain nodes m next) owned);
       later = (λ some. eqb-false c.same_head_of-next.result b (sym c.eq.ensures ∙ c.if-eq.false));
       left = (λ has. subst (λ xs. Contains xs b) rest_is
-          (rest_has l.before (chain nodes m next) b (subst (λ xs. Contains xs b) list (l.invariant.left has)) (l.invariant.later (omega arith))));
-      behind = (λ x has. l.invariant.behind x (subst (λ n. Contains (chain nodes n l.before) x) (sym fewer)
-          (has_later l.before (chain nodes (count - (l._step + 1)) next) x
-          (subst (λ y. Contains (chain nodes (count - (l._step + 1)) y) x) (sym next_is) has))));
+          (rest_has l.before (index_chain nodes m next) b (subst (λ xs. Contains xs b) list (l.invariant.left has)) (l.invariant.later (omega arith))));
+      behind = (λ x has. l.invariant.behind x (subst (λ n. Contains (index_chain nodes n l.before) x) (sym fewer)
+          (has_later l.before (index_chain nodes (count - (l._step + 1)) next) x
+          (subst (λ y. Contains (index_chain nodes (count - (l._step + 1)) y) x) (sym next_is) has))));
     }
 
 pub returns-then-eq-clause-before : goal.returns-then-eq-clause-before
@@ -61,9 +62,9 @@ returns-then-eq-clause-before c =
     let l = c.loop-step in let nodes = nodes_in c.args.arena.now in let count = c.args.head.now.listed in
     let m = count - l._step in
     let more : count + 1 - l._step ≡ suc m = omega arith in
-    let node = own_first (IsNode nodes) l.before (chain nodes m (row_at nodes l.before).same_head)
+    let node = own_first (IsNode nodes) l.before (index_chain nodes m (node_fields_at nodes l.before).same_head)
     (subst (All (IsNode nodes)) (chain_more nodes (count + 1 - l._step) m l.before more) l.invariant.nodes) in
-    ap (λ o. (row_of o).same_head) (sym (node_octets c.args.arena.now l.before node c.bytes.result.now c.bytes.ensures.octets))
+    ap (λ o. (node_fields_of o).same_head) (sym (node_octets c.args.arena.now l.before node c.bytes.result.now c.bytes.ensures.octets))
     ∙ sym c.same_head_of-next.ensures.value
     ∙ eqb-true c.same_head_of-next.result c.args.node.now (sym c.eq.ensures ∙ c.if-eq.true)
 
@@ -72,8 +73,8 @@ returns-then-eq-clause-there c =
     let l = c.loop-step in let nodes = nodes_in c.args.arena.now in let count = c.args.head.now.listed in
     let m = count - (l._step + 1) in
     let more : count - l._step ≡ suc m = omega arith in
-    l.invariant.behind l.before (subst (λ n. Contains (chain nodes n l.before) l.before) (sym more)
-    (has_first l.before (chain nodes m (row_at nodes l.before).same_head)))
+    l.invariant.behind l.before (subst (λ n. Contains (index_chain nodes n l.before) l.before) (sym more)
+    (has_first l.before (index_chain nodes m (node_fields_at nodes l.before).same_head)))
 
 pub returns-clause-none : goal.returns-clause-none
 returns-clause-none c has =
@@ -82,4 +83,4 @@ returns-clause-none c has =
     let some = chain_some nodes (count + 1 - l._step) l.before c.args.node.now there in
     let over = c.loop-step-test.false in
     let one : count + 1 - l._step ≡ 1 = omega arith in
-    l.invariant.later some (chain_one nodes l.before c.args.node.now (subst (λ n. Contains (chain nodes n l.before) c.args.node.now) one there))
+    l.invariant.later some (chain_one nodes l.before c.args.node.now (subst (λ n. Contains (index_chain nodes n l.before) c.args.node.now) one there))

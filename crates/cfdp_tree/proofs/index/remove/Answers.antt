@@ -3,13 +3,13 @@ use Rattle.std.proofs.lemmas.List.{length-map}
 use Rattle.std.proofs.lemmas.List.Elements.{All-contains, Contains-append_cases}
 use Rattle.std.specs.Prelude.{All, Contains, slice_index_or}
 use Rattle.cfdp_tree.specs.declared.index.Head.{Head}
-use Rattle.cfdp_tree.specs.Nodes.{only_node, nodes_in}
-use Rattle.cfdp_tree.specs.Tree.{home, name_at}
-use Rattle.cfdp_tree.specs.Index.{no_head, place_of, list_of, without, count_of, HasHead, IsHead}
-use Rattle.cfdp_tree.proofs.Counts.{live_count-same}
-use Rattle.cfdp_tree.proofs.LinkLaws.{relinked_places}
-use Rattle.cfdp_tree.proofs.HeadLaws.{all_left, pairs_left, head_here}
-use Rattle.cfdp_tree.proofs.UnlistLaws.{removed}
+use Rattle.cfdp_tree.specs.code.Nodes.{only_node, nodes_in}
+use Rattle.cfdp_tree.specs.code.Tree.{home, name_at}
+use Rattle.cfdp_tree.specs.code.Index.{no_head, head_place, list_of, without_node, head_count, HasHead, IsHead}
+use Rattle.cfdp_tree.proofs.OfRuns.Counts.{live_count-same}
+use Rattle.cfdp_tree.proofs.OfNodes.LinkLaws.{relinked_places}
+use Rattle.cfdp_tree.proofs.OfIndex.HeadLaws.{all_left, pairs_left, head_here}
+use Rattle.cfdp_tree.proofs.OfIndex.UnlistLaws.{removed}
 use Rattle.cfdp_tree.proofs.index.remove.Goals as goal
 
 pub take_out-requires-clause-nodes : goal.take_out-requires-clause-nodes
@@ -37,7 +37,7 @@ take_out-requires-clause-there c missing =
     let is = subst (IsHead nodes None (length heads) place) (head_here heads place head within c.index-heads-place.is) (c.requires.index.each place within) in
     let has = is.all b record {
       node = entry.node;
-      place = (λ i. place_of (entry.there i) (entry.named i) (length heads)) ∙ sym c.place_of-place.ensures.place;
+      place = (λ i. head_place (entry.there i) (entry.named i) (length heads)) ∙ sym c.place_of-place.ensures.place;
       inside = (λ e. cc);
     } in
     elim (Contains-append_cases (list_of nodes head) is.rest b has) [
@@ -59,19 +59,19 @@ returns-clause-index c =
     let head = c.index-heads-place.result in
     let same = head_here heads place head within c.index-heads-place.is in
     let was = slice_index_or heads place no_head in
-    let own_place : place_of (home nodes b) (name_at nodes b) (length heads) ≡ place =
-    (λ i. place_of (entry.there i) (entry.named i) (length heads)) ∙ sym c.place_of-place.ensures.place in
+    let own_place : head_place (home nodes b) (name_at nodes b) (length heads) ≡ place =
+    (λ i. head_place (entry.there i) (entry.named i) (length heads)) ∙ sym c.place_of-place.ensures.place in
     let long : length later ≡ length nodes = length-map new only_node ∙ e.size ∙ sym (length-map old only_node) in
     let listed : (j : ℕ) → j < length heads → All (HasHead nodes None (length heads) j) (list_of nodes (slice_index_or heads j no_head)) = (λ j inside. (
     let is = index.each j inside in
     all_left (HasHead nodes None (length heads) j) (list_of nodes (slice_index_or heads j no_head)) is.rest is.own)) in
     removed nodes later heads b place within index entry.node c.take_out.result own_place (relinked_places nodes later e.links) e.small
-    (e.list ∙ ap (λ h. without b (list_of nodes h)) (sym same))
+    (e.list ∙ ap (λ h. without_node b (list_of nodes h)) (sym same))
     (λ j inside other. (let list = list_of nodes (slice_index_or heads j no_head) in
     e.others (slice_index_or heads j no_head) (λ i d less has. other (
     sym (listed j inside i d less).place
     ∙ (All-contains (HasHead nodes None (length heads) place) (list_of nodes was) (slice_index_or list i d)
     (listed place within) (subst (λ h. Contains (list_of nodes h) (slice_index_or list i d)) (sym same) has)).place))))
     (omega (arith, e.few, ap (λ (h : Head). h.listed) same))
-    (e.count ∙ ap (λ (h : Head). count_of h) (sym same))
+    (e.count ∙ ap (λ (h : Head). head_count h) (sym same))
     (live_count-same later nodes long e.links.nodes)

@@ -3,16 +3,16 @@ use Rattle.std.proofs.lemmas.Bool.{eqb-true}
 use Rattle.std.proofs.lemmas.List.Elements.{Contains-get_or}
 use Rattle.std.specs.Prelude.{◌≢◌}
 use Rattle.cfdp_arena.specs.Arena.{with_block}
-use Rattle.cfdp_tree.specs.Row.{Row, row_of}
-use Rattle.cfdp_tree.specs.Nodes.{nodes_in}
-use Rattle.cfdp_tree.specs.Tree.{row_at, Relinked}
-use Rattle.cfdp_tree.specs.Index.{chain, list_of, without}
-use Rattle.cfdp_tree.proofs.Counts.{free_count-written}
-use Rattle.cfdp_tree.proofs.TreeLaws.{node_live, node_octets}
-use Rattle.cfdp_tree.proofs.IndexLaws.{chain_some, once_first, kept_chain}
-use Rattle.cfdp_tree.proofs.LinkLaws.{link_noted, link_row, link_links, next_here, next_other}
-use Rattle.cfdp_tree.proofs.CutLaws.{without_first, without_all, cut_chain, in_list, in_nodes}
-use Rattle.cfdp_tree.proofs.SpareLaws.{runs_stay}
+use Rattle.cfdp_tree.specs.code.NodeFields.{NodeFields, node_fields_of}
+use Rattle.cfdp_tree.specs.code.Nodes.{nodes_in}
+use Rattle.cfdp_tree.specs.code.Tree.{node_fields_at, Relinked}
+use Rattle.cfdp_tree.specs.code.Index.{index_chain, list_of, without_node}
+use Rattle.cfdp_tree.proofs.OfRuns.Counts.{free_count-written}
+use Rattle.cfdp_tree.proofs.OfNodes.TreeLaws.{node_live, node_octets}
+use Rattle.cfdp_tree.proofs.OfIndex.IndexLaws.{chain_some, once_first, kept_chain}
+use Rattle.cfdp_tree.proofs.OfNodes.LinkLaws.{link_noted, link_row, link_links, next_here, next_other}
+use Rattle.cfdp_tree.proofs.OfIndex.CutLaws.{without_first, without_all, cut_chain, in_list, in_nodes}
+use Rattle.cfdp_tree.proofs.OfRuns.SpareLaws.{runs_stay}
 use Rattle.cfdp_tree.proofs.index.take_out.Goals as goal
 
 pub returns-then-eq-clause-list : goal.returns-then-eq-clause-list
@@ -21,13 +21,14 @@ returns-then-eq-clause-list c =
     let some = c.if-head-gt0.true in
     let all : head.listed ≡ suc (head.listed - 1) = omega arith in
     let first : head.first ≡ b = eqb-true head.first b (sym c.eq.ensures ∙ c.if-eq.true) in
-    let next_is : c.same_head_of-next.result ≡ (row_at nodes b).same_head =
-    c.same_head_of-next.ensures.value ∙ ap (λ o. (row_of o).same_head) (node_octets arena b c.requires.node c.bytes.result.now c.bytes.ensures.octets) in
-    let rest = chain nodes (head.listed - 1) (row_at nodes b).same_head in
-    let list_is : list_of nodes head ≡ b ∷ rest = (λ k. chain nodes (all k) (first k)) in
-    ap (chain nodes (head.listed - 1)) next_is
+    let next_is : c.same_head_of-next.result ≡ (node_fields_at nodes b).same_head =
+    c.same_head_of-next.ensures.value ∙ ap (λ o. (node_fields_of o).same_head) (node_octets arena b c.requires.node c.bytes.result.now c.bytes.ensures.octets)
+    in
+    let rest = index_chain nodes (head.listed - 1) (node_fields_at nodes b).same_head in
+    let list_is : list_of nodes head ≡ b ∷ rest = (λ k. index_chain nodes (all k) (first k)) in
+    ap (index_chain nodes (head.listed - 1)) next_is
     ∙ sym (without_first b rest (once_first b rest (subst (AllPairs (λ x y. x ≢ y)) list_is c.requires.once)))
-    ∙ ap (without b) (sym list_is)
+    ∙ ap (without_node b) (sym list_is)
 
 pub returns-in_default-clause-list : goal.returns-in_default-clause-list
 returns-in_default-clause-list c =
@@ -46,15 +47,16 @@ returns-clause-list c =
     let new = c.set_same_head.new.block in let e = c.set_same_head.ensures in let shown = c.bytes_mut.result.now in let is = c.bytes_mut.ensures.octets in
     let link = c.same_head_of-next.result in
     let node = in_nodes nodes head p before.there c.requires.nodes in
-    let next_is : link ≡ (row_at nodes b).same_head =
-    c.same_head_of-next.ensures.value ∙ ap (λ o. (row_of o).same_head) (node_octets arena b c.requires.node c.bytes.result.now c.bytes.ensures.octets) in
+    let next_is : link ≡ (node_fields_at nodes b).same_head =
+    c.same_head_of-next.ensures.value ∙ ap (λ o. (node_fields_of o).same_head) (node_octets arena b c.requires.node c.bytes.result.now c.bytes.ensures.octets)
+    in
     let some = chain_some nodes (head.listed - 1) head.first p before.there in
     let all : head.listed ≡ suc (head.listed - 1) = omega arith in
-    let linked = next_here nodes p new node ∙ ap (λ (r : Row). r.same_head) (link_row arena p shown new link node is e.row e.header e.name) ∙ next_is in
-    let once = subst (λ n. AllPairs (λ x y. x ≢ y) (chain nodes n head.first)) all c.requires.once in
-    ap (λ xs. chain xs (head.listed - 1) head.first) (link_noted arena p shown new link node is e.row e.header e.name)
+    let linked = next_here nodes p new node ∙ ap (λ (r : NodeFields). r.same_head) (link_row arena p shown new link node is e.row e.header e.name) ∙ next_is in
+    let once = subst (λ n. AllPairs (λ x y. x ≢ y) (index_chain nodes n head.first)) all c.requires.once in
+    ap (λ xs. index_chain xs (head.listed - 1) head.first) (link_noted arena p shown new link node is e.row e.header e.name)
     ∙ cut_chain nodes p b before.before (with_block nodes p new) (next_other nodes p new node) linked (head.listed - 1) head.first once before.there
-    ∙ ap (λ n. without b (chain nodes n head.first)) (sym all)
+    ∙ ap (λ n. without_node b (index_chain nodes n head.first)) (sym all)
 
 pub returns-clause-others : goal.returns-clause-others
 returns-clause-others c =
@@ -63,7 +65,7 @@ returns-clause-others c =
     let new = c.set_same_head.new.block in let e = c.set_same_head.ensures in let shown = c.bytes_mut.result.now in let is = c.bytes_mut.ensures.octets in
     let link = c.same_head_of-next.result in
     let node = in_nodes nodes head p before.there c.requires.nodes in
-    (λ other apart. ap (λ xs. chain xs other.listed other.first) (link_noted arena p shown new link node is e.row e.header e.name)
+    (λ other apart. ap (λ xs. index_chain xs other.listed other.first) (link_noted arena p shown new link node is e.row e.header e.name)
     ∙ kept_chain nodes (with_block nodes p new) p (next_other nodes p new node) other.listed other.first
     (λ k d within same. apart k d within (subst (Contains (list_of nodes head)) same (in_list nodes head p before.there))))
 

@@ -3,27 +3,27 @@ use Rattle.std.proofs.lemmas.List.{append_assoc}
 use Rattle.std.proofs.lemmas.List.Elements.{All-head, All-tail}
 use Rattle.std.specs.Prelude.{All}
 use Rattle.std.specs.Vec.Iter.{into_iter_items}
-use Rattle.cfdp_actions.specs.Store.{entry_of}
-use Rattle.cfdp_tree.specs.Nodes.{nodes_in}
-use Rattle.cfdp_tree.specs.Survey.{shown, IsSound}
+use Rattle.cfdp_actions.specs.Store.{listing_entry}
+use Rattle.cfdp_tree.specs.code.Nodes.{nodes_in}
+use Rattle.cfdp_tree.specs.code.Survey.{shown_node, IsSoundNode}
 use Rattle.cfdp_tree.proofs.listing.entries.Goals as goal
 
 pub entry-requires : goal.entry-requires
 entry-requires c =
     let arena = c.args.arena.now in let rest = into_iter_items c.next.new.self in let l = c.loop-path in
     let items : into_iter_items l.path-iterator ≡ (c.in-Some.path, c.in-Some.node) ∷ rest = search rules in
-    All-head (IsSound arena) (c.in-Some.path, c.in-Some.node) rest (subst (All (IsSound arena)) items l.invariant.sound)
+    All-head (IsSoundNode arena) (c.in-Some.path, c.in-Some.node) rest (subst (All (IsSoundNode arena)) items l.invariant.sound)
 
 pub loop-path-preserved : goal.loop-path-preserved
 loop-path-preserved c =
     let arena = c.args.arena.now in let rest = into_iter_items c.next.new.self in let l = c.loop-path in
     let items : into_iter_items l.path-iterator ≡ (c.in-Some.path, c.in-Some.node) ∷ rest = search rules in
     record {
-      done = ap (λ xs. xs ++ map (λ e. entry_of (shown arena (nodes_in arena) e)) rest) (c.in_ok-push.ensures.items
+      done = ap (λ xs. xs ++ map (λ e. listing_entry (shown_node arena (nodes_in arena) e)) rest) (c.in_ok-push.ensures.items
           ∙ ap (λ x. l.all.items ++ x ∷ []) c.entry.ensures)
-          ∙ append_assoc l.all.items (entry_of (shown arena (nodes_in arena) (c.in-Some.path, c.in-Some.node)) ∷ [])
-          (map (λ e. entry_of (shown arena (nodes_in arena) e)) rest)
-          ∙ ap (λ xs. l.all.items ++ map (λ e. entry_of (shown arena (nodes_in arena) e)) xs) (sym items)
+          ∙ append_assoc l.all.items (listing_entry (shown_node arena (nodes_in arena) (c.in-Some.path, c.in-Some.node)) ∷ [])
+          (map (λ e. listing_entry (shown_node arena (nodes_in arena) e)) rest)
+          ∙ ap (λ xs. l.all.items ++ map (λ e. listing_entry (shown_node arena (nodes_in arena) e)) xs) (sym items)
           ∙ l.invariant.done;
-      sound = All-tail (IsSound arena) (c.in-Some.path, c.in-Some.node) rest (subst (All (IsSound arena)) items l.invariant.sound);
+      sound = All-tail (IsSoundNode arena) (c.in-Some.path, c.in-Some.node) rest (subst (All (IsSoundNode arena)) items l.invariant.sound);
     }

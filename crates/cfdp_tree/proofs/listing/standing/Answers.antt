@@ -1,10 +1,10 @@
 use Rattle.std.proofs.Common.{sym, ap, ◌∙◌, subst}
 use Rattle.cfdp_actions.specs.declared.kind.Kind.TheVariants as kind
 use Rattle.cfdp_actions.specs.Store.{standing_of}
-use Rattle.cfdp_tree.specs.Contents.{IsFilled}
-use Rattle.cfdp_tree.specs.Kept.{file_of, node_of}
-use Rattle.cfdp_tree.proofs.TreeLaws.{node_octets}
-use Rattle.cfdp_tree.proofs.ListingLaws.{standing_directory, standing_file}
+use Rattle.cfdp_tree.specs.code.Contents.{IsFilled}
+use Rattle.cfdp_tree.specs.code.Kept.{file_of, node_of}
+use Rattle.cfdp_tree.proofs.OfNodes.TreeLaws.{node_octets}
+use Rattle.cfdp_tree.proofs.OfWalks.ListingLaws.{standing_directory, standing_file}
 use Rattle.cfdp_tree.proofs.listing.standing.Goals as goal
 
 pub returns-in-Directory : goal.returns-in-Directory

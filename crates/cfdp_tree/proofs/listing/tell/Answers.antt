@@ -1,26 +1,26 @@
 use Rattle.std.proofs.Common.{◌≡◌, [], sym, ap, ◌∙◌, subst}
 use Rattle.cfdp_actions.specs.declared.kind.Kind.TheVariants as kind
 use Rattle.cfdp_actions.specs.declared.kind.Entry.{Entry}
-use Rattle.cfdp_actions.specs.Store.{entry_of}
+use Rattle.cfdp_actions.specs.Store.{listing_entry}
 use Rattle.cfdp_arena.specs.Arena.{octets_of}
-use Rattle.cfdp_tree.specs.Nodes.{nodes_in}
-use Rattle.cfdp_tree.specs.Contents.{IsFilled}
-use Rattle.cfdp_tree.specs.Kept.{file_of, node_of}
-use Rattle.cfdp_tree.proofs.TreeLaws.{node_octets}
-use Rattle.cfdp_tree.proofs.ListingLaws.{entry_directory, entry_file, file_filled}
+use Rattle.cfdp_tree.specs.code.Nodes.{nodes_in}
+use Rattle.cfdp_tree.specs.code.Contents.{IsFilled}
+use Rattle.cfdp_tree.specs.code.Kept.{file_of, node_of}
+use Rattle.cfdp_tree.proofs.OfNodes.TreeLaws.{node_octets}
+use Rattle.cfdp_tree.proofs.OfWalks.ListingLaws.{entry_directory, entry_file, file_filled}
 use Rattle.cfdp_tree.proofs.listing.tell.Goals as goal
 
 -- what is at the node, as an entry of some path
 directory_told : (c : goal.In-Directory) → record { path = []; kind = kind.Directory; size = 0; checksum = 0 }
-    ≡ entry_of ([], node_of c.args.arena.now (octets_of (nodes_in c.args.arena.now) c.args.node.now))
+    ≡ listing_entry ([], node_of c.args.arena.now (octets_of (nodes_in c.args.arena.now) c.args.node.now))
 directory_told c =
     let arena = c.args.arena.now in let block = c.bytes-block.result.now in
     let same = node_octets arena c.args.node.now c.requires.node block c.bytes-block.ensures.octets in
-    entry_directory arena block [] c.in-Directory.ensures ∙ ap (λ o. entry_of ([], node_of arena o)) same
+    entry_directory arena block [] c.in-Directory.ensures ∙ ap (λ o. listing_entry ([], node_of arena o)) same
 
 file_told : (c : goal.After-sum_of)
     → record { path = []; kind = kind.File; size = c.from.result; checksum = c.sum_of.result }
-    ≡ entry_of ([], node_of c.args.arena.now (octets_of (nodes_in c.args.arena.now) c.args.node.now))
+    ≡ listing_entry ([], node_of c.args.arena.now (octets_of (nodes_in c.args.arena.now) c.args.node.now))
 file_told c =
     let arena = c.args.arena.now in let block = c.bytes-block.result.now in
     let same = node_octets arena c.args.node.now c.requires.node block c.bytes-block.ensures.octets in
@@ -32,7 +32,7 @@ file_told c =
       checksum = (c.sum_of.ensures ∙ (file_filled arena block [] filled c.in-File.ensures).summed) k;
     })
     ∙ entry_file arena block [] filled c.in-File.ensures
-    ∙ ap (λ o. entry_of ([], node_of arena o)) same
+    ∙ ap (λ o. listing_entry ([], node_of arena o)) same
 
 pub returns-in-Directory-clause-kind : goal.returns-in-Directory-clause-kind
 returns-in-Directory-clause-kind c = ap (λ (e : Entry). e.kind) (directory_told c)

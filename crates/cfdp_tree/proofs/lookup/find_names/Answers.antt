@@ -3,11 +3,11 @@ use Rattle.std.proofs.lemmas.List.{take_more}
 use Rattle.std.specs.Prelude.{IfNone, IfSome}
 use Rattle.cfdp_arena.specs.Arena.{Blocks}
 use Rattle.cfdp_paths.specs.Paths.{Name, Path}
-use Rattle.cfdp_tree.specs.Nodes.{nodes_in}
-use Rattle.cfdp_tree.specs.Tree.{IsTree, IsNode, path_of}
-use Rattle.cfdp_tree.specs.Places.{StandsAt}
-use Rattle.cfdp_tree.proofs.NamesLeft.{ahead-start, ahead-next, ahead-end}
-use Rattle.cfdp_tree.proofs.ClimbLaws.{some_path, entry_at, path_entry, beginning}
+use Rattle.cfdp_tree.specs.code.Nodes.{nodes_in}
+use Rattle.cfdp_tree.specs.code.Tree.{IsTree, IsNode, path_of_node}
+use Rattle.cfdp_tree.specs.code.Places.{StandsAt}
+use Rattle.cfdp_tree.proofs.OfNodes.NamesLeft.{ahead-start, ahead-next, ahead-end}
+use Rattle.cfdp_tree.proofs.OfNodes.ClimbLaws.{some_path, entry_at, path_entry, beginning}
 use Rattle.cfdp_tree.proofs.lookup.find_names.Goals as goal
 
 any_none : {A : Type 0} (r : Option A) (P : Type 0) → P → IfNone r P
@@ -16,11 +16,11 @@ any_none (Some x) P p = tt
 
 -- the root is no node
 no_node : (nodes : Blocks) (tree : IsTree nodes) (place : Option ℕ) (p : Path) → StandsAt nodes place p →
-    IfNone place ((b : ℕ) → IsNode nodes b → path_of nodes b ≡ p → ⊥)
+    IfNone place ((b : ℕ) → IsNode nodes b → path_of_node nodes b ≡ p → ⊥)
 no_node nodes tree None p stands = (λ b node e. some_path nodes tree b node (e ∙ sym stands.path))
 no_node nodes tree (Some d) p stands = tt
 
-node_path : (nodes : Blocks) (place : Option ℕ) (p : Path) → StandsAt nodes place p → IfSome place (λ b. path_of nodes b ≡ p)
+node_path : (nodes : Blocks) (place : Option ℕ) (p : Path) → StandsAt nodes place p → IfSome place (λ b. path_of_node nodes b ≡ p)
 node_path nodes None p stands = tt
 node_path nodes (Some d) p stands = stands.path
 
@@ -42,7 +42,7 @@ returns-in_err-node-clause-none c =
     let nodes = nodes_in c.args.arena.now in let path = c.args.names in let place = c.loop-name.place in
     let at = c.loop-name.invariant in let i = at.0 in
     let next = ahead-next path c.loop-name.name-iterator i at.1 c.in-Some.name.now c.next.new.self c.in-Some.ensures.steps in
-    any_none c.from_residual.result ((b : ℕ) → IsNode nodes b → path_of nodes b ≡ path → ⊥) (λ b node e.
+    any_none c.from_residual.result ((b : ℕ) → IsNode nodes b → path_of_node nodes b ≡ path → ⊥) (λ b node e.
     (let above = beginning nodes c.requires.tree b (i + 1) node (omega arith) (omega (arith, ap length e, next.1)) in
     let here = above.2 ∙ ap (take (i + 1)) e ∙ take_more path i [] next.1 in
     c.in_err-node.ensures.none above.0 (entry_at nodes c.requires.tree place (take i path) c.in-Some.name.now above.0 at.2 above.1 (here

@@ -1,7 +1,7 @@
 use Rattle.std.proofs.Common.{ℕ, take}
-use Rattle.cfdp_tree.specs.Nodes.{nodes_in}
-use Rattle.cfdp_tree.specs.Places.{StandsAt}
-use Rattle.cfdp_tree.proofs.NamesLeft.{IsAhead}
+use Rattle.cfdp_tree.specs.code.Nodes.{nodes_in}
+use Rattle.cfdp_tree.specs.code.Places.{StandsAt}
+use Rattle.cfdp_tree.proofs.OfNodes.NamesLeft.{IsAhead}
 use Rattle.cfdp_tree.proofs.lookup.find_names.Given as goal
 
 abbrev pub invariant-loop-name : goal.invariant-loop-name

@@ -4,15 +4,15 @@ use Rattle.std.proofs.lemmas.Option.{IfSome_then}
 use Rattle.std.specs.Prelude.{All, IfSome, IfNone}
 use Rattle.cfdp_arena.specs.Arena.{Blocks}
 use Rattle.cfdp_paths.specs.Paths.{Name, Path, IsName}
-use Rattle.cfdp_tree.specs.Nodes.{nodes_in}
-use Rattle.cfdp_tree.specs.Tree.{IsTree, IsNode, IsEntry, path_of}
-use Rattle.cfdp_tree.specs.Places.{path_at, StandsAt}
-use Rattle.cfdp_tree.specs.Orders.{in_order}
-use Rattle.cfdp_tree.specs.Next.{Follows, IsFirst}
-use Rattle.cfdp_tree.proofs.ClimbLaws.{path_entry}
-use Rattle.cfdp_tree.proofs.LeastLaws.{none_then}
-use Rattle.cfdp_tree.proofs.OrderedLaws.{listed_in}
-use Rattle.cfdp_tree.proofs.NextLaws.{least_first, none_first, apart_last, apart_name, behind_name, none_below, first_below, NoneBelow}
+use Rattle.cfdp_tree.specs.code.Nodes.{nodes_in}
+use Rattle.cfdp_tree.specs.code.Tree.{IsTree, IsNode, IsEntry, path_of_node}
+use Rattle.cfdp_tree.specs.code.Places.{path_at, StandsAt}
+use Rattle.cfdp_tree.specs.code.Orders.{in_order}
+use Rattle.cfdp_tree.specs.code.Next.{ComesAfter, IsFirst}
+use Rattle.cfdp_tree.proofs.OfNodes.ClimbLaws.{path_entry}
+use Rattle.cfdp_tree.proofs.OfOrders.LeastLaws.{none_then}
+use Rattle.cfdp_tree.proofs.OfOrders.OrderedLaws.{listed_in}
+use Rattle.cfdp_tree.proofs.OfOrders.NextLaws.{least_first, none_first, apart_last, apart_name, behind_name, none_below, first_below, NoneBelow}
 use Rattle.cfdp_tree.proofs.next.+next_below.Goals as goal
 use Rattle.cfdp_tree.proofs.next.+next_below.Goals.{in-Some-find+else-is_some, in_default-find}
 
@@ -44,7 +44,7 @@ pub returns-in_default-clause-none : goal.returns-in_default-clause-none
 returns-in_default-clause-none t c =
     let nodes = nodes_in c.args.arena.now in let place = c.args.place.now in let a = path_at nodes place in let list = in_order c.args.orders.now place in
     let stands = here nodes place c.requires.place in
-    subst (λ (names : Path). IfNone c.least_after.result ((b : ℕ) → Follows nodes a (a ++ names) b → ⊥)) (sym c.in_default.ensures.steps.0)
+    subst (λ (names : Path). IfNone c.least_after.result ((b : ℕ) → ComesAfter nodes a (a ++ names) b → ⊥)) (sym c.in_default.ensures.steps.0)
     (none_then c.least_after.result c.least_after.ensures.none
     (none_first nodes c.requires.tree place a stands list (listed_in nodes c.args.orders.now c.requires.ordered place) [] None
     (apart_last nodes c.requires.tree place a stands list (listed_in nodes c.args.orders.now c.requires.ordered place))))
@@ -85,10 +85,11 @@ returns-then-is_some-clause-first t c =
 -- nothing follows below the name's own path
 none_found : (nodes : Blocks) (tree : IsTree nodes) (place : Option ℕ) (stands : StandsAt nodes place (path_at nodes place)) (name : Name) (rest : Path)
     (d : ℕ) → IsEntry nodes place name d
-    → ((b : ℕ) → Follows nodes (path_of nodes d) (path_of nodes d ++ rest) b → ⊥) → NoneBelow nodes tree place (path_at nodes place) stands name rest
+    → ((b : ℕ) → ComesAfter nodes (path_of_node nodes d) (path_of_node nodes d ++ rest) b → ⊥) → NoneBelow nodes tree place
+    (path_at nodes place) stands name rest
 none_found nodes tree place stands name rest d entry none c follows =
     let way = path_entry nodes tree place (path_at nodes place) name d stands entry in
-    none c (subst (λ q. Follows nodes q (q ++ rest) c) (sym way) follows)
+    none c (subst (λ q. ComesAfter nodes q (q ++ rest) c) (sym way) follows)
 
 pub returns-clause-first : goal.returns-clause-first
 returns-clause-first t c =
@@ -118,7 +119,7 @@ returns-clause-none t c =
           (no_result w.next_below-below.result (sym w.is_some.ensures ∙ w.if-is_some.false) w.next_below-below.ensures.none)
       | in_default-find w ↦ none_below nodes tree place a stands name rest (not_some c.find.result w.in_default-find.not-Some c.find.ensures.none)
     ] in
-    subst (λ (names : Path). IfNone c.least_after-2.result ((b : ℕ) → Follows nodes a (a ++ names) b → ⊥)) (sym c.in-Some.ensures.steps)
+    subst (λ (names : Path). IfNone c.least_after-2.result ((b : ℕ) → ComesAfter nodes a (a ++ names) b → ⊥)) (sym c.in-Some.ensures.steps)
     (none_then c.least_after-2.result c.least_after-2.ensures.none
     (none_first nodes tree place a stands list (listed_in nodes c.args.orders.now c.requires.ordered place) (name ∷ rest) (Some name)
     (apart_name nodes tree place a stands name rest list (listed_in nodes c.args.orders.now c.requires.ordered place) none)))

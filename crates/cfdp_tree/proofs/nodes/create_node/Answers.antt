@@ -2,16 +2,16 @@ use Rattle.std.proofs.Common.{◌≡◌, ◌≢◌, ◌+◌, Some, None, length,
 use Rattle.std.specs.Prelude.{◌==◌, if◌then◌else◌, IfSome}
 use Rattle.cfdp_arena.specs.Arena.{octets_at, octets_of, free_count, with_block}
 use Rattle.cfdp_arena.specs.Blocks.{blank_block}
-use Rattle.cfdp_tree.specs.Block.{Header}
-use Rattle.cfdp_tree.specs.Row.{Row, row_of, name_of, plain_row}
-use Rattle.cfdp_tree.specs.Nodes.{nodes_in}
-use Rattle.cfdp_tree.specs.Runs.{RunsStay}
-use Rattle.cfdp_tree.specs.Tree.{IsNode}
-use Rattle.cfdp_tree.proofs.Counts.{free_count-taken}
-use Rattle.cfdp_tree.proofs.GrowLaws.{no_live, taken_written}
-use Rattle.cfdp_tree.proofs.TreeLaws.{node_live}
-use Rattle.cfdp_tree.proofs.SpareLaws.{runs_stay_taken}
-use Rattle.cfdp_tree.proofs.WriteLaws.{created_octets, created_nodes, home_told}
+use Rattle.cfdp_tree.specs.code.Block.{Header}
+use Rattle.cfdp_tree.specs.code.NodeFields.{NodeFields, node_fields_of, node_name, plain_fields}
+use Rattle.cfdp_tree.specs.code.Nodes.{nodes_in}
+use Rattle.cfdp_tree.specs.code.Runs.{RunsStay}
+use Rattle.cfdp_tree.specs.code.Tree.{IsNode}
+use Rattle.cfdp_tree.proofs.OfRuns.Counts.{free_count-taken}
+use Rattle.cfdp_tree.proofs.OfRuns.GrowLaws.{no_live, taken_written}
+use Rattle.cfdp_tree.proofs.OfNodes.TreeLaws.{node_live}
+use Rattle.cfdp_tree.proofs.OfRuns.SpareLaws.{runs_stay_taken}
+use Rattle.cfdp_tree.proofs.OfNodes.WriteLaws.{created_octets, created_nodes, home_told}
 use Rattle.cfdp_tree.proofs.nodes.create_node.Goals as goal
 
 pub returns-clause-nodes : goal.returns-clause-nodes
@@ -24,23 +24,23 @@ returns-clause-nodes c =
 pub returns-clause-row : goal.returns-clause-row
 returns-clause-row c =
     let a = c.args.arena.now in let t = c.take_block-node in let b = t.result in let new = c.write_node.new.block in
-    ap (λ later. row_of (octets_of (nodes_in later) b)) (taken_written a t.new.arena b blank_block new t.ensures.zeros)
-    ∙ ap row_of (created_octets a b new t.ensures.within (ap (λ (h : Header). h.kind) c.write_node.ensures.header))
+    ap (λ later. node_fields_of (octets_of (nodes_in later) b)) (taken_written a t.new.arena b blank_block new t.ensures.zeros)
+    ∙ ap node_fields_of (created_octets a b new t.ensures.within (ap (λ (h : Header). h.kind) c.write_node.ensures.header))
     ∙ c.write_node.ensures.row
-    ∙ ap (λ parent. plain_row parent c.args.kind c.args.name.now) c.unwrap_or-parent.ensures
+    ∙ ap (λ parent. plain_fields parent c.args.kind c.args.name.now) c.unwrap_or-parent.ensures
 
 pub returns-clause-home : goal.returns-clause-home
 returns-clause-home c =
     let a = c.args.arena.now in let t = c.take_block-node in let b = t.result in let directory = c.args.directory in
     let apart : directory ≢ Some b =
     (λ e. no_live (octets_at a b) t.ensures.was_free (node_live a b (subst (λ d. IfSome d (λ n. IsNode (nodes_in a) n)) e c.requires.directory))) in
-    ap (λ (r : Row). if r.parent == b then None else Some r.parent) (returns-clause-row c) ∙ home_told directory b apart
+    ap (λ (r : NodeFields). if r.parent == b then None else Some r.parent) (returns-clause-row c) ∙ home_told directory b apart
 
 pub returns-clause-name : goal.returns-clause-name
 returns-clause-name c =
     let a = c.args.arena.now in let t = c.take_block-node in let b = t.result in let new = c.write_node.new.block in
-    ap (λ later. name_of (octets_of (nodes_in later) b)) (taken_written a t.new.arena b blank_block new t.ensures.zeros)
-    ∙ ap name_of (created_octets a b new t.ensures.within (ap (λ (h : Header). h.kind) c.write_node.ensures.header))
+    ap (λ later. node_name (octets_of (nodes_in later) b)) (taken_written a t.new.arena b blank_block new t.ensures.zeros)
+    ∙ ap node_name (created_octets a b new t.ensures.within (ap (λ (h : Header). h.kind) c.write_node.ensures.header))
     ∙ c.write_node.ensures.name
 
 pub returns-clause-whole : goal.returns-clause-whole

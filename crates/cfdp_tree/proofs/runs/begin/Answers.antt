@@ -1,11 +1,11 @@
 use Rattle.std.proofs.Common.{Some, ap, ◌∙◌, ◌+◌}
 use Rattle.cfdp_arena.specs.Arena.{free_count}
 use Rattle.cfdp_arena.specs.Blocks.{blank_block}
-use Rattle.cfdp_tree.specs.Block.{Header}
-use Rattle.cfdp_tree.specs.Nodes.{only_node, nodes_in}
-use Rattle.cfdp_tree.proofs.NodeLaws.{kind_only, nodes-kept}
-use Rattle.cfdp_tree.proofs.Counts.{free_count-taken}
-use Rattle.cfdp_tree.proofs.GrowLaws.{taken_written}
+use Rattle.cfdp_tree.specs.code.Block.{Header}
+use Rattle.cfdp_tree.specs.code.Nodes.{only_node, nodes_in}
+use Rattle.cfdp_tree.proofs.OfNodes.NodeLaws.{kind_only, nodes-kept}
+use Rattle.cfdp_tree.proofs.OfRuns.Counts.{free_count-taken}
+use Rattle.cfdp_tree.proofs.OfRuns.GrowLaws.{taken_written}
 use Rattle.cfdp_tree.proofs.runs.begin.Goals as goal
 
 pub returns-clause-taken : goal.returns-clause-taken

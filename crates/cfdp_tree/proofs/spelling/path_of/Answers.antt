@@ -2,9 +2,9 @@ use Rattle.std.proofs.Common.{◌≡◌, ◌-◌, List, ℕ, take, drop, length,
 use Rattle.std.proofs.lemmas.List.{take_all, length-drop}
 use Rattle.cfdp_paths.specs.Paths.{Path, IsPath, names_of}
 use Rattle.cfdp_paths.proofs.Parting.{names_of-parted}
-use Rattle.cfdp_tree.specs.Nodes.{nodes_in}
-use Rattle.cfdp_tree.specs.Tree.{path_of}
-use Rattle.cfdp_tree.proofs.TextLaws.{path_good}
+use Rattle.cfdp_tree.specs.code.Nodes.{nodes_in}
+use Rattle.cfdp_tree.specs.code.Tree.{path_of_node}
+use Rattle.cfdp_tree.proofs.OfNodes.TextLaws.{path_good}
 use Rattle.cfdp_tree.proofs.spelling.path_of.Goals as goal
 
 -- octets up to the end of a buffer
@@ -13,7 +13,7 @@ up_to_end text start = take_all (length text - start) (drop start text) (omega (
 
 pub from_names-requires : goal.from_names-requires
 from_names-requires c =
-    let nodes = nodes_in c.args.arena.now in let path = path_of nodes c.args.node.now in let good =
+    let nodes = nodes_in c.args.arena.now in let path = path_of_node nodes c.args.node.now in let good =
     path_good nodes c.requires.tree c.args.node.now c.requires.node in
     let text = c.write_names-names.new.text in let start = c.write_names-names.result.start in
     let same : names_of (take (length text - start) (drop start text)) ≡ path =
@@ -22,7 +22,7 @@ from_names-requires c =
 
 pub returns : goal.returns
 returns c =
-    let nodes = nodes_in c.args.arena.now in let path = path_of nodes c.args.node.now in let good =
+    let nodes = nodes_in c.args.arena.now in let path = path_of_node nodes c.args.node.now in let good =
     path_good nodes c.requires.tree c.args.node.now c.requires.node in
     let text = c.write_names-names.new.text in let start = c.write_names-names.result.start in
     let same : names_of (take (length text - start) (drop start text)) ≡ path =

@@ -4,14 +4,14 @@ use Rattle.std.specs.Global.{Global}
 use Rattle.cfdp_arena.specs.declared.block_id.BlockId.{BlockId}
 use Rattle.cfdp_order.specs.declared.links.Order.{Order}
 use Rattle.cfdp_order.specs.Orders.{nodes}
-use Rattle.cfdp_tree.specs.Nodes.{nodes_in}
-use Rattle.cfdp_tree.specs.Tree.{IsNode}
-use Rattle.cfdp_tree.specs.Orders.{in_order}
-use Rattle.cfdp_tree.specs.Walk.{walks, walk_from, StandAt}
-use Rattle.cfdp_tree.proofs.OrderLaws.{place_inside}
-use Rattle.cfdp_tree.proofs.WalkLaws.{place_few, place_deep, some_begun, none_begun, one_deeper}
-use Rattle.cfdp_tree.proofs.SurveyLaws.{survey_from}
-use Rattle.cfdp_tree.proofs.SoundLaws.{under_nodes}
+use Rattle.cfdp_tree.specs.code.Nodes.{nodes_in}
+use Rattle.cfdp_tree.specs.code.Tree.{IsNode}
+use Rattle.cfdp_tree.specs.code.Orders.{in_order}
+use Rattle.cfdp_tree.specs.code.Walk.{walks, walk_from, StandAt}
+use Rattle.cfdp_tree.proofs.OfOrders.OrderLaws.{place_inside}
+use Rattle.cfdp_tree.proofs.OfWalks.WalkLaws.{place_few, place_deep, some_begun, none_begun, one_deeper}
+use Rattle.cfdp_tree.proofs.OfWalks.SurveyLaws.{survey_from}
+use Rattle.cfdp_tree.proofs.OfStore.SoundLaws.{under_nodes}
 use Rattle.cfdp_tree.proofs.survey.survey.Goals as goal
 use Rattle.cfdp_tree.proofs.survey.survey.Goals.{in-Some+in_ok-push, in_default}
 

@@ -3,8 +3,8 @@ use Rattle.std.proofs.Math.Seq.{drop-cons}
 use Rattle.std.proofs.lemmas.List.{reverse-append}
 use Rattle.std.specs.Prelude.{reverse}
 use Rattle.cfdp_paths.specs.Paths.{Path}
-use Rattle.cfdp_tree.specs.Nodes.{nodes_in}
-use Rattle.cfdp_tree.specs.Survey.{with_path}
+use Rattle.cfdp_tree.specs.code.Nodes.{nodes_in}
+use Rattle.cfdp_tree.specs.code.Survey.{path_and_node}
 use Rattle.cfdp_tree.proofs.survey.with_paths.Goals as goal
 
 -- one path more, which comes before the others
@@ -23,5 +23,5 @@ loop-made-preserved c =
     let index : length list - 1 - made ≡ length list - (made + 1) = omega arith in
     let path : Path = c.in_ok-path_of.field-0 in
     c.in_ok-push.ensures.items ∙ ap (λ xs. xs ++ (path, b) ∷ []) c.loop-made.invariant
-    ∙ one_more (with_path nodes) list made b b (path, b) (omega (arith, c.loop-made-test.true))
+    ∙ one_more (path_and_node nodes) list made b b (path, b) (omega (arith, c.loop-made-test.true))
     (c.index-nodes-nodes.is ∙ ap (λ k. get_or list k b) index) (ap (λ (p : Path). (p, b)) c.in_ok-path_of.ensures)

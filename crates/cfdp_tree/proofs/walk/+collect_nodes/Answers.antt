@@ -3,9 +3,9 @@ use Rattle.std.proofs.lemmas.List.{append-nil}
 use Rattle.std.specs.Prelude.{OnOk}
 use Rattle.cfdp_order.specs.declared.links.Order.{Order}
 use Rattle.cfdp_order.specs.Orders.{nodes, left_of, IsOrder}
-use Rattle.cfdp_tree.specs.Nodes.{nodes_in}
-use Rattle.cfdp_tree.specs.Walk.{walks_at, StandAt}
-use Rattle.cfdp_tree.proofs.WalkLaws.{filled, read_parts, top_inside, falls_below, no_walk}
+use Rattle.cfdp_tree.specs.code.Nodes.{nodes_in}
+use Rattle.cfdp_tree.specs.code.Walk.{walks_at, StandAt}
+use Rattle.cfdp_tree.proofs.OfWalks.WalkLaws.{filled, read_parts, top_inside, falls_below, no_walk}
 use Rattle.cfdp_tree.proofs.walk.+collect_nodes.Goals as goal
 
 pub returns-then-is_empty : goal.returns-then-is_empty

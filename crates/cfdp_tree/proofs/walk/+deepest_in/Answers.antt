@@ -3,15 +3,15 @@ use Rattle.cfdp_arena.specs.Arena.{Blocks}
 use Rattle.cfdp_order.specs.declared.links.Order.{Order}
 use Rattle.cfdp_tree.specs.declared.orders.Orders.{Orders}
 use Rattle.cfdp_order.specs.Orders.{nodes, left_of, right_of, IsOrder}
-use Rattle.cfdp_tree.specs.Nodes.{nodes_in}
-use Rattle.cfdp_tree.specs.Walk.{walks_at, longest, StandAt}
-use Rattle.cfdp_tree.proofs.WalkLaws.{filled, read_parts, top_inside, falls_below, no_walk}
+use Rattle.cfdp_tree.specs.code.Nodes.{nodes_in}
+use Rattle.cfdp_tree.specs.code.Walk.{walks_at, most_names_in, StandAt}
+use Rattle.cfdp_tree.proofs.OfWalks.WalkLaws.{filled, read_parts, top_inside, falls_below, no_walk}
 use Rattle.cfdp_tree.proofs.walk.+deepest_in.Goals as goal
 use Rattle.cfdp_tree.proofs.walk.+deepest_in.Goals.{then-is_empty-2, else-is_empty-2, then-is_empty-3, else-is_empty-3, then-is_empty-4, else-is_empty-4}
 
 pub returns-then-is_empty-clause-value : goal.returns-then-is_empty-clause-value
 returns-then-is_empty-clause-value t c =
-    ap (longest (nodes_in c.args.arena.now)) (sym (no_walk c.args.orders.now (9 - c.args.depth) c.args.order (c.is_empty.ensures.0 c.if-is_empty.true)))
+    ap (most_names_in (nodes_in c.args.arena.now)) (sym (no_walk c.args.orders.now (9 - c.args.depth) c.args.order (c.is_empty.ensures.0 c.if-is_empty.true)))
 
 pub index-requires : goal.index-requires
 index-requires t c =
@@ -86,15 +86,15 @@ deepest_in-after-requires t c =
 
 -- what a part adds: nothing if it is empty
 abbrev Told : Blocks → Orders → ℕ → Order → ℕ → Type 0
-Told now orders depth part value = (value ≡ longest now (walks_at orders depth (nodes orders.links.items part))) × (value ≤ 8)
+Told now orders depth part value = (value ≡ most_names_in now (walks_at orders depth (nodes orders.links.items part))) × (value ≤ 8)
 
 none_told : (now : Blocks) (orders : Orders) (depth : ℕ) (part : Order) (value : ℕ) → value ≡ 0 → part.height ≡ 0 → Told now orders depth part value
-none_told now orders depth part value zero empty = (zero ∙ ap (longest now) (sym (no_walk orders (9 - depth) part empty)), omega (arith, zero))
+none_told now orders depth part value zero empty = (zero ∙ ap (most_names_in now) (sym (no_walk orders (9 - depth) part empty)), omega (arith, zero))
 
 some_told : (now : Blocks) (orders : Orders) (depth : ℕ) (part other : Order) (value result : ℕ) → value ≡ result → part ≡ other →
     Told now orders depth part result → Told now orders depth other value
 some_told now orders depth part other value result is same told =
-    (is ∙ told.0 ∙ ap (λ (o : Order). longest now (walks_at orders depth (nodes orders.links.items o))) same, omega (arith, is, told.1))
+    (is ∙ told.0 ∙ ap (λ (o : Order). most_names_in now (walks_at orders depth (nodes orders.links.items o))) same, omega (arith, is, told.1))
 
 none_at : (now : Blocks) (orders : Orders) (depth : ℕ) (part other : Order) (value : ℕ) → value ≡ 0 → part ≡ other → part.height ≡ 0 →
     Told now orders depth other value

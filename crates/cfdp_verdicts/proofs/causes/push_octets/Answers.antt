@@ -1,5 +1,5 @@
 use Rattle.std.specs.Prelude.{codes}
-use Rattle.cfdp_verdicts.specs.Words.{octets_not_allowed, told_of}
+use Rattle.cfdp_verdicts.specs.Words.{octets_not_allowed, said_of_name}
 use Rattle.cfdp_verdicts.proofs.Texts.{three}
 use Rattle.cfdp_verdicts.proofs.causes.push_octets.Goals as goal
 
@@ -7,5 +7,6 @@ pub returns : goal.returns
 unfolding octets_not_allowed
 returns c =
     three c.push_said-3.result c.args.text.now.items c.push_said.new.text.items c.push_said-2.new.text.items c.push_said-3.new.text.items
-    (told_of c.args.first.now (codes " or ")) (told_of c.args.second.now (codes " is a directory, or ")) (told_of c.args.first.now (codes " is protected"))
+    (said_of_name c.args.first.now (codes " or ")) (said_of_name c.args.second.now (codes " is a directory, or "))
+    (said_of_name c.args.first.now (codes " is protected"))
     c.in_ok-push_said.ensures c.in_ok-push_said-2.ensures c.push_said-3.ensures

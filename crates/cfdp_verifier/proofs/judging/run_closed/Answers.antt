@@ -6,8 +6,8 @@ use Rattle.cfdp_leases.specs.Items.{items_of}
 use Rattle.cfdp_states.specs.Alone.{alone}
 use Rattle.cfdp_states.specs.Views.{Sketch, only}
 use Rattle.cfdp_states.specs.Closed.{IsPartViewOf}
-use Rattle.cfdp_verifier.specs.Judging.{JudgesAlone}
-use Rattle.cfdp_verifier.specs.ClosedJudging.{TellsClosedRun}
+use Rattle.cfdp_verifier.specs.code.Judging.{JudgesAlone}
+use Rattle.cfdp_verifier.specs.code.ClosedJudging.{TellsClosedRun}
 use Rattle.cfdp_verifier.proofs.Running.{some_of}
 use Rattle.cfdp_verifier.proofs.Judged.{AtRequests, runs_at, refused_at_closed, file_at_closed, no_file_at, all_done, one_failed}
 use Rattle.cfdp_verifier.proofs.judging.run_closed.Goals as goal
@@ -26,7 +26,8 @@ returns-in-Some-false g c =
     let G = alone (only fp F) [] in
     let seen : IsPartViewOf c.args.known v.view v.closed.items G (blocks G) (blocks G) 0 =
     some_of (λ it. IsPartViewOf c.args.known it.view it.closed.items G (blocks G) (blocks G) 0) c.in_ok-made.made v c.in-Some.is c.in_ok-made.ensures.told in
-    refused_at_closed c.args.known prefixes F bound d requests fp v.view c.install.new.self.view v.closed.items same seen c.in-Some-destination.path c.in-Some-false.field-0
+    refused_at_closed c.args.known prefixes F bound d requests fp v.view c.install.new.self.view v.closed.items same seen c.in-Some-destination.path
+    c.in-Some-false.field-0
     c.in_ok-install.field-0
     c.in-Some-false.is c.in_ok-install.ensures.part c.in-Some-destination.is c.requires.footprint c.in-Some-false.field-0-test
 
@@ -48,8 +49,10 @@ returns-in_err-run_requests_closed g c =
       | in-Some-destination+in_ok-install+in-Some-true w ↦ rw w.view-is (w.in_ok-install.ensures.prefixes ∙ same)
       | in_default-destination w ↦ rw w.view-is same
     ] in
-    let at : AtRequests prefixes F (replicate bound 0) (items_of d requests) requests (IsPartViewOf c.args.known u.view u.closed.items) = elim c.match-items.branch [
-      | in-Some-destination+in_ok-install+in-Some-true w ↦ rw w.view-is (file_at_closed c.args.known prefixes F bound d requests fp v.view w.install.new.self.view
+    let at : AtRequests prefixes F (replicate bound 0) (items_of d requests) requests (IsPartViewOf c.args.known u.view u.closed.items) =
+    elim c.match-items.branch [
+      | in-Some-destination+in_ok-install+in-Some-true w ↦ rw w.view-is
+          (file_at_closed c.args.known prefixes F bound d requests fp v.view w.install.new.self.view
           v.closed.items same seen
           w.in-Some-destination.path w.in-Some-true.field-0 w.in_ok-install.field-0 w.in-Some-true.is w.in_ok-install.ensures.part
           w.install.new.self.closed.items w.in_ok-install.ensures.closed
@@ -60,7 +63,8 @@ returns-in_err-run_requests_closed g c =
     let n = c.run_requests_closed.new.view in
     let p = err_from_is_err_and c.from_residual-in_err-run_requests_closed.result c.from_residual-in_err-run_requests_closed.ensures.1 in
     let fault = c.in_err-run_requests_closed.field-0.0 in
-    rw (p.1, p.2) (one_failed prefixes F (replicate bound 0) (items_of d requests) requests (IsPartViewOf c.args.known u.view u.closed.items) n.view at Bool fault
+    rw (p.1, p.2) (one_failed prefixes F (replicate bound 0) (items_of d requests) requests
+    (IsPartViewOf c.args.known u.view u.closed.items) n.view at Bool fault
     (runs_at {X = Bool} (IsPartViewOf c.args.known u.view u.closed.items) prefixes u.view n.view (map Perform requests) (Err fault) still
     (rw c.deref.ensures.value at c.in_err-run_requests_closed.ensures)))
 
@@ -82,8 +86,10 @@ returns g c =
       | in-Some-destination+in_ok-install+in-Some-true w ↦ rw w.view-is (w.in_ok-install.ensures.prefixes ∙ same)
       | in_default-destination w ↦ rw w.view-is same
     ] in
-    let at : AtRequests prefixes F (replicate bound 0) (items_of d requests) requests (IsPartViewOf c.args.known u.view u.closed.items) = elim c.match-items.branch [
-      | in-Some-destination+in_ok-install+in-Some-true w ↦ rw w.view-is (file_at_closed c.args.known prefixes F bound d requests fp v.view w.install.new.self.view
+    let at : AtRequests prefixes F (replicate bound 0) (items_of d requests) requests (IsPartViewOf c.args.known u.view u.closed.items) =
+    elim c.match-items.branch [
+      | in-Some-destination+in_ok-install+in-Some-true w ↦ rw w.view-is
+          (file_at_closed c.args.known prefixes F bound d requests fp v.view w.install.new.self.view
           v.closed.items same seen
           w.in-Some-destination.path w.in-Some-true.field-0 w.in_ok-install.field-0 w.in-Some-true.is w.in_ok-install.ensures.part
           w.install.new.self.closed.items w.in_ok-install.ensures.closed

@@ -12,7 +12,8 @@ returns-then-not-is_successful c =
     let w = c.apply_closed.new.view in
     let request = c.index-requests-number.result in
     let told : TellsPart c.args.known v.view v.closed.items w.view w.closed.items (Perform request) (Performed c.in-Some.status) =
-    some_of (λ status. TellsPart c.args.known v.view v.closed.items w.view w.closed.items (Perform request) (Performed status)) c.in_ok-status.field-0 c.in-Some.status
+    some_of (λ status. TellsPart c.args.known v.view v.closed.items w.view w.closed.items (Perform request)
+    (Performed status)) c.in_ok-status.field-0 c.in-Some.status
     c.in-Some.is c.in_ok-status.ensures.told in
     λ F start high taken seen within. (
       c.loop-number.number,
@@ -33,7 +34,8 @@ loop-number-preserved c =
     let w = c.apply_closed.new.view in
     let request = c.index-requests-number.result in
     let told : TellsPart c.args.known v.view v.closed.items w.view w.closed.items (Perform request) (Performed c.in-Some.status) =
-    some_of (λ status. TellsPart c.args.known v.view v.closed.items w.view w.closed.items (Perform request) (Performed status)) c.in_ok-status.field-0 c.in-Some.status
+    some_of (λ status. TellsPart c.args.known v.view v.closed.items w.view w.closed.items (Perform request)
+    (Performed status)) c.in_ok-status.field-0 c.in-Some.status
     c.in-Some.is c.in_ok-status.ensures.told in (
       c.in_ok-status.ensures.prefixes ∙ c.loop-number.invariant.0,
       λ F start high taken seen within.

@@ -4,7 +4,7 @@ use Rattle.cfdp_quota.specs.Budget.{spare}
 use Rattle.cfdp_leases.specs.Footprint.{footprint_of}
 use Rattle.cfdp_leases.specs.Items.{items_of}
 use Rattle.cfdp_verifier.specs.Verdict.{Verdict, judged_apart}
-use Rattle.cfdp_verifier.specs.Judging.{RefusesSo}
+use Rattle.cfdp_verifier.specs.code.Judging.{RefusesSo}
 use Rattle.cfdp_verifier.proofs.Tested.{past_tests}
 use Rattle.cfdp_verifier.proofs.verifying.find_grant.Goals as goal
 

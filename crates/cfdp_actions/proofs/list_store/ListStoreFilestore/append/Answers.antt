@@ -1,8 +1,8 @@
 use Rattle.std.proofs.Common.{◌≡◌, ◌+◌, ◌-◌, ◌++◌, ◌≤◌, Option, length, length-append, sym, ap, ◌∙◌, arith}
 use Rattle.std.specs.FinMap.{put}
 use Rattle.cfdp_paths.specs.Paths.{path_cmp}
-use Rattle.cfdp_actions.specs.Filestore.{Node, File, blocks_of, octets_in, octets_at}
-use Rattle.cfdp_actions.specs.Listed.{shown, found}
+use Rattle.cfdp_actions.specs.Filestore.{Node, File, blocks_of, octets_in, file_octets_at}
+use Rattle.cfdp_actions.specs.code.Listed.{shown_entries, entry_found}
 use Rattle.cfdp_actions.proofs.RowLaws.{blocks_of-mono, blocks_of-twice}
 use Rattle.cfdp_actions.proofs.StoreLaws.{seen_node, seen_put, seen_free, seen_file, put_kept, octets_small, few_used, weight_there}
 use Rattle.cfdp_actions.proofs.list_store.ListStoreFilestore.append.Goals as goal
@@ -66,11 +66,11 @@ invariant_of-self-2 c =
     let p = c.args.first.now in
     let q = c.args.second.now in
     let es = c.self.inside.entries in
-    let front = octets_in (found es p) in
-    let back = octets_in (found es q) in
+    let front = octets_in (entry_found es p) in
+    let back = octets_in (entry_found es q) in
     let first = ap (λ (o : Option Node). length (octets_in o)) (seen_node _ _ _ _ c.self.invariant _ c.self.view_is p) in
     let second = ap (λ (o : Option Node). length (octets_in o)) (seen_node _ _ _ _ c.self.invariant _ c.self.view_is q) in
-    let both : length (octets_at c.args.self.now.filestore p) + length (octets_at c.args.self.now.filestore q) ≡ length front + length back =
+    let both : length (file_octets_at c.args.self.now.filestore p) + length (file_octets_at c.args.self.now.filestore q) ≡ length front + length back =
     omega (arith, first, second) in
     let grown = c.blocks_of.ensures ∙ ap blocks_of c.in_ok-from.ensures.to in
     let old = c.blocks_of-2.ensures ∙ ap blocks_of c.in_ok-from.ensures.from in
@@ -86,8 +86,8 @@ returns-clause-ticks c =
     let q = c.args.second.now in
     let first = ap (λ (o : Option Node). length (octets_in o)) (seen_node _ _ _ _ c.self.invariant _ c.self.view_is p) in
     let second = ap (λ (o : Option Node). length (octets_in o)) (seen_node _ _ _ _ c.self.invariant _ c.self.view_is q) in
-    let n = length (octets_at c.args.self.now.filestore p) in
-    let m = length (octets_at c.args.self.now.filestore q) in
+    let n = length (file_octets_at c.args.self.now.filestore p) in
+    let m = length (file_octets_at c.args.self.now.filestore q) in
     let from : c.in_ok-from.field-0.from ≡ n = omega (arith, first, c.in_ok-from.ensures.from) in
     let to : c.in_ok-from.field-0.to ≡ n + m = omega (arith, first, second, c.in_ok-from.ensures.to) in
     let added : c.in_ok-from.field-0.to - c.in_ok-from.field-0.from ≡ m = omega (arith, from, to) in
@@ -100,5 +100,6 @@ returns-clause-appended c =
     let es = c.self.inside.entries in
     let first = ap octets_in (sym (seen_node _ _ _ _ c.self.invariant _ c.self.view_is p)) in
     let second = ap octets_in (sym (seen_node _ _ _ _ c.self.invariant _ c.self.view_is q)) in
-    let both = ap (λ xs. xs ++ octets_in (found es q)) first ∙ ap (λ xs. octets_at c.args.self.now.filestore p ++ xs) second in
-    seen_put _ _ _ _ c.self.invariant _ c.self.view_is c.append.new.entries p _ (c.in_ok-from.ensures.ok ∙ ap (λ xs. put path_cmp p (File xs) (shown es)) both)
+    let both = ap (λ xs. xs ++ octets_in (entry_found es q)) first ∙ ap (λ xs. file_octets_at c.args.self.now.filestore p ++ xs) second in
+    seen_put _ _ _ _ c.self.invariant _ c.self.view_is c.append.new.entries p _ (c.in_ok-from.ensures.ok ∙ ap
+    (λ xs. put path_cmp p (File xs) (shown_entries es)) both)

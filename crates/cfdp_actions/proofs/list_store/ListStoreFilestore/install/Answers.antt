@@ -3,7 +3,8 @@ use Rattle.std.specs.FinMap.{put}
 use Rattle.cfdp_paths.specs.Paths.{path_cmp}
 use Rattle.cfdp_actions.specs.Filestore.{Node, File, weight, blocks_of, octets_in, Becomes, Stages}
 use Rattle.cfdp_actions.specs.Store.{with_changes}
-use Rattle.cfdp_actions.specs.Listed.{shown, octets_of}
+use Rattle.cfdp_actions.specs.Listed.{vector_octets}
+use Rattle.cfdp_actions.specs.code.Listed.{shown_entries}
 use Rattle.cfdp_actions.specs.declared.content.Content.TheVariants as content
 use Rattle.cfdp_actions.proofs.ShownLaws.{found_some, found_absent, shown_put, shown_twice, put_stands}
 use Rattle.cfdp_actions.proofs.StoreLaws.{seen_node, seen_staged, seen_free, octets_small, found_small, weight_unless, installed_store, installed_kept}
@@ -33,7 +34,7 @@ invariant_of-self c =
     let es = c.self.inside.entries in
     let here = found_some c.args.path.now c.self.inside.entries c.exchange-old.result (sym c.exchange-old.ensures.old) in
     let given = c.blocks_of-given.ensures ∙ ap (λ (xs : List ℕ). blocks_of (length xs)) (c.octets.ensures ∙ ap octets_in (sym here)) in
-    let file = ap shown c.exchange-old.ensures.put ∙ shown_put p (content.File c.take_list-octets.result) es in
+    let file = ap shown_entries c.exchange-old.ensures.put ∙ shown_put p (content.File c.take_list-octets.result) es in
     installed_kept _ _ _ _ c.self.invariant _ c.self.view_is c.exchange-old.new.self c.take_list-octets.new.staged.items c.from-slot.result p
     c.take_list-octets.result.items c.take_list-octets.ensures.emptied c.take_list-octets.ensures.slots
     (omega (arith, c.from-slot.ensures, c.requires.slot)) file (c.self.inside.used - c.blocks_of-given.result) c.take_list-octets.ensures.list
@@ -51,13 +52,13 @@ returns-then-is_some-clause-ticks c =
 pub returns-then-is_some-clause-installed : goal.returns-then-is_some-clause-installed
 returns-then-is_some-clause-installed c =
     let p = c.args.path.now in
-    let file = ap shown c.exchange-old.ensures.put ∙ shown_put p (content.File c.take_list-octets.result) c.self.inside.entries in
+    let file = ap shown_entries c.exchange-old.ensures.put ∙ shown_put p (content.File c.take_list-octets.result) c.self.inside.entries in
     installed_store _ _ _ _ c.self.invariant _ c.self.view_is c.exchange-old.new.self c.take_list-octets.new.staged.items c.from-slot.result p
     c.take_list-octets.result.items c.take_list-octets.ensures.emptied c.take_list-octets.ensures.slots
     (omega (arith, c.from-slot.ensures, c.requires.slot)) file
     ∙ ap (λ k. with_changes c.args.self.now (Stages k [] ∷ Becomes p (Some (File c.take_list-octets.result.items)) ∷ [])) c.from-slot.ensures
     ∙ ap (λ xs. with_changes c.args.self.now (Stages c.args.slot [] ∷ Becomes p (Some (File xs)) ∷ []))
-    (c.take_list-octets.ensures.list ∙ ap (λ k. get_or (octets_of c.self.inside.staged.items) k []) c.from-slot.ensures
+    (c.take_list-octets.ensures.list ∙ ap (λ k. get_or (vector_octets c.self.inside.staged.items) k []) c.from-slot.ensures
     ∙ sym (seen_staged _ _ _ _ c.self.invariant _ c.self.view_is c.args.slot))
 
 -- ---- where nothing exists
@@ -101,5 +102,5 @@ returns-clause-installed c =
     (omega (arith, c.from-slot.ensures, c.requires.slot)) file
     ∙ ap (λ k. with_changes c.args.self.now (Stages k [] ∷ Becomes p (Some (File c.take_list-octets-2.result.items)) ∷ [])) c.from-slot.ensures
     ∙ ap (λ xs. with_changes c.args.self.now (Stages c.args.slot [] ∷ Becomes p (Some (File xs)) ∷ []))
-    (c.take_list-octets-2.ensures.list ∙ ap (λ k. get_or (octets_of c.self.inside.staged.items) k []) c.from-slot.ensures
+    (c.take_list-octets-2.ensures.list ∙ ap (λ k. get_or (vector_octets c.self.inside.staged.items) k []) c.from-slot.ensures
     ∙ sym (seen_staged _ _ _ _ c.self.invariant _ c.self.view_is c.args.slot))

@@ -1,6 +1,6 @@
 use Rattle.std.proofs.Common.{is_some, sym, ap, ◌∙◌, ◌-◌, arith}
 use Rattle.cfdp_actions.specs.Filestore.{weight}
-use Rattle.cfdp_actions.specs.Listed.{shown}
+use Rattle.cfdp_actions.specs.code.Listed.{shown_entries}
 use Rattle.cfdp_actions.proofs.ShownLaws.{found_some, shown_without, stands}
 use Rattle.cfdp_actions.proofs.StoreLaws.{seen_node, seen_gone, gone_kept, found_small, few_used}
 use Rattle.cfdp_actions.proofs.list_store.ListStoreFilestore.remove.Goals as goal
@@ -23,7 +23,7 @@ overflow_sub-self c =
 pub invariant_of-self : goal.invariant_of-self
 invariant_of-self c =
     let here = found_some c.args.path.now c.self.inside.entries c.unwrap-removed.result (sym c.unwrap-removed.ensures ∙ c.remove.ensures.value) in
-    let gone = ap shown c.remove.ensures.removed ∙ shown_without c.args.path.now c.self.inside.entries in
+    let gone = ap shown_entries c.remove.ensures.removed ∙ shown_without c.args.path.now c.self.inside.entries in
     gone_kept _ _ _ _ c.self.invariant c.remove.new.self c.args.path.now (c.self.inside.used - c.blocks-blocks.result) gone
     (omega (arith, found_small _ _ _ _ c.self.invariant c.args.path.now, ap weight here, c.blocks-blocks.ensures))
 
@@ -34,5 +34,5 @@ returns-clause-ticks c =
 
 pub returns-clause-gone : goal.returns-clause-gone
 returns-clause-gone c =
-    seen_gone _ _ _ _ c.self.invariant _ c.self.view_is c.remove.new.self c.args.path.now (ap shown c.remove.ensures.removed
+    seen_gone _ _ _ _ c.self.invariant _ c.self.view_is c.remove.new.self c.args.path.now (ap shown_entries c.remove.ensures.removed
     ∙ shown_without c.args.path.now c.self.inside.entries)

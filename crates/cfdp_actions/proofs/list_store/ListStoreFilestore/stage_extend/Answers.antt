@@ -2,7 +2,7 @@ use Rattle.std.proofs.Common.{◌≡◌, ◌+◌, ◌-◌, ◌<◌, ℕ, List, [
 use Rattle.std.proofs.lemmas.List.{length-replicate}
 use Rattle.cfdp_actions.specs.Filestore.{blocks_of}
 use Rattle.cfdp_actions.specs.Store.{extended}
-use Rattle.cfdp_actions.specs.Listed.{octets_of}
+use Rattle.cfdp_actions.specs.Listed.{vector_octets}
 use Rattle.cfdp_actions.proofs.RowLaws.{blocks_of-mono}
 use Rattle.cfdp_actions.proofs.SurveyLaws.{blocks_of-bound}
 use Rattle.cfdp_actions.proofs.StagedLaws.{octets_of-at}
@@ -24,7 +24,7 @@ blocks_of-old-requires c =
 pub blocks_of-requires : goal.blocks_of-requires
 blocks_of-requires c =
     let list = seen_staged _ _ _ _ c.self.invariant _ c.self.view_is c.args.slot in
-    let each = lists-each (octets_of c.self.inside.staged.items) c.args.slot in
+    let each = lists-each (vector_octets c.self.inside.staged.items) c.args.slot in
     let few = blocks_of-bound c.args.size (omega (
       arith,
       c.requires.room,
@@ -40,7 +40,7 @@ overflow_sub-ticks c =
     let v = c.index.result.now in
     let here : c.from-slot.result < length c.self.inside.staged.items = omega (arith, c.from-slot.ensures, c.requires.slot, c.self.invariant.slots) in
     let list = ap (λ (xs : List ℕ). length xs) (seen_staged _ _ _ _ c.self.invariant _ c.self.view_is c.args.slot
-    ∙ ap (λ k. get_or (octets_of c.self.inside.staged.items) k []) (sym c.from-slot.ensures)
+    ∙ ap (λ k. get_or (vector_octets c.self.inside.staged.items) k []) (sym c.from-slot.ensures)
     ∙ octets_of-at c.self.inside.staged.items c.from-slot.result v here c.index.ensures) in
     omega (
       arith,
@@ -56,9 +56,9 @@ invariant_of-self-2 c =
     let staged = c.self.inside.staged.items in
     let v = c.index.result.now in
     let here : slot < length staged = omega (arith, c.from-slot.ensures, c.requires.slot, c.self.invariant.slots) in
-    let old = get_or (octets_of staged) slot [] in
+    let old = get_or (vector_octets staged) slot [] in
     let list = ap (λ (xs : List ℕ). length xs) (seen_staged _ _ _ _ c.self.invariant _ c.self.view_is c.args.slot
-    ∙ ap (λ k. get_or (octets_of staged) k []) (sym c.from-slot.ensures)) in
+    ∙ ap (λ k. get_or (vector_octets staged) k []) (sym c.from-slot.ensures)) in
     let before : c.len.result ≡ length old = omega (
       arith,
       c.len.ensures,

@@ -1,6 +1,6 @@
 use Rattle.std.proofs.Common.{◌≡◌, ◌-◌, ℕ, List, [], length, get_or, ap, ◌∙◌, arith}
 use Rattle.cfdp_actions.specs.Filestore.{blocks_of}
-use Rattle.cfdp_actions.specs.Listed.{octets_of}
+use Rattle.cfdp_actions.specs.Listed.{vector_octets}
 use Rattle.cfdp_actions.proofs.StoreLaws.{staged_small, staged_kept, list_small, no_blocks}
 use Rattle.cfdp_actions.proofs.list_store.ListStoreFilestore.unstage.Goals as goal
 
@@ -16,7 +16,7 @@ blocks_of-given-requires c =
 
 pub invariant_of-self : goal.invariant_of-self
 invariant_of-self c =
-    let list = get_or (octets_of c.self.inside.staged.items) c.from.result [] in
+    let list = get_or (vector_octets c.self.inside.staged.items) c.from.result [] in
     let long : c.len.result ≡ length list = omega (
       arith,
       c.len.ensures,

@@ -1,7 +1,7 @@
 use Rattle.std.proofs.Common.{◌≡◌, ℕ, ◌<◌, ◌≤◌, Bool, false, ◌==◌, List, [], ◌∷◌, ◌++◌, Option, Some, None, refl, ap, ◌∙◌, arith, length-append}
 use Rattle.std.proofs.lemmas.Bool.Decides.{nat_tests}
 use Rattle.cfdp_paths.specs.Paths.{Path}
-use Rattle.cfdp_actions.specs.Prefixes.{present}
+use Rattle.cfdp_actions.specs.code.Prefixes.{present}
 use Rattle.cfdp_actions.proofs.protected.Protected.add.Goals as goal
 
 present-push : (places : List (Option Path)) (path : Path) → present (places ++ Some path ∷ []) ≡ present places ++ path ∷ []

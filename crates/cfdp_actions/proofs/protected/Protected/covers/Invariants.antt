@@ -1,7 +1,7 @@
 use Rattle.std.proofs.Common.{◌≡◌, drop}
 use Rattle.std.specs.List.{list_any}
 use Rattle.cfdp_paths.specs.Paths.{is_at_or_below}
-use Rattle.cfdp_actions.specs.Prefixes.{present}
+use Rattle.cfdp_actions.specs.code.Prefixes.{present}
 use Rattle.cfdp_actions.proofs.protected.Protected.covers.Given as goal
 
 -- no prefix that was passed covers the path

@@ -2,7 +2,7 @@ use Rattle.std.proofs.Common.{◌≡◌, [], get_or, sym, ap, ◌∙◌, subst}
 use Rattle.std.specs.Prelude.{unwrap_or}
 use Rattle.cfdp_arena.specs.Blocks.{copied}
 use Rattle.cfdp_arena.specs.Arena.{octets_of, with_block}
-use Rattle.cfdp_arena.specs.FreeList.{IsArena, whole_view}
+use Rattle.cfdp_arena.specs.code.FreeList.{IsArena, whole_view}
 use Rattle.cfdp_arena.proofs.Made.{within, octets, wrote, wrote_arena}
 use Rattle.cfdp_arena.proofs.arena.Arena.copy_payload.Goals as goal
 

@@ -1,5 +1,5 @@
 use Rattle.std.proofs.Common.{◌+◌, ◌<◌, sym, ap, ◌∙◌, subst, arith, set}
-use Rattle.cfdp_arena.specs.FreeList.{IsArena, whole_view}
+use Rattle.cfdp_arena.specs.code.FreeList.{IsArena, whole_view}
 use Rattle.cfdp_arena.proofs.Made.{within, last_live, all_room, gave_all, gave_all_arena}
 use Rattle.cfdp_arena.proofs.arena.Arena.give_chain.Goals as goal
 

@@ -1,7 +1,8 @@
 use Rattle.std.proofs.Common.{◌≡◌, ◌+◌, ◌-◌, ◌<◌, suc, refl, sym, ap, ◌∙◌, subst, arith}
 use Rattle.cfdp_arena.specs.Arena.{octets_at, with_block}
 use Rattle.cfdp_arena.specs.Blocks.{blank_block}
-use Rattle.cfdp_arena.specs.FreeList.{link, whole_view, IsArena}
+use Rattle.cfdp_arena.specs.FreeList.{link}
+use Rattle.cfdp_arena.specs.code.FreeList.{whole_view, IsArena}
 use Rattle.cfdp_arena.proofs.Made.{length-value, free-value, first_within, first_free, took, took_arena, next_free, made_arena, made_view}
 use Rattle.cfdp_arena.proofs.arena.Arena.take.Goals as goal
 

@@ -5,7 +5,8 @@ use types.Part.{rep}
 use Rattle.std.proofs.Common.{length-append}
 use Rattle.core.proofs.mem.Facts.{says_two}
 use Rattle.cfdp_arena.specs.Blocks.{blank_block}
-use Rattle.cfdp_arena.specs.Ownership.{Block, block_type, blocks_own, region_owns}
+use Rattle.cfdp_arena.specs.Ownership.{Block}
+use Rattle.cfdp_arena.specs.code.Ownership.{block_type, blocks_own, region_owns}
 use Rattle.cfdp_arena.specs.contracts.region.Region as C
 use Rattle.cfdp_arena.specs.contracts.region.Region.append_blank as f
 use Rattle.cfdp_arena.proofs.Rows.{Fields, fields_told, row_append, blank_typed, blank_in}

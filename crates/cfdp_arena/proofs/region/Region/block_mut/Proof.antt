@@ -4,8 +4,9 @@ use denote.Follow.{follows, Part, lends_Part}
 use denote.Index.{others}
 use denote.Signature.{mut_ref_to}
 use Rattle.core.proofs.mem.Facts.{says_two}
-use Rattle.cfdp_arena.specs.Ownership.{Block, blocks_own, rest_own, region_owns}
-use Rattle.cfdp_arena.specs.Region.{with_octets}
+use Rattle.cfdp_arena.specs.Ownership.{Block}
+use Rattle.cfdp_arena.specs.code.Ownership.{blocks_own, rest_own, region_owns}
+use Rattle.cfdp_arena.specs.code.Region.{with_block_octets}
 use Rattle.cfdp_arena.specs.contracts.region.Region as C
 use Rattle.cfdp_arena.specs.contracts.region.Region.block_mut as f
 use Rattle.cfdp_arena.proofs.Rows.{Fields, fields_told, block_out, block_in, block_whole, closed}
@@ -23,7 +24,7 @@ block_mut_spec 𝓤 𝓛 𝓜 𝓡 wired =
     (λ κs. (mut_vals, (uint_vals w64, tt))) (λ κs. (mut_Tells (named 0) κs.0 R, (uint_Tells w64, tt))) (λ κs qs bounds a _ are.
     let κ = κs.0 in let q = qs.0 in let b = a.0.ref_ptr.0 in let o = a.0.ref_ptr.1 in let γ = a.0.ghost_name in let d = a.0.now in let i = a.1.0 in let x =
     get_or d.blocks i [] in
-    let y : W.Ghost = ((κs, qs, bounds, a, (vptr b o ∷ [], (vint w64 i ∷ [], tt))), tt) in let new = with_octets d i in
+    let y : W.Ghost = ((κs, qs, bounds, a, (vptr b o ∷ [], (vint w64 i ∷ [], tt))), tt) in let new = with_block_octets d i in
     qed 𝓛 (((‵ (flft κ q) ⊛ ‵ ftrue) ⊛ ‵ (owns (types_at f.ended.signature.params κs) a y.0.4)) ∷ raw (fact 𝓤 (i < length d.blocks)) ∷ []) ∵
     move ! (1 ∷ []) $ heard ! _ (λ within. split ! $ split ! $ move ! (2 ∷ []) $ fsplit ! $ fsplit3 ! $ keep ! (1 ∷ 2 ∷ 4 ∷ []) $
     enter ! _ _ _ _ _ $ alloc_all ! (λ l. pass_all ! refl ((tt, tt), ((tt, record { fits = are.1.0.1 }), tt)) $

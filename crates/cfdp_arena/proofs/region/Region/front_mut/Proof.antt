@@ -11,8 +11,9 @@ use denote.Follow.{follows}
 use denote.FollowSlice.{Elements, lends_Elements}
 use denote.Signature.{mut_ref_to}
 use Rattle.core.proofs.mem.Facts.{says_two}
-use Rattle.cfdp_arena.specs.Ownership.{Block, blocks_own, rest_own, region_owns}
-use Rattle.cfdp_arena.specs.Region.{with_front}
+use Rattle.cfdp_arena.specs.Ownership.{Block}
+use Rattle.cfdp_arena.specs.code.Ownership.{blocks_own, rest_own, region_owns}
+use Rattle.cfdp_arena.specs.code.Region.{with_front}
 use Rattle.cfdp_arena.specs.contracts.region.Region as C
 use Rattle.cfdp_arena.specs.contracts.region.Region.front_mut as f
 use Rattle.cfdp_arena.proofs.Rows.{Fields, fields_told, front_out, front_in, closed}

@@ -9,7 +9,7 @@ use denote.Triple.Table.{framed}
 use Rattle.core.proofs.alloc.Calls.{Goes-blank}
 use Rattle.std_heap.specs.contracts.Global as HP
 use Rattle.std_heap.proofs.GlobalAllocator.deallocate.Met.{met}
-use Rattle.cfdp_arena.specs.Ownership.{region_owns}
+use Rattle.cfdp_arena.specs.code.Ownership.{region_owns}
 use Rattle.cfdp_arena.specs.contracts.region.Region as C
 use Rattle.cfdp_arena.specs.contracts.region.Region.release as f
 use Rattle.cfdp_arena.proofs.Heap.{region_type, region_size, Gives, at_gives, gives_goes, gives_gives}

@@ -22,7 +22,7 @@ use Rattle.std_alloc.proofs.ResultValues.{ok_of, err_of}
 use Rattle.std_alloc.proofs.VecSteps.Shapes.{head, arm_body}
 use Rattle.std_heap.specs.contracts.Global as HP
 use Rattle.std_heap.proofs.GlobalAllocator.allocate.Met.{met}
-use Rattle.cfdp_arena.specs.Ownership.{block_type}
+use Rattle.cfdp_arena.specs.code.Ownership.{block_type}
 use Rattle.cfdp_arena.specs.contracts.region.Region as C
 use Rattle.cfdp_arena.specs.contracts.region.Region.reserve as f
 use Rattle.cfdp_arena.proofs.Heap.{region_type, region_size, Takes, at_takes, takes_goes, takes_gives, Answered, answers}

@@ -1,5 +1,5 @@
 use Rattle.std.proofs.Common.{◌≡◌, ◌∙◌, ap}
-use Rattle.cfdp_draw.specs.Collecting.{next_of}
+use Rattle.cfdp_draw.specs.code.Collecting.{next_of}
 use Rattle.cfdp_draw.specs.declared.chart.Chart.{Chart}
 use Rattle.cfdp_draw.specs.declared.chart.Mark.{Mark}
 use Rattle.cfdp_draw.proofs.Gaining.{gained, one_more, this_moment}

@@ -1,5 +1,5 @@
 use Rattle.std.proofs.Common.{◌∙◌}
-use Rattle.cfdp_transactions.proofs.Fitting.{writable_after, fits_reply}
+use Rattle.cfdp_transactions.proofs.Promises.Fitting.{writable_after, fits_reply}
 use Rattle.cfdp_entity.proofs.entity.Entity.apply.Goals as goal
 
 pub invariant_of-self-inside : goal.invariant_of-self-inside

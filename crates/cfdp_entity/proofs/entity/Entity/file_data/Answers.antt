@@ -1,6 +1,6 @@
 use Rattle.std.proofs.Common.{◌∙◌}
 use Rattle.cfdp_transactions.specs.declared.event.Event.TheVariants.{Data}
-use Rattle.cfdp_transactions.proofs.Fitting.{writable_after}
+use Rattle.cfdp_transactions.proofs.Promises.Fitting.{writable_after}
 use Rattle.cfdp_entity.proofs.entity.Entity.file_data.Goals as goal
 
 pub invariant_of-self-inside : goal.invariant_of-self-inside

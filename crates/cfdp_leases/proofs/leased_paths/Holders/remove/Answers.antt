@@ -1,7 +1,7 @@
 use Rattle.std.proofs.Common.{rules, ap, ◌∙◌, not, arith}
 use Rattle.std.proofs.lemmas.Fn.{filter_same}
 use Rattle.cfdp_leases.specs.Leases.{is_same}
-use Rattle.cfdp_leases.specs.Holders.{holders_in, others, unless_none}
+use Rattle.cfdp_leases.specs.code.Holders.{holders_in, others, unless_none}
 use Rattle.cfdp_leases.proofs.Held.{row_left}
 use Rattle.cfdp_leases.proofs.leased_paths.Holders.remove.Goals as goal
 

@@ -5,7 +5,7 @@ use Rattle.std.proofs.lemmas.Result.{on_ok_weaker, on_err_weaker}
 use Rattle.cfdp_paths.specs.Paths.{same_path}
 use Rattle.cfdp_paths.proofs.Comparing.{same_path-Decides}
 use Rattle.cfdp_leases.specs.declared.leased_paths.LeasedPaths.{LeasedPaths}
-use Rattle.cfdp_leases.specs.Holders.{Holds, when, unless_none}
+use Rattle.cfdp_leases.specs.code.Holders.{Holds, when, unless_none}
 use Rattle.cfdp_leases.proofs.Held.{holds_kept, holds_unwritten, some_pushed, under_is, under_there, under_written, when_here, when_not}
 use Rattle.cfdp_leases.proofs.leased_paths.LeasedPaths.add.Goals as goal
 use Rattle.cfdp_leases.proofs.leased_paths.LeasedPaths.add.Goals.{in_default-via-in-Some+else-eq, in_default-via-in-None-1}

@@ -2,7 +2,7 @@ use Rattle.std.proofs.Common.{take, List, ◌++◌}
 use Rattle.std.specs.List.{list_any}
 use Rattle.cfdp_paths.specs.Paths.{Path, same_path}
 use Rattle.cfdp_leases.specs.declared.leased_paths.Holder.{Holder}
-use Rattle.cfdp_leases.specs.Holders.{Holds, when}
+use Rattle.cfdp_leases.specs.code.Holders.{Holds, when}
 use Rattle.cfdp_leases.proofs.leased_paths.LeasedPaths.add_all.Given as goal
 
 -- the paths so far have one holder more

@@ -6,7 +6,7 @@ use Rattle.cfdp_paths.specs.Paths.{same_path}
 use Rattle.cfdp_leases.specs.declared.lease.Lease.TheVariants.{Exclusive, Shared}
 use Rattle.cfdp_leases.specs.declared.leased_paths.Holder.{Holder}
 use Rattle.cfdp_leases.specs.Footprint.{leased}
-use Rattle.cfdp_leases.specs.Holders.{when}
+use Rattle.cfdp_leases.specs.code.Holders.{when}
 use Rattle.cfdp_leases.proofs.Held.{on_err, holds_same, in_slice, unleased, when_not, others_when, some_wider}
 use Rattle.cfdp_leases.proofs.leased_paths.LeasedPaths.add_footprint.Goals as goal
 

@@ -4,7 +4,7 @@ use Rattle.std.specs.Ordering.{is_eq, nat_cmp}
 use Rattle.cfdp_paths.specs.Paths.{path_cmp, same_path}
 use Rattle.cfdp_leases.specs.declared.leased_paths.Holders.TheVariants.{One}
 use Rattle.cfdp_leases.specs.declared.leased_paths.LeasedPaths.{LeasedPaths}
-use Rattle.cfdp_leases.specs.Holders.{when, unless_none}
+use Rattle.cfdp_leases.specs.code.Holders.{when, unless_none}
 use Rattle.cfdp_leases.proofs.Held.{IsOf, free_none, holds_kept, on_err, other_changed, some_pushed, under_changed, when_here, when_not}
 use Rattle.cfdp_leases.proofs.leased_paths.LeasedPaths.add_new.Goals as goal
 

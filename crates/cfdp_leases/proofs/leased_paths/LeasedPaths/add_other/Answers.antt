@@ -2,7 +2,7 @@ use Rattle.std.proofs.Common.{rules, refl, sym, ◌∙◌, ap, ◌++◌, ◌∷�
 use Rattle.std.proofs.lemmas.Result.{on_ok_weaker, on_err_weaker}
 use Rattle.cfdp_paths.specs.Paths.{same_path}
 use Rattle.cfdp_leases.specs.declared.leased_paths.LeasedPaths.{LeasedPaths}
-use Rattle.cfdp_leases.specs.Holders.{when, unless_none}
+use Rattle.cfdp_leases.specs.code.Holders.{when, unless_none}
 use Rattle.cfdp_leases.proofs.Held.{other_changed, other_is, other_there, some_pushed, when_here, when_not}
 use Rattle.cfdp_leases.proofs.leased_paths.LeasedPaths.add_other.Goals as goal
 

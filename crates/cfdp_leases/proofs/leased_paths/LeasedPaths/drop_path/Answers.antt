@@ -2,7 +2,7 @@ use Rattle.std.proofs.Common.{refl, sym, ◌∙◌, ap, subst, None}
 use Rattle.cfdp_paths.specs.Paths.{same_path}
 use Rattle.cfdp_paths.proofs.Comparing.{same_path-Decides}
 use Rattle.cfdp_leases.specs.declared.leased_paths.LeasedPaths.{LeasedPaths}
-use Rattle.cfdp_leases.specs.Holders.{Holds, IsOther, unless_none}
+use Rattle.cfdp_leases.specs.code.Holders.{Holds, IsOtherPath, unless_none}
 use Rattle.cfdp_leases.proofs.Sets.{same_path-itself}
 use Rattle.cfdp_leases.proofs.Held.{emptied, other_absent, other_apart, other_changed, under_removed}
 use Rattle.cfdp_leases.proofs.leased_paths.LeasedPaths.drop_path.Goals as goal
@@ -24,15 +24,15 @@ returns-in_default c = λ holders held.
     let k = c.args.path.now in
     let old = c.in_default.self in
     let new : LeasedPaths = record { rows = old.rows; others = c.remove-in_default.new.self } in
-    let before : IsOther old k × Holds old holders = elim c.in_default.branch [
+    let before : IsOtherPath old k × Holds old holders = elim c.in_default.branch [
       | in_default-via-in-Some+else-eq w ↦
-          subst (λ paths. IsOther paths k × Holds paths holders) (sym w.self-is) (
+          subst (λ paths. IsOtherPath paths k × Holds paths holders) (sym w.self-is) (
             other_apart c.args.self.now k c.hash-hash.result c.hash-hash.ensures w.in-Some.row.now (sym w.in-Some.ensures.value) (sym w.eq.ensures
                 ∙ w.if-eq.false),
             held,
           )
       | in_default-via-in_default w ↦
-          subst (λ paths. IsOther paths k × Holds paths holders) (sym w.self-is)
+          subst (λ paths. IsOtherPath paths k × Holds paths holders) (sym w.self-is)
           (other_absent c.args.self.now k c.hash-hash.result c.hash-hash.ensures (sym w.in_default.ensures.value), held)
     ] in
     other_changed old new holders before.1 k (λ p. emptied (same_path p k) (holders p)) (λ q other. ap (λ b. emptied b (holders q)) other) None (λ h. refl)

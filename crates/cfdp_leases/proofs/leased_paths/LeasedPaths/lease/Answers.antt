@@ -3,7 +3,7 @@ use Rattle.std.proofs.Common.{◌∙◌, ap}
 use Rattle.std.proofs.lemmas.Result.{on_err_weaker}
 use Rattle.cfdp_leases.specs.Footprint.{leased}
 use Rattle.cfdp_leases.proofs.Held.{holds_same, left, taken_back}
-use Rattle.cfdp_leases.specs.Holders.{others}
+use Rattle.cfdp_leases.specs.code.Holders.{others}
 use Rattle.cfdp_leases.proofs.leased_paths.LeasedPaths.lease.Goals as goal
 
 -- what some of them have is taken back

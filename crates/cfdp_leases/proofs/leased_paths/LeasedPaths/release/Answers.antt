@@ -4,7 +4,7 @@ use Rattle.std.specs.BTreeMap.{is_at}
 use Rattle.std.specs.Ordering.{nat_cmp}
 use Rattle.cfdp_paths.specs.Paths.{Path, path_cmp}
 use Rattle.cfdp_leases.specs.Footprint.{leased}
-use Rattle.cfdp_leases.specs.Holders.{others}
+use Rattle.cfdp_leases.specs.code.Holders.{others}
 use Rattle.cfdp_leases.specs.declared.leased_paths.Holder.{Holder}
 use Rattle.std.specs.List.{list_any}
 use Rattle.std.specs.FinSet as set

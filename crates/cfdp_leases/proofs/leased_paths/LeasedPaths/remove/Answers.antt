@@ -5,7 +5,7 @@ use Rattle.cfdp_paths.specs.Paths.{same_path}
 use Rattle.cfdp_paths.proofs.Comparing.{same_path-Decides}
 use Rattle.cfdp_leases.specs.declared.leased_paths.Row.{Row}
 use Rattle.cfdp_leases.specs.declared.leased_paths.LeasedPaths.{LeasedPaths}
-use Rattle.cfdp_leases.specs.Holders.{Holds, holders_in, others, unless_none}
+use Rattle.cfdp_leases.specs.code.Holders.{Holds, holders_in, others, unless_none}
 use Rattle.cfdp_leases.proofs.Held.{cond_twice, holds_kept, holds_unwritten, left, left_elsewhere, left_here, under_removed, under_there, under_written}
 use Rattle.cfdp_leases.proofs.leased_paths.LeasedPaths.remove.Goals as goal
 use Rattle.cfdp_leases.proofs.leased_paths.LeasedPaths.remove.Goals.{in_default-via-in-Some+else-eq, in_default-via-in-None-1}

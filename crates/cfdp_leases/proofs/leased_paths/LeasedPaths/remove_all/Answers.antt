@@ -1,7 +1,7 @@
 use Rattle.std.proofs.Common.{List, subst, take, take_all}
 use Rattle.std.specs.List.{list_any}
 use Rattle.cfdp_paths.specs.Paths.{Path, same_path}
-use Rattle.cfdp_leases.specs.Holders.{Holds}
+use Rattle.cfdp_leases.specs.code.Holders.{Holds}
 use Rattle.cfdp_leases.proofs.Held.{holds_same, left, left_more}
 use Rattle.cfdp_leases.proofs.leased_paths.LeasedPaths.remove_all.Goals as goal
 

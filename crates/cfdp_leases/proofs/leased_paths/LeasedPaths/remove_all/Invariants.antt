@@ -2,7 +2,7 @@ use Rattle.std.proofs.Common.{take, List}
 use Rattle.std.specs.List.{list_any}
 use Rattle.cfdp_paths.specs.Paths.{Path, same_path}
 use Rattle.cfdp_leases.specs.declared.leased_paths.Holder.{Holder}
-use Rattle.cfdp_leases.specs.Holders.{Holds}
+use Rattle.cfdp_leases.specs.code.Holders.{Holds}
 use Rattle.cfdp_leases.proofs.Held.{left}
 use Rattle.cfdp_leases.proofs.leased_paths.LeasedPaths.remove_all.Given as goal
 

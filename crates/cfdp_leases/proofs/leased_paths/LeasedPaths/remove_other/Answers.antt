@@ -3,7 +3,7 @@ use Rattle.std.specs.BTreeMap.{get}
 use Rattle.std.specs.Ordering.{is_eq}
 use Rattle.cfdp_paths.specs.Paths.{path_cmp, same_path}
 use Rattle.cfdp_leases.specs.declared.leased_paths.LeasedPaths.{LeasedPaths}
-use Rattle.cfdp_leases.specs.Holders.{holders_in, others, unless_none}
+use Rattle.cfdp_leases.specs.code.Holders.{holders_in, others, unless_none}
 use Rattle.cfdp_leases.proofs.Held.{cond_twice, holds_kept, holds_same, left, left_elsewhere, left_here, left_nobody, other_changed, other_none, other_there}
 use Rattle.cfdp_leases.proofs.leased_paths.LeasedPaths.remove_other.Goals as goal
 

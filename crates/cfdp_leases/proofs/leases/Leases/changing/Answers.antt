@@ -2,8 +2,8 @@ use Rattle.std.proofs.Common.{rules, sym, ◌∙◌, ap, not, arith, length, ◌
 use Rattle.std.specs.FinSet as set
 use Rattle.std.specs.List.{prefix_len}
 use Rattle.cfdp_leases.specs.Leases.{is_same}
-use Rattle.cfdp_leases.specs.Live.{grants_of}
-use Rattle.cfdp_leases.specs.Holders.{holders_at}
+use Rattle.cfdp_leases.specs.code.Live.{grants_of}
+use Rattle.cfdp_leases.specs.code.Holders.{holders_at}
 use Rattle.cfdp_leases.proofs.Admitted.{first_there, first_none, first_exclusive, first_shared, nobody_changing}
 use Rattle.cfdp_leases.proofs.Kept.{place-live, length-live}
 use Rattle.cfdp_leases.proofs.leases.Leases.changing.Goals as goal

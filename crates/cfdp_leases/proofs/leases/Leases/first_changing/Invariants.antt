@@ -1,6 +1,6 @@
 use Rattle.std.proofs.Common.{◌≡◌, not, take}
 use Rattle.std.specs.List.{prefix_len}
-use Rattle.cfdp_leases.specs.Footprint.{has_any}
+use Rattle.cfdp_leases.specs.code.Footprint.{has_any}
 use Rattle.cfdp_leases.proofs.leases.Leases.first_changing.Given as goal
 
 -- the first index by the paths so far

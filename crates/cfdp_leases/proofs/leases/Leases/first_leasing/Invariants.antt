@@ -1,6 +1,7 @@
 use Rattle.std.proofs.Common.{◌≡◌, not, take}
 use Rattle.std.specs.List.{prefix_len}
-use Rattle.cfdp_leases.specs.Footprint.{leased, has_any}
+use Rattle.cfdp_leases.specs.Footprint.{leased}
+use Rattle.cfdp_leases.specs.code.Footprint.{has_any}
 use Rattle.cfdp_leases.proofs.leases.Leases.first_leasing.Given as goal
 
 -- the first index by the paths so far

@@ -2,10 +2,10 @@ use Rattle.std.proofs.Common.{refl, sym, ◌∙◌, ap, subst, ◌++◌, ◌∷�
 use Rattle.std.specs.Result.{is_ok}
 use Rattle.slab.specs.Slab.{SameValues, get}
 use Rattle.cfdp_leases.specs.declared.leases.Live.{Live}
-use Rattle.cfdp_leases.specs.Footprint.{HasAncestors}
+use Rattle.cfdp_leases.specs.code.Footprint.{HasAncestors}
 use Rattle.cfdp_leases.specs.Leases.{first_conflict, holds}
-use Rattle.cfdp_leases.specs.Live.{AreKept, grants_of}
-use Rattle.cfdp_leases.specs.Holders.{holders_at}
+use Rattle.cfdp_leases.specs.code.Live.{AreKept, grants_of}
+use Rattle.cfdp_leases.specs.code.Holders.{holders_at}
 use Rattle.cfdp_leases.proofs.Admitted.{others-strangers}
 use Rattle.cfdp_leases.proofs.Alone.{free_before}
 use Rattle.cfdp_leases.proofs.Kept.{footprints-same, grants-same, grants_admitted, kept_admitted, kept_same}

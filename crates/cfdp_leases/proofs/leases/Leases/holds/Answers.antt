@@ -1,7 +1,7 @@
 use Rattle.std.proofs.Common.{sym, ◌∙◌, ap}
 use Rattle.std.specs.List.{list_any}
 use Rattle.cfdp_leases.specs.Leases.{holds, is_same}
-use Rattle.cfdp_leases.specs.Live.{footprint_at}
+use Rattle.cfdp_leases.specs.code.Live.{footprint_at}
 use Rattle.cfdp_leases.proofs.Views.{list_any-map}
 use Rattle.cfdp_leases.proofs.leases.Leases.holds.Goals as goal
 

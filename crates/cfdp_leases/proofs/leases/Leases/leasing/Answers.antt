@@ -3,8 +3,8 @@ use Rattle.std.specs.FinSet as set
 use Rattle.std.specs.List.{prefix_len}
 use Rattle.cfdp_leases.specs.Footprint.{leased}
 use Rattle.cfdp_leases.specs.Leases.{is_same}
-use Rattle.cfdp_leases.specs.Live.{grants_of}
-use Rattle.cfdp_leases.specs.Holders.{holders_at}
+use Rattle.cfdp_leases.specs.code.Live.{grants_of}
+use Rattle.cfdp_leases.specs.code.Holders.{holders_at}
 use Rattle.cfdp_leases.proofs.Admitted.{first_there, first_none, first_leasing, nobody_leasing}
 use Rattle.cfdp_leases.proofs.Kept.{place-live, length-live}
 use Rattle.cfdp_leases.proofs.leases.Leases.leasing.Goals as goal

@@ -4,9 +4,9 @@ use Rattle.std.specs.Option.{option_map}
 use Rattle.std.specs.List.{find}
 use Rattle.std.proofs.lemmas.Fn.{filter_same}
 use Rattle.slab.specs.Slab.{get, Updates}
-use Rattle.cfdp_leases.specs.Leases.{is_same, without}
-use Rattle.cfdp_leases.specs.Live.{AreKept, grants_of}
-use Rattle.cfdp_leases.specs.Holders.{holders_at}
+use Rattle.cfdp_leases.specs.Leases.{is_same, without_grant}
+use Rattle.cfdp_leases.specs.code.Live.{AreKept, grants_of}
+use Rattle.cfdp_leases.specs.code.Holders.{holders_at}
 use Rattle.cfdp_leases.proofs.Alone.{own_only}
 use Rattle.cfdp_leases.proofs.Kept.{all_found, elsewhere, grant_there, grants-filter, kept_emptied, kept_released, live_there, nobody_there, none_of, occupied}
 use Rattle.cfdp_leases.proofs.leases.Leases.release.Goals as goal
@@ -18,7 +18,7 @@ returns-in_default c =
     sym c.self.view_is
     ∙ nobody_there c.self.inside.footprints c.self.inside.live.items id (c.in_default.ensures
     ∙ ap (λ live. option_map (λ l. l.key) (find (λ l. is_same l.transaction id) live)) c.deref.ensures.value)
-    ∙ ap (λ gs. without gs id) c.self.view_is
+    ∙ ap (λ gs. without_grant gs id) c.self.view_is
 
 pub remove-footprint-requires : goal.remove-footprint-requires
 remove-footprint-requires c =
@@ -73,7 +73,7 @@ returns c =
     ap (grants_of t) left
     ∙ grants-filter s t found.0.key id live (subst (λ key. Updates s t key None) (sym found.2) c.remove-footprint.ensures.updates)
     (elsewhere s id live found.0 c.self.invariant.kept found.1)
-    ∙ ap (λ gs. without gs id) c.self.view_is
+    ∙ ap (λ gs. without_grant gs id) c.self.view_is
 
 pub returns-then-is_last : goal.returns-then-is_last
 returns-then-is_last c =
@@ -87,4 +87,4 @@ returns-then-is_last c =
     ap (grants_of t) left
     ∙ grants-filter s t found.0.key id live (subst (λ key. Updates s t key None) (sym found.2) c.remove-footprint.ensures.updates)
     (elsewhere s id live found.0 c.self.invariant.kept found.1)
-    ∙ ap (λ gs. without gs id) c.self.view_is
+    ∙ ap (λ gs. without_grant gs id) c.self.view_is

@@ -1,6 +1,6 @@
 use Rattle.std.proofs.Common.{◌≡◌, Err, rules, arith, ap, ◌∙◌, length-drop}
 use Rattle.std.proofs.lemmas.List.{take-append-drop}
-use Rattle.cfdp_lines.specs.Places.{place_of}
+use Rattle.cfdp_lines.specs.code.Places.{session_place}
 use Rattle.cfdp_lines.proofs.Feeding.{Fed-adds, Fed-spills, Fed-stops, Fed-part, Fed-lost}
 use Rattle.cfdp_lines.proofs.session.Session.feed.Goals as goal
 
@@ -28,7 +28,7 @@ returns-in-Err-clause-refused g c = λ e.
       done = fed.done;
       rest = c.lines.rest.now;
       text = fed.text;
-      to = place_of g.S.Script.state c.lines.self;
+      to = session_place g.S.Script.state c.lines.self;
       cut = fed.cut;
       moves = fed.moves;
       good = c.take.ensures.refused (c.in-Err.is ∙ ap Err was);

@@ -1,13 +1,13 @@
 use Rattle.std.proofs.Common.{◌≡◌, ◌≤◌, ◌+◌, length}
-use Rattle.cfdp_lines.specs.Places.{place_of}
+use Rattle.cfdp_lines.specs.code.Places.{session_place}
 use Rattle.cfdp_lines.proofs.Feeding.{Fed}
 use Rattle.cfdp_lines.proofs.session.Session.feed.Given as goal
 
 abbrev pub invariant-lines : goal.invariant-lines
 invariant-lines g l =
     Fed g.S.Script.State g.S.Script.answer
-    (place_of g.S.Script.state l.initial.self)
-    (place_of g.S.Script.state l.self)
+    (session_place g.S.Script.state l.initial.self)
+    (session_place g.S.Script.state l.self)
     l.octets l.rest l.self.text.items
     (g.W.ScriptOut.contents l.initial.writer)
     (g.W.ScriptOut.contents l.writer)

@@ -1,6 +1,6 @@
 use Rattle.std.proofs.Common.{◌≡◌, drop, map}
 use Rattle.cfdp_receiver.specs.Sent.{as_sent, pdus_of}
-use Rattle.cfdp_live.specs.Living.{with_sent}
+use Rattle.cfdp_live.specs.code.Living.{with_sent}
 use Rattle.cfdp_live.proofs.output.Output.push_pdus.Given as goal
 
 abbrev pub invariant-loop-number : goal.invariant-loop-number

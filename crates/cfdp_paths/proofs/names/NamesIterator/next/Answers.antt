@@ -1,6 +1,7 @@
 use Rattle.std.proofs.Common.{◌≡◌, ◌+◌, ◌<◌, ◌∷◌, length, refl, sym, ◌∙◌, ap, subst, arith}
 use Rattle.std.specs.Option.{option_copied}
-use Rattle.cfdp_paths.specs.Paths.{Name, Path, path_in}
+use Rattle.cfdp_paths.specs.Paths.{Name, Path}
+use Rattle.cfdp_paths.specs.code.Paths.{path_in}
 use Rattle.cfdp_paths.proofs.Separators.{names_of-next, names_of-last}
 use Rattle.cfdp_paths.proofs.names.NamesIterator.next.Goals as goal
 

@@ -1,8 +1,9 @@
 use Rattle.std.proofs.Common.{ap, subst, ◌∙◌}
 use Rattle.std.specs.FinMap.{find}
 use Rattle.std.specs.Option.{option_copied}
-use Rattle.cfdp_paths.specs.Paths.{path_cmp, path_in}
-use Rattle.cfdp_paths.specs.PathMaps.{IsPlaceOf}
+use Rattle.cfdp_paths.specs.Paths.{path_cmp}
+use Rattle.cfdp_paths.specs.code.Paths.{path_in}
+use Rattle.cfdp_paths.specs.code.PathMaps.{IsPlaceOf}
 use Rattle.cfdp_paths.proofs.InOrder.{value_at}
 use Rattle.cfdp_paths.proofs.path_map.PathMap.find.Goals as goal
 

@@ -2,7 +2,8 @@ use Rattle.std.proofs.Common.{Some, ap, ◌∙◌}
 use Rattle.std.specs.FinMap.{find, put}
 use Rattle.std.specs.List.{insert}
 use Rattle.std.specs.Option.{option_copied}
-use Rattle.cfdp_paths.specs.Paths.{path_cmp, path_in}
+use Rattle.cfdp_paths.specs.Paths.{path_cmp}
+use Rattle.cfdp_paths.specs.code.Paths.{path_in}
 use Rattle.cfdp_paths.proofs.InOrder.{placed, put_at, put_between, value_at, ordered-put}
 use Rattle.cfdp_paths.proofs.path_map.PathMap.put.Goals as goal
 

@@ -1,7 +1,8 @@
 use Rattle.std.proofs.Common.{ap, sym, ◌∙◌}
 use Rattle.std.specs.FinMap.{find}
 use Rattle.std.specs.Option.{option_copied}
-use Rattle.cfdp_paths.specs.Paths.{path_cmp, path_in}
+use Rattle.cfdp_paths.specs.Paths.{path_cmp}
+use Rattle.cfdp_paths.specs.code.Paths.{path_in}
 use Rattle.cfdp_paths.specs.PathMaps.{without}
 use Rattle.cfdp_paths.proofs.InOrder.{placed, value_at, removed_at, without_none, ordered-where}
 use Rattle.cfdp_paths.proofs.path_map.PathMap.remove.Goals as goal

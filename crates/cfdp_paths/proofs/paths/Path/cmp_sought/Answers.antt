@@ -1,6 +1,7 @@
 use Rattle.std.proofs.Common.{sym, ◌∙◌, ap}
 use Rattle.std.specs.Option.{option_copied}
-use Rattle.cfdp_paths.specs.Paths.{path_cmp, path_in, names_of}
+use Rattle.cfdp_paths.specs.Paths.{path_cmp, names_of}
+use Rattle.cfdp_paths.specs.code.Paths.{path_in}
 use Rattle.cfdp_paths.proofs.Separators.{path_cmp-names_of}
 use Rattle.cfdp_paths.proofs.paths.Path.cmp_sought.Goals as goal
 

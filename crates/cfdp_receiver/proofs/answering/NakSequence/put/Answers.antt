@@ -2,17 +2,17 @@ use Rattle.std.proofs.Common.{◌≡◌, ◌≤◌, ℕ, List, length, Some, sym
 use Rattle.std.specs.Prelude.{slice_get}
 use Rattle.cfdp_pdus.specs.declared.header.Header.{Header}
 use Rattle.cfdp_directives.specs.Spelling.{nak_pdu}
-use Rattle.cfdp_retransmission.specs.Naks.{Range, naks}
-use Rattle.cfdp_receiver.specs.Machine.{IsAsking}
+use Rattle.cfdp_retransmission.specs.Naks.{SegmentRequest, naks}
+use Rattle.cfdp_receiver.specs.code.Machine.{IsAsking}
 use Rattle.cfdp_receiver.proofs.Written.{FitsPdu, fits_pdu, nak_short, sequence_at, put_enough, put_is}
 use Rattle.cfdp_receiver.proofs.answering.NakSequence.put.Goals as goal
 
-here : (most low high number : ℕ) (slice rs requests : List Range) (scope : Range) → slice ≡ rs →
+here : (most low high number : ℕ) (slice rs requests : List SegmentRequest) (scope : SegmentRequest) → slice ≡ rs →
     slice_get (naks most low high slice) number ≡ Some (record { scope = scope; requests = requests }) →
     slice_get (naks most low high rs) number ≡ Some (record { scope = scope; requests = requests })
-here most low high number slice rs requests scope e found = ap (λ (xs : List Range). slice_get (naks most low high xs) number) (sym e) ∙ found
+here most low high number slice rs requests scope e found = ap (λ (xs : List SegmentRequest). slice_get (naks most low high xs) number) (sym e) ∙ found
 
-fits : (h : Header) (most low high number : ℕ) (slice rs requests : List Range) (scope : Range) → IsAsking h low high most rs → slice ≡ rs →
+fits : (h : Header) (most low high number : ℕ) (slice rs requests : List SegmentRequest) (scope : SegmentRequest) → IsAsking h low high most rs → slice ≡ rs →
     slice_get (naks most low high slice) number ≡ Some (record { scope = scope; requests = requests }) →
     FitsPdu h.large (length rs) (record { scope = scope; requests = requests })
 fits h most low high number slice rs requests scope asks e found =
@@ -26,7 +26,7 @@ put_nak-requires-clause-count c =
     let found = c.in-Some.ensures in
     let fit = fits s.header s.most s.low s.high n c.deref.result.now s.requests.items p.requests.now p.scope c.self.invariant c.deref.ensures.0 found in
     let most : length c.deref.result.now ≤ 33 = c.deref.ensures.1 in
-    let same = ap (λ (xs : List Range). length xs) c.deref.ensures.0 in
+    let same = ap (λ (xs : List SegmentRequest). length xs) c.deref.ensures.0 in
     omega (arith, fit.few, most, same)
 
 pub put_nak-requires-clause-scope : goal.put_nak-requires-clause-scope
@@ -89,7 +89,7 @@ returns-clause-enough c =
     let fit = fits s.header s.most s.low s.high n c.deref.result.now s.requests.items p.requests.now p.scope c.self.invariant c.deref.ensures.0
     c.in-Some.ensures in
     let most : length c.deref.result.now ≤ 33 = c.deref.ensures.1 in
-    let same = ap (λ (xs : List Range). length xs) c.deref.ensures.0 in
+    let same = ap (λ (xs : List SegmentRequest). length xs) c.deref.ensures.0 in
     let done = c.written.ensures in
     put_enough (nak_pdu s.header p.scope p.requests.now) c.args.out.now c.put_nak.result c.written.result c.put_nak.ensures.fits done.ok done.err
     (nak_short s.header p.scope p.requests.now c.self.invariant.header (omega (arith, fit.few, most, same)))

@@ -2,7 +2,7 @@ use Rattle.std.specs.Prelude.{slice_get}
 use Rattle.std.proofs.Common.{◌≡◌, inl, inr, ◌∷◌, [], true, List, length, refl, sym, ap, ◌∙◌, arith}
 use Rattle.cfdp_status.specs.declared.transaction.TransactionId.{TransactionId}
 use Rattle.cfdp_sessions.specs.Closed.{with_name}
-use Rattle.cfdp_sessions.specs.Sessions.{SessionFields, name_of, replaced, without}
+use Rattle.cfdp_sessions.specs.Sessions.{SessionFields, session_id, replaced, without_session}
 use Rattle.cfdp_transactions.specs.declared.event.Event.TheVariants.{Cancel as CancelCame}
 use Rattle.cfdp_transactions.specs.Next.{run}
 use Rattle.cfdp_receiver.specs.declared.mib.Handler.TheVariants.{Abandon}
@@ -32,23 +32,26 @@ returns c =
     let told = told_abandoned N s c.name-id.result c.with_indication.result c.said.result k c.name-id.ensures c.said.ensures c.with_indication.ensures in
     elim c.match-at.branch [
       | in-Waiting w ↦
-          let shut : N ≡ with_lists M R.world (without R.sessions (name_of s)) (with_name R.closed (name_of s)) =
-          w.self-is ∙ w.close.ensures ∙ ap (λ (id : TransactionId). with_lists M R.world (without R.sessions id) (with_name R.closed id)) c.name-id.ensures in
+          let shut : N ≡ with_lists M R.world (without_session R.sessions (session_id s)) (with_name R.closed (session_id s)) =
+          w.self-is ∙ w.close.ensures ∙ ap (λ (id : TransactionId). with_lists M R.world (without_session R.sessions id)
+          (with_name R.closed id)) c.name-id.ensures in
           elim w.in-Waiting.is [
             | inl is ↦
-                limit_turns M N c.with_indication.result s At_waiting k Abandon R.world (without R.sessions (name_of s)) (with_name R.closed (name_of s))
+                limit_turns M N c.with_indication.result s At_waiting k Abandon R.world (without_session R.sessions (session_id s))
+                (with_name R.closed (session_id s))
                 (c.requires.due s e) (sym is ∙ c.requires.at s e) (c.requires.condition s e ∙ ap (fault_at ack) is)
                 (ap (handler_at R.mib ack) (sym is) ∙ c.requires.handler s e)
                 shut (unmoved_waiting R.world s Abandon (sym is ∙ c.requires.at s e)) refl refl told
             | inr is ↦
-                limit_turns M N c.with_indication.result s At_held k Abandon R.world (without R.sessions (name_of s)) (with_name R.closed (name_of s))
+                limit_turns M N c.with_indication.result s At_held k Abandon R.world (without_session R.sessions (session_id s))
+                (with_name R.closed (session_id s))
                 (c.requires.due s e) (sym is ∙ c.requires.at s e) (c.requires.condition s e ∙ ap (fault_at ack) is)
                 (ap (handler_at R.mib ack) (sym is) ∙ c.requires.handler s e)
                 shut (unmoved_held R.world s Abandon (sym is ∙ c.requires.at s e)) refl refl told
           ]
       | in_default w ↦
           let at = c.args.at in
-          let V = run R.world (where_known s.stage (CancelCame (name_of s) ∷ [])) in
+          let V = run R.world (where_known s.stage (CancelCame (session_id s) ∷ [])) in
           let X = w.abandon.new.self in
           let new : SessionFields = record s { is_abandoned = true } in
           let cancelled = w.self.view_is ∙ w.hand_cancel.ensures s e in

@@ -4,7 +4,8 @@ use Rattle.cfdp_sessions.specs.Sessions.{SessionFields, found}
 use Rattle.cfdp_transactions.specs.declared.event.Event.TheVariants.{Cancel}
 use Rattle.cfdp_transactions.specs.Next.{next}
 use Rattle.cfdp_receiver.specs.State.{CancelAsked}
-use Rattle.cfdp_receiver.specs.Machine.{MachineFields, Turns, in_world}
+use Rattle.cfdp_receiver.specs.Machine.{MachineFields}
+use Rattle.cfdp_receiver.specs.code.Machine.{Turns, in_world}
 use Rattle.cfdp_receiver.proofs.Asked.{IsIdle, cancel_held, cancel_known, cancel_idle}
 use Rattle.cfdp_receiver.proofs.machine.Machine.cancel.Goals as goal
 

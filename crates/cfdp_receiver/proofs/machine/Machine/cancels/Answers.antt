@@ -1,7 +1,7 @@
 use Rattle.std.specs.Prelude.{slice_get}
 use Rattle.std.proofs.Common.{◌≡◌, ◌∷◌, [], false, List, length, Some, refl, sym, ap, ◌∙◌, arith}
 use Rattle.cfdp_status.specs.declared.transaction.TransactionId.{TransactionId}
-use Rattle.cfdp_sessions.specs.Sessions.{SessionFields, name_of, replaced}
+use Rattle.cfdp_sessions.specs.Sessions.{SessionFields, session_id, replaced}
 use Rattle.cfdp_transactions.specs.declared.event.Event.TheVariants.{Cancel as CancelCame, Check as CheckCame}
 use Rattle.cfdp_transactions.specs.declared.reply.Reply.{Reply}
 use Rattle.cfdp_transactions.specs.Next.{next, run}
@@ -68,7 +68,7 @@ returns c =
           let put : X ≡ replaced R.sessions new =
           w.set_cause.ensures s (ap (λ (xs : List SessionFields). slice_get xs c.args.index) still ∙ e)
           ∙ ap (λ (xs : List SessionFields). replaced xs new) still in
-          let checked : V ≡ (next R.world (CheckCame (name_of s))).0 =
+          let checked : V ≡ (next R.world (CheckCame (session_id s))).0 =
           ap (λ (p : World × Reply). p.0) (sym w.check.ensures)
           ∙ ap (λ (W : World). (next W (CheckCame c.name-id.result)).0) (ap (λ (m : MachineFields). m.state.world) c.self.view_is)
           ∙ ap (λ (id : TransactionId). (next R.world (CheckCame id)).0) c.name-id.ensures in
@@ -79,7 +79,7 @@ returns c =
           (checked ∙ moved_checked R.world s made (mode ∙ w.if-not-session.true) (sym is ∙ c.requires.at s e))
           put refl told
       | in_default w ↦
-          let V = run R.world (where_known s.stage (CancelCame (name_of s) ∷ [])) in
+          let V = run R.world (where_known s.stage (CancelCame (session_id s) ∷ [])) in
           let X = w.set_cause-in_default.new.self in
           let cancelled = w.self-in_default.view_is ∙ w.hand_cancel.ensures s e in
           let still = ap (λ (m : MachineFields). m.state.sessions) cancelled in

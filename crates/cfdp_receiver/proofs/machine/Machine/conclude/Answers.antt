@@ -3,15 +3,16 @@ use Rattle.cfdp_status.specs.declared.transaction.TransactionId.{TransactionId}
 use Rattle.std.specs.Prelude.{slice_get}
 use Rattle.cfdp_retransmission.specs.Timers.{restarted}
 use Rattle.cfdp_retransmission.specs.declared.timer.Timer.{Timer}
-use Rattle.cfdp_sessions.specs.Sessions.{SessionFields, AreDistinct, name_of, replaced}
+use Rattle.cfdp_sessions.specs.Sessions.{SessionFields, AreDistinct, session_id, replaced}
 use Rattle.cfdp_sessions.specs.declared.session.Stage.TheVariants.{Waiting}
 use Rattle.cfdp_sessions.proofs.Places.{some_same}
 use Rattle.cfdp_transactions.specs.Writable.{finished_octets}
 use Rattle.cfdp_receiver.specs.declared.answer.Conclusion.{Conclusion}
 use Rattle.cfdp_receiver.specs.declared.answer.Indication.TheVariants.{TransactionFinished}
 use Rattle.cfdp_receiver.specs.declared.answer.Word.TheVariants as words
-use Rattle.cfdp_receiver.specs.Machine.{MachineFields, AnswerParts, Concludes}
-use Rattle.cfdp_receiver.specs.Turning.{waits}
+use Rattle.cfdp_receiver.specs.Machine.{MachineFields, AnswerParts}
+use Rattle.cfdp_receiver.specs.code.Machine.{Concludes}
+use Rattle.cfdp_receiver.specs.Turning.{waits_for_ack}
 use Rattle.cfdp_receiver.proofs.Asked.{with_sessions}
 use Rattle.cfdp_receiver.proofs.Concluding.{ended_and_sent, closed_with, concludes_waiting, concludes_closed}
 use Rattle.cfdp_receiver.proofs.machine.Machine.conclude.Goals as goal
@@ -31,9 +32,9 @@ returns-then-session-2 c outcome sent conclusion octets session at =
     ∙ ap (λ (b : AnswerParts). record b { indications = told })
     (c.with_finished.ensures ∙ ap (λ (b : AnswerParts). record b { finished = id ∷ [] }) c.said-then-session-2.ensures)
     ∙ ap (λ (n : TransactionId). ended_and_sent n c.args.conclusion words.Finished) c.name-id.ensures
-    ∙ ap (λ (k : Conclusion). ended_and_sent (name_of s) k words.Finished) conclusion in
+    ∙ ap (λ (k : Conclusion). ended_and_sent (session_id s) k words.Finished) conclusion in
     let here = ap (λ (X : MachineFields). slice_get X.state.sessions c.args.index) v ∙ c.session-session.ensures in
-    let waited : c.wait.new.self ≡ replaced M.state.sessions (waits M.state s outcome) =
+    let waited : c.wait.new.self ≡ replaced M.state.sessions (waits_for_ack M.state s outcome) =
     c.wait.ensures s here
     ∙ ap (λ (X : MachineFields). replaced X.state.sessions (record s { stage = Waiting; finished = c.args.octets.items; timer = c.start-timer.result })) v
     ∙ ap (λ (xs : List ℕ). replaced M.state.sessions (record s { stage = Waiting; finished = xs; timer = c.start-timer.result })) octets
@@ -68,11 +69,11 @@ returns c outcome sent conclusion octets session at =
     ∙ ap (λ (b : AnswerParts). record b { indications = told })
     (c.with_finished-2.ensures ∙ ap (λ (b : AnswerParts). record b { finished = id ∷ [] }) c.said-2.ensures)
     ∙ ap (λ (n : TransactionId). ended_and_sent n c.args.conclusion words.Closed) c.name-id.ensures
-    ∙ ap (λ (k : Conclusion). ended_and_sent (name_of s) k words.Closed) conclusion in
+    ∙ ap (λ (k : Conclusion). ended_and_sent (session_id s) k words.Closed) conclusion in
     let same =
     ap (λ (X : MachineFields). record X { concluded = c.of.result }) (c.self-2.view_is ∙ c.close-2.ensures)
     ∙ ap (λ (n : TransactionId). closed_with M n c.of.result) c.name-id.ensures
-    ∙ ap (closed_with M (name_of s)) (c.of.ensures ∙ octets) in
+    ∙ ap (closed_with M (session_id s)) (c.of.ensures ∙ octets) in
     let distinct = subst (λ (X : MachineFields). AreDistinct X.state.sessions) c.self.view_is c.distinct.ensures in
     let N : MachineFields = record {
       state = record {

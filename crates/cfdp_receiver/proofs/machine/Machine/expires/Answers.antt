@@ -6,7 +6,8 @@ use Rattle.cfdp_retransmission.specs.Timers.{passed}
 use Rattle.cfdp_sessions.specs.Sessions.{SessionFields, replaced}
 use Rattle.cfdp_receiver.specs.State.{At_waiting, at_of}
 use Rattle.cfdp_receiver.specs.Due.{IsSet}
-use Rattle.cfdp_receiver.specs.Machine.{MachineFields, joined}
+use Rattle.cfdp_receiver.specs.Machine.{MachineFields}
+use Rattle.cfdp_receiver.specs.code.Machine.{all_naks}
 use Rattle.cfdp_receiver.specs.Turning as Turning
 use Rattle.cfdp_receiver.proofs.Giving.{with_lists}
 use Rattle.cfdp_receiver.proofs.Limits.{stage_due}
@@ -103,11 +104,11 @@ returns-then-acknowledged c =
     let mode : s.header.acknowledged ≡ true = ap (λ (t : SessionFields). t.header.acknowledged) (sym c.session.view_is) ∙ c.if-acknowledged.true in
     let other : at_of R.world s ≡ At_waiting → ⊥ = λ (waits : at_of R.world s ≡ At_waiting). search rules in
     let t = c.session-then-acknowledged.result.now in
-    let asked : joined c.asks.result ≡ Turning.asks R.mib (again_in M s) s =
+    let asked : all_naks c.asks.result ≡ Turning.asks R.mib (again_in M s) s =
     c.asks.ensures
     ∙ ap (λ (m : MachineFields). Turning.asks m.state.mib m.state.world t) is
     ∙ asks_same R.mib (again_in M s) R.sessions s t (passed R.now s.timer Again) c.args.index e
     (ap (λ (xs : List SessionFields). slice_get xs c.args.index) (sym renewed) ∙ c.session-then-acknowledged.ensures) in
     again_turns M _ c.with_naks.result s (c.requires.due s e) is
-    (says_naks M c.with_naks.result c.said-answer.result s c.name-id.result (joined c.asks.result)
+    (says_naks M c.with_naks.result c.said-answer.result s c.name-id.result (all_naks c.asks.result)
     c.name-id.ensures c.said-answer.ensures c.with_naks.ensures asked other mode)

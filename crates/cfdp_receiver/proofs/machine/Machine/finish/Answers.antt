@@ -5,7 +5,8 @@ use Rattle.cfdp_sessions.specs.Sessions.{SessionFields, AreDistinct}
 use Rattle.cfdp_sessions.specs.declared.session.Stage.TheVariants.{Held, Over, Waiting}
 use Rattle.cfdp_transactions.specs.declared.outcome.Outcome.{Outcome}
 use Rattle.cfdp_transactions.specs.Writable.{finished_octets}
-use Rattle.cfdp_receiver.specs.Machine.{MachineFields, Concludes}
+use Rattle.cfdp_receiver.specs.Machine.{MachineFields}
+use Rattle.cfdp_receiver.specs.code.Machine.{Concludes}
 use Rattle.cfdp_receiver.specs.Turning.{conclusion_of, stage_outcome}
 use Rattle.cfdp_receiver.proofs.Concluding.{finish_over, over_stage}
 use Rattle.cfdp_receiver.proofs.machine.Machine.finish.Goals as goal

@@ -1,13 +1,14 @@
 use Rattle.std.proofs.Common.{◌<◌, length, Option, sym, ap, subst, ◌∙◌, arith}
 use Rattle.std.specs.Prelude.{slice_get, IfSome}
 use Rattle.cfdp_status.specs.declared.transaction.TransactionId.{TransactionId}
-use Rattle.cfdp_sessions.specs.Sessions.{SessionFields, AreDistinct, name_of}
+use Rattle.cfdp_sessions.specs.Sessions.{SessionFields, AreDistinct, session_id}
 use Rattle.cfdp_transactions.specs.declared.event.Event.TheVariants.{Take}
 use Rattle.cfdp_transactions.specs.declared.outcome.Outcome.{Outcome}
 use Rattle.cfdp_transactions.specs.Engine.{outcome_in}
 use Rattle.cfdp_transactions.specs.Next.{next}
 use Rattle.cfdp_transactions.specs.Writable.{IsWritable, finished_octets}
-use Rattle.cfdp_receiver.specs.Machine.{MachineFields, Concludes, at_moment, in_world}
+use Rattle.cfdp_receiver.specs.Machine.{MachineFields}
+use Rattle.cfdp_receiver.specs.code.Machine.{Concludes, at_moment, in_world}
 use Rattle.cfdp_receiver.specs.Turning.{conclusion_of}
 use Rattle.cfdp_receiver.proofs.Concluding.{caused_is, caused_outcome, finish_taken, follows_told, known_outcome}
 use Rattle.cfdp_receiver.proofs.Endings.{caused_writable, finished_short}
@@ -19,7 +20,7 @@ unreachable-requires c =
     let M = c.args.self.now in
     let s = c.session-session.result.now in
     let none =
-    ap (λ (X : MachineFields). outcome_in X.state.world (name_of s)) (sym c.self.view_is)
+    ap (λ (X : MachineFields). outcome_in X.state.world (session_id s)) (sym c.self.view_is)
     ∙ ap (λ (n : TransactionId). outcome_in c.self.inside.entity n) (sym c.name-id.ensures) ∙ sym c.in_ok-outcome.ensures.outcome ∙ c.in_default.is in
     known_outcome M.state s (subst (λ (X : MachineFields). AreDistinct X.state.sessions) c.self.view_is c.distinct.ensures) c.requires.known
     (c.requires.over ∙ c.session-session.ensures) (c.requires.stage s c.session-session.ensures) none
@@ -66,9 +67,9 @@ returns c =
     let same = caused_is s _ made c.session.inside.cause c.unwrap_or-outcome-inside.result c.outcome-2.view_is cause c.unwrap_or-outcome-inside.ensures in
     let is_made =
     sym c.in-Some.is ∙ c.in_ok-outcome.ensures.outcome ∙ ap (λ (n : TransactionId). outcome_in c.self.inside.entity n) c.name-id.ensures
-    ∙ ap (λ (X : MachineFields). outcome_in X.state.world (name_of s)) v in
+    ∙ ap (λ (X : MachineFields). outcome_in X.state.world (session_id s)) v in
     let told =
-    ap (λ (X : MachineFields). next X.state.world (Take (name_of s))) (sym v)
+    ap (λ (X : MachineFields). next X.state.world (Take (session_id s))) (sym v)
     ∙ ap (λ (n : TransactionId). next c.self.inside.entity (Take n)) (sym c.name-id.ensures)
     ∙ follows_told c.self.inside.entity (Take c.name-id.result) c.hand_out.result V c.hand_out.ensures.follows c.in_default-hand_out.not-Memory in
     let at =

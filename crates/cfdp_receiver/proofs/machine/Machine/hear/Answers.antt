@@ -1,6 +1,6 @@
 use Rattle.std.proofs.Common.{◌≡◌, false, sym, ap, ◌∙◌}
 use Rattle.cfdp_sessions.proofs.Places.{some_same}
-use Rattle.cfdp_receiver.specs.Machine.{awaited_of}
+use Rattle.cfdp_receiver.specs.code.Machine.{awaited_of}
 use Rattle.cfdp_receiver.specs.Turning.{is_news}
 use Rattle.cfdp_receiver.proofs.Kept.{no_news}
 use Rattle.cfdp_receiver.proofs.machine.Machine.hear.Goals as goal

@@ -1,12 +1,12 @@
 use Rattle.std.proofs.Common.{rules, ◌≡◌, ◌∙◌}
 use Rattle.std.specs.Prelude.{slice_get, Some}
-use Rattle.cfdp_sessions.specs.Sessions.{name_of}
+use Rattle.cfdp_sessions.specs.Sessions.{session_id}
 use Rattle.cfdp_sessions.proofs.Names.{found_name}
 use Rattle.cfdp_transactions.specs.Entry.{id_of}
 use Rattle.cfdp_transactions.specs.declared.event.Event.TheVariants.{Data as DataCame}
 use Rattle.cfdp_transactions.specs.Next.{next}
 use Rattle.cfdp_receiver.specs.declared.answer.Became.TheVariants.{Replied}
-use Rattle.cfdp_receiver.specs.Machine.{heard_in, in_world, silent}
+use Rattle.cfdp_receiver.specs.code.Machine.{machine_heard, in_world, silent}
 use Rattle.cfdp_receiver.proofs.InOrder.{only_kept, told_of}
 use Rattle.cfdp_receiver.proofs.NoGap.{none_at_once}
 use Rattle.cfdp_receiver.proofs.machine.Machine.keeps.Goals as goal
@@ -20,10 +20,10 @@ returns c =
     let s = c.session.result.now in
     let here : slice_get M.state.sessions c.args.index ≡ Some s = search rules in
     let found = c.requires.here.found ∙ here in
-    let named : name_of s ≡ id_of h = found_name M.state.sessions (id_of h) s found in
+    let named : session_id s ≡ id_of h = found_name M.state.sessions (id_of h) s found in
     let before : c.self.inside.entity ≡ W = search rules in
     let handed : next W (DataCame h p) ≡ (c.file_data-reply.new.self, c.file_data-reply.result) = search rules in
-    let hears : c.restarts.new.self ≡ heard_in W (in_world (next W (DataCame h p)).0 M) s = search rules in
+    let hears : c.restarts.new.self ≡ machine_heard W (in_world (next W (DataCame h p)).0 M) s = search rules in
     let answers : c.replied.result ≡ record (silent (Replied (id_of h) (next W (DataCame h p)).1)) { indications = told_of (next W (DataCame h p)).1 h p } =
     search rules in
     only_kept M c.restarts.new.self c.replied.result h p s c.requires.ours found (c.requires.known s here) hears

@@ -1,7 +1,7 @@
 use Rattle.std.proofs.Common.{sym, subst}
 use Rattle.cfdp_status.specs.declared.transaction.TransactionId.{TransactionId}
 use Rattle.cfdp_transactions.specs.World.{entry_of}
-use Rattle.cfdp_receiver.specs.Machine.{IsTaking}
+use Rattle.cfdp_receiver.specs.code.Machine.{IsTaking}
 use Rattle.cfdp_receiver.proofs.Limits.{alive_due}
 use Rattle.cfdp_receiver.proofs.Moments.{alive_is_taking}
 use Rattle.cfdp_receiver.proofs.machine.Machine.keeps_alive.Goals as goal

@@ -1,6 +1,7 @@
 use Rattle.std.proofs.Common.{sym, subst, ◌∙◌}
 use Rattle.cfdp_receiver.specs.State.{ForgetAsked}
-use Rattle.cfdp_receiver.specs.Machine.{MachineFields, Turns, at_moment}
+use Rattle.cfdp_receiver.specs.Machine.{MachineFields}
+use Rattle.cfdp_receiver.specs.code.Machine.{Turns, at_moment}
 use Rattle.cfdp_receiver.proofs.Calls.{at_no_moment}
 use Rattle.cfdp_receiver.proofs.Turned.{turned}
 use Rattle.cfdp_receiver.proofs.Whole.{whole_turn}

@@ -2,7 +2,7 @@ use Rattle.std.proofs.Common.{sym, ap, subst, ◌∙◌}
 use Rattle.std.specs.Prelude.{map, slice_get, is_some}
 use Rattle.cfdp_transactions.specs.Entry.{name_of}
 use Rattle.cfdp_transactions.specs.World.{World}
-use Rattle.cfdp_receiver.specs.Machine.{IsWhole}
+use Rattle.cfdp_receiver.specs.code.Machine.{IsWholeReceiver}
 use Rattle.cfdp_receiver.proofs.Calls.{none_named}
 use Rattle.cfdp_receiver.proofs.Whole.{whole_begin}
 use Rattle.cfdp_receiver.proofs.receiver.Receiver.new.Goals as goal
@@ -13,7 +13,7 @@ invariant_of-result c =
     let none =
     ap (λ (X : World). is_some (slice_get (map name_of X.table) 0)) (sym c.core.ensures) ∙ ap is_some (sym c.transaction_at.ensures) ∙ sym c.is_some.ensures
     ∙ c.if-is_some.false in
-    subst IsWhole (sym c.in-Ok.ensures.state) (whole_begin c.args.mib W (none_named W.table none))
+    subst IsWholeReceiver (sym c.in-Ok.ensures.state) (whole_begin c.args.mib W (none_named W.table none))
 
 pub returns-in-Err-clause-err : goal.returns-in-Err-clause-err
 returns-in-Err-clause-err c =

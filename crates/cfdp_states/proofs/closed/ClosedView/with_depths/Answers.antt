@@ -12,5 +12,6 @@ returns-clause-told g c =
     let G = alone (only c.args.footprint.now F) [] in
     let m = c.in_ok-extents.extents in
     subst (λ (v : Sketch). IsPartViewOf c.args.known v c.in_ok-extents.closed.items G (blocks G) (blocks G) 0) (sym c.begun-view.ensures)
-    (closed_view c.args.known c.args.footprint.now F c.args.protected.now m c.in_ok-extents.closed.items c.in_ok-extents.ensures.extents c.in_ok-extents.ensures.small
+    (closed_view c.args.known c.args.footprint.now F c.args.protected.now m c.in_ok-extents.closed.items c.in_ok-extents.ensures.extents
+    c.in_ok-extents.ensures.small
     (omega (arith, c.blocks-2.ensures.value, c.if-blocks-gt-MOST_BLOCKS.false)))

@@ -1,6 +1,6 @@
 use Rattle.std.proofs.Common.{◌≡◌, ◌+◌, ◌/◌, ◌%◌, min, ℕ, sym, ◌∙◌, ap, arith}
 use Rattle.cfdp_actions.specs.Filestore.{blocks_of}
-use Rattle.cfdp_states.specs.Sketching.{extent_content}
+use Rattle.cfdp_states.specs.code.Sketching.{extent_content}
 use Rattle.cfdp_states.proofs.extent.Extent.content.Goals as goal
 
 -- one more where the last block is not full

@@ -1,5 +1,5 @@
 use Rattle.std.proofs.Common.{sym, ap, ◌∙◌, length, arith}
-use Rattle.cfdp_states.specs.Sketching.{total_weight, total_blocks}
+use Rattle.cfdp_states.specs.code.Sketching.{total_weight, total_blocks}
 use Rattle.cfdp_states.proofs.Counted.{entries-map, few_blocks}
 use Rattle.cfdp_states.proofs.extents.Extents.blocks.Goals as goal
 

@@ -1,6 +1,6 @@
 use Rattle.std.proofs.Common.{ap, ◌∙◌, arith}
 use Rattle.std.specs.FinMap.{from_sorted, insert}
-use Rattle.cfdp_states.specs.Sketching.{weight_in}
+use Rattle.cfdp_states.specs.code.Sketching.{weight_in}
 use Rattle.cfdp_states.proofs.Counted.{put_map, put_counted, weight_within, kept_count}
 use Rattle.cfdp_states.proofs.extents.Extents.insert.Goals as goal
 

@@ -1,6 +1,6 @@
 use Rattle.std.proofs.Common.{ap, sym, is_some, true≢false, ◌∙◌, arith}
 use Rattle.std.specs.FinMap.{from_sorted, insert}
-use Rattle.cfdp_states.specs.Sketching.{weight_in}
+use Rattle.cfdp_states.specs.code.Sketching.{weight_in}
 use Rattle.cfdp_states.proofs.Counted.{put_map, put_counted, weight_within, kept_count, kept_find}
 use Rattle.cfdp_states.proofs.extents.Extents.put.Goals as goal
 

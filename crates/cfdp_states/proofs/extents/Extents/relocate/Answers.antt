@@ -1,6 +1,6 @@
 use Rattle.std.proofs.Common.{◌==◌, sym, ap, ◌∙◌, length}
 use Rattle.cfdp_paths.specs.PathMaps.{is_too_deep, tree_in}
-use Rattle.cfdp_states.specs.Sketching.{total_weight}
+use Rattle.cfdp_states.specs.code.Sketching.{total_weight}
 use Rattle.cfdp_states.proofs.Counted.{kept_entries, moved_map, moved_counted, free_counted, none_of}
 use Rattle.cfdp_states.proofs.extents.Extents.relocate.Goals as goal
 

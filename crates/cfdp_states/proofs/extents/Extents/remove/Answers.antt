@@ -1,6 +1,6 @@
 use Rattle.std.proofs.Common.{ap, ◌∙◌, arith}
 use Rattle.std.specs.FinMap.{from_sorted, remove}
-use Rattle.cfdp_states.specs.Sketching.{weight_in}
+use Rattle.cfdp_states.specs.code.Sketching.{weight_in}
 use Rattle.cfdp_states.proofs.Counted.{without_map, without_counted, weight_within}
 use Rattle.cfdp_states.proofs.extents.Extents.remove.Goals as goal
 

@@ -1,7 +1,7 @@
 use Rattle.std.proofs.Common.{refl, sym, subst, []}
 use Rattle.cfdp_actions.specs.Filestore.{blocks}
 use Rattle.cfdp_states.specs.Alone.{alone}
-use Rattle.cfdp_states.specs.Sketching.{total_blocks}
+use Rattle.cfdp_states.specs.code.Sketching.{total_blocks}
 use Rattle.cfdp_states.specs.Views.{Sketch, only, IsViewOf}
 use Rattle.cfdp_states.proofs.Surveyed.{view_of}
 use Rattle.cfdp_states.proofs.view.View.of.Goals as goal

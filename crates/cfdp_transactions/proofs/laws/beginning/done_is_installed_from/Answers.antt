@@ -1,4 +1,4 @@
-use Rattle.cfdp_transactions.proofs.Installed.{done_from}
+use Rattle.cfdp_transactions.proofs.Promises.Installed.{done_from}
 use Rattle.cfdp_transactions.proofs.laws.beginning.done_is_installed_from.Goals as goal
 
 pub returns : goal.returns

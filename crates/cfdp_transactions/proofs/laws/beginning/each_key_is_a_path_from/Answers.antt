@@ -1,4 +1,4 @@
-use Rattle.cfdp_transactions.proofs.Keys.{each_key_from}
+use Rattle.cfdp_transactions.proofs.Promises.Keys.{each_key_from}
 use Rattle.cfdp_transactions.proofs.laws.beginning.each_key_is_a_path_from.Goals as goal
 
 pub returns : goal.returns

@@ -1,4 +1,4 @@
-use Rattle.cfdp_transactions.proofs.InstallReplies.{first_from}
+use Rattle.cfdp_transactions.proofs.Promises.InstallReplies.{first_from}
 use Rattle.cfdp_transactions.proofs.laws.beginning.first_is_installed_from.Goals as goal
 
 pub returns : goal.returns

@@ -1,6 +1,6 @@
 use Rattle.cfdp_transactions.specs.Beginning.{start_with}
-use Rattle.cfdp_transactions.proofs.Starting.{good_sound}
-use Rattle.cfdp_transactions.proofs.Promise.{at_each}
+use Rattle.cfdp_transactions.proofs.Beginnings.Starting.{good_sound}
+use Rattle.cfdp_transactions.proofs.Promises.Promise.{at_each}
 use Rattle.cfdp_transactions.proofs.laws.beginning.headline_from.Goals as goal
 
 pub returns : goal.returns

@@ -1,4 +1,4 @@
-use Rattle.cfdp_transactions.proofs.Outgoing.{fit_from}
+use Rattle.cfdp_transactions.proofs.Promises.Outgoing.{fit_from}
 use Rattle.cfdp_transactions.proofs.laws.beginning.outcomes_fit_from.Goals as goal
 
 pub returns : goal.returns

@@ -1,4 +1,4 @@
-use Rattle.cfdp_transactions.proofs.OctetsAndGaps.{few_gaps}
+use Rattle.cfdp_transactions.proofs.Received.OctetsAndGaps.{few_gaps}
 use Rattle.cfdp_transactions.proofs.laws.received.few_gaps.Goals as goal
 
 pub returns : goal.returns

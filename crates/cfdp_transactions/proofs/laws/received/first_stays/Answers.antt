@@ -1,4 +1,4 @@
-use Rattle.cfdp_transactions.proofs.OctetsAndGaps.{first_stays}
+use Rattle.cfdp_transactions.proofs.Received.OctetsAndGaps.{first_stays}
 use Rattle.cfdp_transactions.proofs.laws.received.first_stays.Goals as goal
 
 pub returns : goal.returns

@@ -1,4 +1,4 @@
-use Rattle.cfdp_transactions.proofs.OctetsAndGaps.{gaps_are_missing}
+use Rattle.cfdp_transactions.proofs.Received.OctetsAndGaps.{gaps_are_missing}
 use Rattle.cfdp_transactions.proofs.laws.received.gaps_are_missing.Goals as goal
 
 pub returns : goal.returns

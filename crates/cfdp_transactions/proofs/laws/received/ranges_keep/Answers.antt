@@ -1,4 +1,4 @@
-use Rattle.cfdp_transactions.proofs.Writing.{ranges_keep}
+use Rattle.cfdp_transactions.proofs.Received.Writing.{ranges_keep}
 use Rattle.cfdp_transactions.proofs.laws.received.ranges_keep.Goals as goal
 
 pub returns : goal.returns

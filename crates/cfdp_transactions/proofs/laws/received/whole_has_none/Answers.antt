@@ -1,4 +1,4 @@
-use Rattle.cfdp_transactions.proofs.Writing.{whole_has_none}
+use Rattle.cfdp_transactions.proofs.Received.Writing.{whole_has_none}
 use Rattle.cfdp_transactions.proofs.laws.received.whole_has_none.Goals as goal
 
 pub returns : goal.returns

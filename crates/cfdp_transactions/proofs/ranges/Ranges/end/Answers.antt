@@ -1,6 +1,6 @@
 use Rattle.std.proofs.Common.{ap, ◌∙◌, arith}
-use Rattle.cfdp_transactions.specs.Pieces.{end_of}
-use Rattle.cfdp_transactions.proofs.RangeSteps.{last_end}
+use Rattle.cfdp_transactions.specs.code.Pieces.{end_of}
+use Rattle.cfdp_transactions.proofs.Received.RangeSteps.{last_end}
 use Rattle.cfdp_transactions.proofs.ranges.Ranges.end.Goals as goal
 
 pub returns-in-len1-up : goal.returns-in-len1-up

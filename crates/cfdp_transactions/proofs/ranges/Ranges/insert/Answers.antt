@@ -1,4 +1,4 @@
-use Rattle.cfdp_transactions.proofs.Writing.{range_is_added}
+use Rattle.cfdp_transactions.proofs.Received.Writing.{range_is_added}
 use Rattle.cfdp_transactions.proofs.ranges.Ranges.insert.Goals as goal
 
 pub invariant_of-self : goal.invariant_of-self

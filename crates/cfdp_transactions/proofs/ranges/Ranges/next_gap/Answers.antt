@@ -1,5 +1,5 @@
 use Rattle.std.proofs.Common.{◌∙◌}
-use Rattle.cfdp_transactions.proofs.RangeSteps.{search_on, search_finds}
+use Rattle.cfdp_transactions.proofs.Received.RangeSteps.{search_on, search_finds}
 use Rattle.cfdp_transactions.proofs.ranges.Ranges.next_gap.Goals as goal
 
 pub returns-then-at-range-clause-some : goal.returns-then-at-range-clause-some

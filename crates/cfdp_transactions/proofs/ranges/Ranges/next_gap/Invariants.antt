@@ -1,5 +1,5 @@
 use Rattle.std.proofs.Common.{drop}
-use Rattle.cfdp_transactions.proofs.RangeSteps.{IsSearched}
+use Rattle.cfdp_transactions.proofs.Received.RangeSteps.{IsSearched}
 use Rattle.cfdp_transactions.proofs.ranges.Ranges.next_gap.Given as goal
 
 abbrev pub invariant-loop-range : goal.invariant-loop-range

@@ -1,4 +1,4 @@
-use Rattle.cfdp_transactions.proofs.RowTable.{found_place, absent_place, same_either_way}
+use Rattle.cfdp_transactions.proofs.KeptTable.TableUnderNames.{found_place, absent_place, same_either_way}
 use Rattle.cfdp_transactions.proofs.table.Table.find.Goals as goal
 
 pub returns-clause-found : goal.returns-clause-found

@@ -1,4 +1,4 @@
-use Rattle.cfdp_transactions.proofs.RowTable.{remove_named, rows-remove}
+use Rattle.cfdp_transactions.proofs.KeptTable.TableUnderNames.{remove_named, rows-remove}
 use Rattle.cfdp_transactions.proofs.table.Table.forget.Goals as goal
 
 pub invariant_of-self : goal.invariant_of-self

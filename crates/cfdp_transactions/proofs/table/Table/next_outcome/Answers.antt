@@ -1,7 +1,7 @@
 use Rattle.std.proofs.Common.{◌≡◌, ◌∙◌, ◌+◌, true, false, ap, drop, sym, add-one}
 use Rattle.cfdp_transactions.specs.Entry.{is_live}
-use Rattle.cfdp_transactions.specs.Rows.{first_over}
-use Rattle.cfdp_transactions.proofs.RowWorld.{over_here, over_later, over_none}
+use Rattle.cfdp_transactions.specs.code.TableEntries.{first_entry_over}
+use Rattle.cfdp_transactions.proofs.KeptTable.WorldOfTable.{over_here, over_later, over_none}
 use Rattle.cfdp_transactions.proofs.table.Table.next_outcome.Goals as goal
 
 pub returns-then-not-is_live : goal.returns-then-not-is_live
@@ -14,7 +14,7 @@ pub loop-place-preserved : goal.loop-place-preserved
 loop-place-preserved c =
     let r = c.at-entry.result.now in
     let live : is_live r.phase ≡ true = ap is_live (sym c.phase.ensures) ∙ sym c.is_live.ensures ∙ c.if-not-is_live.false in
-    let later : first_over (drop c.loop-place.place c.args.self.now) ≡ first_over (drop (c.loop-place.place + 1) c.args.self.now) =
+    let later : first_entry_over (drop c.loop-place.place c.args.self.now) ≡ first_entry_over (drop (c.loop-place.place + 1) c.args.self.now) =
     rw add-one (over_later c.args.self.now c.loop-place.place r c.at-entry.ensures live) in
     c.loop-place.invariant ∙ later
 

@@ -1,7 +1,7 @@
 use Rattle.std.proofs.Common.{◌≡◌, ◌∙◌, ◌+◌, drop, sym, add-one}
 use Rattle.cfdp_transactions.specs.Entry.{Executing}
-use Rattle.cfdp_transactions.specs.Rows.{first_executing}
-use Rattle.cfdp_transactions.proofs.RowWorld.{executing_here, executing_later, executing_none}
+use Rattle.cfdp_transactions.specs.code.TableEntries.{first_executing}
+use Rattle.cfdp_transactions.proofs.KeptTable.WorldOfTable.{executing_here, executing_later, executing_none}
 use Rattle.cfdp_transactions.proofs.table.Table.next_runnable.Goals as goal
 
 pub returns-in-Executing : goal.returns-in-Executing

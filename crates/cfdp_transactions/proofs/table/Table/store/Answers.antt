@@ -1,5 +1,5 @@
 use Rattle.std.proofs.Common.{◌≡◌, ◌∙◌, refl}
-use Rattle.cfdp_transactions.proofs.RowTable.{set_named, rows-set}
+use Rattle.cfdp_transactions.proofs.KeptTable.TableUnderNames.{set_named, rows-set}
 use Rattle.cfdp_transactions.proofs.table.Table.store.Goals as goal
 
 pub invariant_of-self : goal.invariant_of-self

@@ -1,7 +1,7 @@
 use Rattle.std.proofs.Common.{ap, sym, ◌∙◌}
 use Rattle.std.proofs.lemmas.Option.{slice_get-map}
 use Rattle.std.specs.Option.{option_map}
-use Rattle.cfdp_transactions.proofs.RowTable.{remove_named, rows-remove}
+use Rattle.cfdp_transactions.proofs.KeptTable.TableUnderNames.{remove_named, rows-remove}
 use Rattle.cfdp_transactions.proofs.table.Table.take_out.Goals as goal
 
 pub invariant_of-self : goal.invariant_of-self

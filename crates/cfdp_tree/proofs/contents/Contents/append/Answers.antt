@@ -1,14 +1,14 @@
 use Rattle.std.proofs.Common.{◌≡◌, ◌+◌, ℕ, length, length-take, take, sym, ap, ◌∙◌, arith}
 use Rattle.cfdp_actions.specs.Store.{overwritten}
 use Rattle.cfdp_checksum.specs.Checksum.{checksum}
-use Rattle.cfdp_tree.specs.Runs.{octets_in}
-use Rattle.cfdp_tree.specs.Contents.{contents_in}
-use Rattle.cfdp_tree.proofs.Octets.{overwritten-extended}
-use Rattle.cfdp_tree.proofs.Filling.{blocks_of-fits, blocks_of-some}
-use Rattle.cfdp_tree.proofs.ContentsLaws.{length-contents, written_filled, written_contents}
-use Rattle.cfdp_tree.proofs.SpareLaws.{spares_kept, spares_then}
-use Rattle.cfdp_tree.proofs.SummingLaws.{joined_sum}
-use Rattle.cfdp_tree.proofs.WayLaws.{ways_still, keeps_still, keeps_then}
+use Rattle.cfdp_tree.specs.code.Runs.{octets_of_run}
+use Rattle.cfdp_tree.specs.code.Contents.{contents_in}
+use Rattle.cfdp_tree.proofs.OfRuns.OctetsInLists.{overwritten-extended}
+use Rattle.cfdp_tree.proofs.OfRuns.Filling.{blocks_of-fits, blocks_of-some}
+use Rattle.cfdp_tree.proofs.OfRuns.ContentsLaws.{length-contents, written_filled, written_contents}
+use Rattle.cfdp_tree.proofs.OfRuns.SpareLaws.{spares_kept, spares_then}
+use Rattle.cfdp_tree.proofs.OfRuns.SummingLaws.{joined_sum}
+use Rattle.cfdp_tree.proofs.OfRuns.WayLaws.{ways_still, keeps_still, keeps_then}
 use Rattle.cfdp_tree.proofs.contents.Contents.append.Goals as goal
 
 pub copy-requires-clause-source_stays : goal.copy-requires-clause-source_stays
@@ -30,7 +30,7 @@ pub returns-clause-octets : goal.returns-clause-octets
 returns-clause-octets c =
     let a = c.args.arena.now in let old = c.args.self.now in let s = c.args.source.now in let m = c.make_room-to in let r = c.requires in
     let n = old.size in
-    let part = take s.size (octets_in m.new.arena s.run) in
+    let part = take s.size (octets_of_run m.new.arena s.run) in
     let spared = m.ensures.spares s.run r.source.held r.apart in
     let front = contents_in a old in
     let back = contents_in a s in
@@ -43,7 +43,7 @@ returns-clause-octets c =
 pub returns-clause-filled : goal.returns-clause-filled
 returns-clause-filled c =
     let a = c.args.arena.now in let old = c.args.self.now in let s = c.args.source.now in let m = c.make_room-to in let r = c.requires in
-    let part = take s.size (octets_in m.new.arena s.run) in
+    let part = take s.size (octets_of_run m.new.arena s.run) in
     let joined = joined_sum (contents_in a old) (contents_in a s) old.size (length-contents a old r.filled) in
     written_filled m.new.arena m.new.self m.ensures.filled c.copy.new.arena old.size part
     (omega (arith, m.ensures.size, length-take {A = ℕ})) c.copy.ensures.held c.copy.ensures.octets _

@@ -2,14 +2,14 @@ use Rattle.std.proofs.Common.{◌≡◌, ◌+◌, ◌-◌, ◌*◌, ◌≤◌, �
 use Rattle.std.proofs.lemmas.List.{take-take, take-append-le, take_all}
 use Rattle.cfdp_actions.specs.Store.{overwritten}
 use Rattle.cfdp_checksum.specs.Checksum.{checksum}
-use Rattle.cfdp_tree.specs.Runs.{octets_in}
-use Rattle.cfdp_tree.specs.Contents.{contents_in}
-use Rattle.cfdp_tree.proofs.Octets.{overwritten-extended}
-use Rattle.cfdp_tree.proofs.Filling.{blocks_of-fits}
-use Rattle.cfdp_tree.proofs.ContentsLaws.{length-contents, written_filled, written_contents}
-use Rattle.cfdp_tree.proofs.SpareLaws.{spares_kept, spares_then}
-use Rattle.cfdp_tree.proofs.SummingLaws.{joined_sum}
-use Rattle.cfdp_tree.proofs.WayLaws.{ways_still, keeps_still, keeps_then}
+use Rattle.cfdp_tree.specs.code.Runs.{octets_of_run}
+use Rattle.cfdp_tree.specs.code.Contents.{contents_in}
+use Rattle.cfdp_tree.proofs.OfRuns.OctetsInLists.{overwritten-extended}
+use Rattle.cfdp_tree.proofs.OfRuns.Filling.{blocks_of-fits}
+use Rattle.cfdp_tree.proofs.OfRuns.ContentsLaws.{length-contents, written_filled, written_contents}
+use Rattle.cfdp_tree.proofs.OfRuns.SpareLaws.{spares_kept, spares_then}
+use Rattle.cfdp_tree.proofs.OfRuns.SummingLaws.{joined_sum}
+use Rattle.cfdp_tree.proofs.OfRuns.WayLaws.{ways_still, keeps_still, keeps_then}
 use Rattle.cfdp_actions.specs.Filestore.{blocks_of}
 use Rattle.cfdp_tree.proofs.contents.Contents.append_self.Goals as goal
 
@@ -26,7 +26,7 @@ copy-requires-clause-there c =
 
 pub returns-clause-octets : goal.returns-clause-octets
 returns-clause-octets c =
-    let old = c.args.self.now in let n = old.size in let m = c.make_room-to in let run = octets_in m.new.arena m.new.self.run in
+    let old = c.args.self.now in let n = old.size in let m = c.make_room-to in let run = octets_of_run m.new.arena m.new.self.run in
     let octets = contents_in c.args.arena.now old in
     let long : length octets ≡ n = length-contents c.args.arena.now old c.requires.filled in
     let front : take n run ≡ octets =
@@ -42,7 +42,7 @@ returns-clause-octets c =
 pub returns-clause-filled : goal.returns-clause-filled
 returns-clause-filled c =
     let a = c.args.arena.now in let old = c.args.self.now in let n = old.size in let m = c.make_room-to in let copy = c.copy.ensures in
-    let part = take n (octets_in m.new.arena m.new.self.run) in let fits : n + length part ≤ m.new.self.size =
+    let part = take n (octets_of_run m.new.arena m.new.self.run) in let fits : n + length part ≤ m.new.self.size =
     omega (arith, m.ensures.size, length-take {A = ℕ}) in
     let joined = joined_sum (contents_in a old) (contents_in a old) n (length-contents a old c.requires.filled) in
     written_filled m.new.arena m.new.self m.ensures.filled c.copy.new.arena n part fits copy.held copy.octets _

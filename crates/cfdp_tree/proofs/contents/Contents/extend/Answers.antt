@@ -1,12 +1,12 @@
 use Rattle.std.proofs.Common.{◌-◌, ◌*◌, take, drop, replicate, sym, ap, ◌∙◌, arith}
 use Rattle.cfdp_checksum.specs.Checksum.{checksum}
-use Rattle.cfdp_tree.specs.Runs.{octets_in}
-use Rattle.cfdp_tree.specs.Contents.{contents_in}
-use Rattle.cfdp_tree.proofs.RunLaws.{length-run}
-use Rattle.cfdp_tree.proofs.Filling.{extended_octets, extended_zeros, blocks_of-fits, blocks_of-le, blocks_of-most}
-use Rattle.cfdp_tree.proofs.SpareLaws.{spares_grown}
-use Rattle.cfdp_tree.proofs.SummingLaws.{extended_sum}
-use Rattle.cfdp_tree.proofs.WayLaws.{keeps_spared}
+use Rattle.cfdp_tree.specs.code.Runs.{octets_of_run}
+use Rattle.cfdp_tree.specs.code.Contents.{contents_in}
+use Rattle.cfdp_tree.proofs.OfRuns.RunLaws.{length-run}
+use Rattle.cfdp_tree.proofs.OfRuns.Filling.{extended_octets, extended_zeros, blocks_of-fits, blocks_of-le, blocks_of-most}
+use Rattle.cfdp_tree.proofs.OfRuns.SpareLaws.{spares_grown}
+use Rattle.cfdp_tree.proofs.OfRuns.SummingLaws.{extended_sum}
+use Rattle.cfdp_tree.proofs.OfRuns.WayLaws.{keeps_spared}
 use Rattle.cfdp_tree.proofs.contents.Contents.extend.Goals as goal
 
 pub grow_to-requires-clause-more : goal.grow_to-requires-clause-more
@@ -20,7 +20,7 @@ pub returns-clause-octets : goal.returns-clause-octets
 returns-clause-octets c =
     let f = c.requires.filled in let old = c.args.self.now in let run = old.run in let size = c.args.size in let n = c.blocks_of.result in let g =
     c.grow_to.ensures in
-    let xs = octets_in c.args.arena.now run in
+    let xs = octets_of_run c.args.arena.now run in
     let long = length-run c.args.arena.now run.first 0 run.count run.first f.held.parts in
     let least = blocks_of-fits old.size in
     let fits = blocks_of-fits size in
@@ -33,7 +33,7 @@ pub returns-clause-filled : goal.returns-clause-filled
 returns-clause-filled c =
     let f = c.requires.filled in let old = c.args.self.now in let run = old.run in let size = c.args.size in let n = c.blocks_of.result in let g =
     c.grow_to.ensures in
-    let xs = octets_in c.args.arena.now run in
+    let xs = octets_of_run c.args.arena.now run in
     let long = length-run c.args.arena.now run.first 0 run.count run.first f.held.parts in
     let least = blocks_of-fits old.size in
     let fits = blocks_of-fits size in

@@ -1,7 +1,7 @@
 use Rattle.std.proofs.Common.{◌≤◌, length, ◌∙◌, arith}
-use Rattle.cfdp_tree.specs.Runs.{octets_in}
-use Rattle.cfdp_tree.proofs.RunLaws.{length-run}
-use Rattle.cfdp_tree.proofs.Filling.{front_read, blocks_of-fits}
+use Rattle.cfdp_tree.specs.code.Runs.{octets_of_run}
+use Rattle.cfdp_tree.proofs.OfRuns.RunLaws.{length-run}
+use Rattle.cfdp_tree.proofs.OfRuns.Filling.{front_read, blocks_of-fits}
 use Rattle.cfdp_tree.proofs.contents.Contents.get.Goals as goal
 
 pub read-requires-clause-range : goal.read-requires-clause-range
@@ -10,7 +10,7 @@ read-requires-clause-range c = omega (arith, c.requires.filled.blocks, c.require
 pub returns-clause-octets : goal.returns-clause-octets
 returns-clause-octets c =
     let f = c.requires.filled in let old = c.args.self.now in let run = old.run in
-    let xs = octets_in c.args.arena.now run in
+    let xs = octets_of_run c.args.arena.now run in
     let long = length-run c.args.arena.now run.first 0 run.count run.first f.held.parts in
     let there : old.size ≤ length xs = omega (arith, long, f.blocks, blocks_of-fits old.size) in
     c.read.ensures.octets ∙ front_read xs old.size there c.args.at (length c.args.buffer.now) c.requires.range

@@ -1,6 +1,6 @@
 use Rattle.std.proofs.Common.{◌-◌, sym, ap, ◌∙◌, arith}
-use Rattle.cfdp_tree.specs.Runs.{nth}
-use Rattle.cfdp_tree.proofs.Filling.{blocks_of-le}
+use Rattle.cfdp_tree.specs.code.Runs.{nth}
+use Rattle.cfdp_tree.proofs.OfRuns.Filling.{blocks_of-le}
 use Rattle.cfdp_tree.proofs.contents.Contents.make_room.Goals as goal
 
 pub returns-else-none-clause-place : goal.returns-else-none-clause-place

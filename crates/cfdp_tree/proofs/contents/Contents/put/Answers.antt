@@ -1,10 +1,10 @@
 use Rattle.std.proofs.Common.{sym, ap, ◌∙◌, arith}
 use Rattle.cfdp_checksum.specs.Checksum.{checksum}
-use Rattle.cfdp_tree.specs.Contents.{contents_in}
-use Rattle.cfdp_tree.proofs.Filling.{blocks_of-fits}
-use Rattle.cfdp_tree.proofs.ContentsLaws.{length-contents, written_filled, written_contents}
-use Rattle.cfdp_tree.proofs.SpareLaws.{spares_kept}
-use Rattle.cfdp_tree.proofs.SummingLaws.{replaced_sum}
+use Rattle.cfdp_tree.specs.code.Contents.{contents_in}
+use Rattle.cfdp_tree.proofs.OfRuns.Filling.{blocks_of-fits}
+use Rattle.cfdp_tree.proofs.OfRuns.ContentsLaws.{length-contents, written_filled, written_contents}
+use Rattle.cfdp_tree.proofs.OfRuns.SpareLaws.{spares_kept}
+use Rattle.cfdp_tree.proofs.OfRuns.SummingLaws.{replaced_sum}
 use Rattle.cfdp_tree.proofs.contents.Contents.put.Goals as goal
 
 pub write-last-requires-clause-range : goal.write-last-requires-clause-range

@@ -1,4 +1,4 @@
-use Rattle.cfdp_tree.proofs.SpareLaws.{spares_kept}
+use Rattle.cfdp_tree.proofs.OfRuns.SpareLaws.{spares_kept}
 use Rattle.cfdp_tree.proofs.contents.Contents.release.Goals as goal
 
 pub returns-clause-spares : goal.returns-clause-spares

@@ -1,9 +1,9 @@
 use Rattle.std.proofs.Common.{◌≡◌, ◌+◌, ◌++◌, sym, ap, ◌∙◌, arith}
 use Rattle.cfdp_actions.specs.Filestore.{blocks_of}
-use Rattle.cfdp_tree.proofs.Filling.{blocks_of-none}
-use Rattle.cfdp_tree.proofs.ContentsLaws.{none_filled, none_contents, stays_filled, stays_contents}
-use Rattle.cfdp_tree.proofs.SpareLaws.{spares_then}
-use Rattle.cfdp_tree.proofs.WayLaws.{ways_none, keeps_still, keeps_then}
+use Rattle.cfdp_tree.proofs.OfRuns.Filling.{blocks_of-none}
+use Rattle.cfdp_tree.proofs.OfRuns.ContentsLaws.{none_filled, none_contents, stays_filled, stays_contents}
+use Rattle.cfdp_tree.proofs.OfRuns.SpareLaws.{spares_then}
+use Rattle.cfdp_tree.proofs.OfRuns.WayLaws.{ways_none, keeps_still, keeps_then}
 use Rattle.cfdp_tree.proofs.contents.Contents.replace.Goals as goal
 
 pub append-requires-clause-filled : goal.append-requires-clause-filled

@@ -1,9 +1,9 @@
 use Rattle.std.proofs.Common.{◌≡◌, ◌+◌, ◌-◌, take, ap, ◌∙◌, arith}
 use Rattle.cfdp_checksum.specs.Checksum.{checksum_at}
 use Rattle.cfdp_checksum.proofs.ChecksumSteps.{only-places-count}
-use Rattle.cfdp_tree.specs.Runs.{octets_in}
-use Rattle.cfdp_tree.specs.Contents.{contents_in}
-use Rattle.cfdp_tree.proofs.Filling.{blocks_of-fits}
+use Rattle.cfdp_tree.specs.code.Runs.{octets_of_run}
+use Rattle.cfdp_tree.specs.code.Contents.{contents_in}
+use Rattle.cfdp_tree.proofs.OfRuns.Filling.{blocks_of-fits}
 use Rattle.cfdp_tree.proofs.contents.Contents.sum_at.Goals as goal
 
 pub sum_of-requires-clause-range : goal.sum_of-requires-clause-range
@@ -16,4 +16,4 @@ returns-then-offset-eq0 c = c.requires.filled.summed ∙ only-places-count 0 c.a
 pub returns : goal.returns
 returns c =
     let old = c.args.self.now in let all : 0 + old.size - 0 ≡ old.size = omega arith in
-    c.sum_of.ensures ∙ ap (λ n. checksum_at c.args.offset (take n (octets_in c.args.arena.now old.run))) all
+    c.sum_of.ensures ∙ ap (λ n. checksum_at c.args.offset (take n (octets_of_run c.args.arena.now old.run))) all

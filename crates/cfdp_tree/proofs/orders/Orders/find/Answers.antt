@@ -4,26 +4,26 @@ use Rattle.std.specs.Prelude.{All, Contains, IfNone}
 use Rattle.cfdp_arena.specs.Arena.{Blocks}
 use Rattle.cfdp_paths.specs.Paths.{Name}
 use Rattle.cfdp_order.specs.Orders as trees
-use Rattle.cfdp_order.specs.Orders.{times, SplitsFrom}
+use Rattle.cfdp_order.specs.Orders.{times_in, SplitsFrom}
 use Rattle.cfdp_order.proofs.MemberLaws.{contains_times}
 use Rattle.cfdp_order.proofs.SortedLaws.{splits_from}
 use Rattle.cfdp_tree.specs.declared.orders.Orders.{Orders}
-use Rattle.cfdp_tree.specs.Row.{row_of, name_of}
-use Rattle.cfdp_tree.specs.Nodes.{nodes_in}
-use Rattle.cfdp_tree.specs.Tree.{name_at, IsEntry}
-use Rattle.cfdp_tree.specs.Entries.{IsMember}
-use Rattle.cfdp_tree.specs.Next.{name_cmp}
-use Rattle.cfdp_tree.specs.Orders.{in_order, IsOrdered}
-use Rattle.cfdp_tree.proofs.TreeLaws.{node_live, node_octets}
-use Rattle.cfdp_tree.proofs.OrderLaws.{member_at, place_inside}
-use Rattle.cfdp_tree.proofs.SortLaws.{at_times, less_first, none_from, other_from, there_from}
+use Rattle.cfdp_tree.specs.code.NodeFields.{node_fields_of, node_name}
+use Rattle.cfdp_tree.specs.code.Nodes.{nodes_in}
+use Rattle.cfdp_tree.specs.code.Tree.{name_at, IsEntry}
+use Rattle.cfdp_tree.specs.code.Entries.{IsMember}
+use Rattle.cfdp_tree.specs.code.Next.{name_cmp}
+use Rattle.cfdp_tree.specs.code.Orders.{in_order, IsInOrders}
+use Rattle.cfdp_tree.proofs.OfNodes.TreeLaws.{node_live, node_octets}
+use Rattle.cfdp_tree.proofs.OfOrders.OrderLaws.{member_at, place_inside}
+use Rattle.cfdp_tree.proofs.OfOrders.SortLaws.{at_times, less_first, none_from, other_from, there_from}
 use Rattle.cfdp_tree.proofs.orders.Orders.find.Goals as goal
 
 pub of-order-requires : goal.of-order-requires
 of-order-requires c = record { within = place_inside (nodes_in c.args.arena.now) c.args.self.now _ c.args.directory.now c.requires.ordered c.requires.place }
 
 -- what a search for a name finds
-module _ (nodes : Blocks) (orders : Orders) (place : Option ℕ) (ordered : IsOrdered nodes orders None) (name : Name) (list : List ℕ) (is : list
+module _ (nodes : Blocks) (orders : Orders) (place : Option ℕ) (ordered : IsInOrders nodes orders None) (name : Name) (list : List ℕ) (is : list
     ≡ in_order orders place) (r : Option ℕ)
     (ends : (before after : List ℕ) → list ≡ before ++ after → SplitsFrom (λ m. name_cmp (name_at nodes m) name) before after → r ≡ slice_get after 0) where
   abbrev own : List ℕ
@@ -73,7 +73,7 @@ name_is-requires-clause-fits c =
     let member = found_member (nodes_in arena) c.args.self.now c.args.directory.now c.requires.ordered c.args.name.now _
     (λ k. trees.nodes (c.deref.ensures.value k) (c.of-order.ensures k))
     c.first_from.result c.first_from.ensures b (c.in_ok-found.was ∙ ap Some (sym number)) in
-    subst (λ o. (row_of o).name_length ≤ 96) (sym (node_octets arena b member.node c.bytes.result.now c.bytes.ensures.octets))
+    subst (λ o. (node_fields_of o).name_length ≤ 96) (sym (node_octets arena b member.node c.bytes.result.now c.bytes.ensures.octets))
     (c.requires.tree.named b member.node).fits
 
 pub returns-then-name_is-clause-found : goal.returns-then-name_is-clause-found
@@ -85,7 +85,7 @@ returns-then-name_is-clause-found c =
     record {
       node = member.node;
       there = member.there;
-      named = ap name_of (sym (node_octets arena b member.node c.bytes.result.now c.bytes.ensures.octets)) ∙ c.name_is.ensures.0 c.if-name_is.true;
+      named = ap node_name (sym (node_octets arena b member.node c.bytes.result.now c.bytes.ensures.octets)) ∙ c.name_is.ensures.0 c.if-name_is.true;
     }
 
 false_true : {b : Bool} → b ≡ false → b ≡ true → ⊥
@@ -99,5 +99,5 @@ returns-else-name_is-clause-none c =
     (λ k. trees.nodes (c.deref.ensures.value k) (c.of-order.ensures k)) c.first_from.result c.first_from.ensures b some in
     other_entry (nodes_in arena) c.args.self.now c.args.directory.now c.requires.ordered c.args.name.now _
     (λ k. trees.nodes (c.deref.ensures.value k) (c.of-order.ensures k)) c.first_from.result c.first_from.ensures b some
-    (λ same. false_true c.if-name_is.false (c.name_is.ensures.1 (ap name_of (node_octets arena b member.node c.bytes.result.now c.bytes.ensures.octets)
+    (λ same. false_true c.if-name_is.false (c.name_is.ensures.1 (ap node_name (node_octets arena b member.node c.bytes.result.now c.bytes.ensures.octets)
     ∙ same)))

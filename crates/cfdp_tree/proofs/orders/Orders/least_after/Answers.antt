@@ -8,12 +8,12 @@ use Rattle.cfdp_order.specs.Orders as trees
 use Rattle.cfdp_order.specs.Orders.{SplitsAfter}
 use Rattle.cfdp_order.proofs.SortedLaws.{splits_after}
 use Rattle.cfdp_tree.specs.declared.orders.Orders.{Orders}
-use Rattle.cfdp_tree.specs.Nodes.{nodes_in}
-use Rattle.cfdp_tree.specs.Tree.{name_at}
-use Rattle.cfdp_tree.specs.Next.{name_cmp, IsBehind, IsLeast}
-use Rattle.cfdp_tree.specs.Orders.{in_order, IsOrdered}
-use Rattle.cfdp_tree.proofs.OrderLaws.{place_inside}
-use Rattle.cfdp_tree.proofs.SortLaws.{first_least, after_least, greater_last}
+use Rattle.cfdp_tree.specs.code.Nodes.{nodes_in}
+use Rattle.cfdp_tree.specs.code.Tree.{name_at}
+use Rattle.cfdp_tree.specs.code.Next.{name_cmp, IsBehind, IsLeast}
+use Rattle.cfdp_tree.specs.code.Orders.{in_order, IsInOrders}
+use Rattle.cfdp_tree.proofs.OfOrders.OrderLaws.{place_inside}
+use Rattle.cfdp_tree.proofs.OfOrders.SortLaws.{first_least, after_least, greater_last}
 use Rattle.cfdp_tree.proofs.orders.Orders.least_after.Goals as goal
 use Rattle.cfdp_tree.proofs.orders.Orders.least_after.Goals.{in-Some+in_ok-found-in-Some, in-None+in_ok-found-in-None}
 
@@ -24,7 +24,7 @@ of-order-requires c = record { within = place_inside (nodes_in c.args.arena.now)
 abbrev Told : Blocks → Option Name → List ℕ → Option ℕ → Type 0
 Told nodes after list r = IfSome r (IsLeast nodes after list) × IfNone r (All (λ c. IsBehind after (name_at nodes c) → ⊥) list)
 
-told : (nodes : Blocks) (orders : Orders) (place : Option ℕ) (ordered : IsOrdered nodes orders None) (name : Name) (list : List ℕ) → list
+told : (nodes : Blocks) (orders : Orders) (place : Option ℕ) (ordered : IsInOrders nodes orders None) (name : Name) (list : List ℕ) → list
     ≡ in_order orders place → (r : Option ℕ)
     → ((before after : List ℕ) → list ≡ before ++ after → SplitsAfter (λ m. name_cmp (name_at nodes m) name) before after → r ≡ slice_get after 0) →
     Told nodes (Some name) (in_order orders place) r

@@ -1,8 +1,8 @@
 use Rattle.std.proofs.Common.{◌∷◌, ◌++◌, sym, ap, ◌∙◌}
 use Rattle.std.proofs.lemmas.List.{with_items_is}
 use Rattle.cfdp_order.specs.Orders as trees
-use Rattle.cfdp_tree.specs.Nodes.{nodes_in}
-use Rattle.cfdp_tree.proofs.OrderLaws.{left, same_others, place_inside, home_node}
+use Rattle.cfdp_tree.specs.code.Nodes.{nodes_in}
+use Rattle.cfdp_tree.proofs.OfOrders.OrderLaws.{left, same_others, place_inside, home_node}
 use Rattle.cfdp_tree.proofs.orders.Orders.leave.Goals as goal
 
 pub of-order-requires : goal.of-order-requires

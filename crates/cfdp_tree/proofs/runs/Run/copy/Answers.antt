@@ -1,11 +1,11 @@
 use Rattle.std.proofs.Common.{◌≡◌, ◌+◌, ◌*◌, ◌/◌, ◌%◌, ◌≤◌, min, take, length, sym, ◌∙◌, arith}
 use Rattle.std.specs.Prelude.{slice_range}
 use Rattle.cfdp_actions.specs.Store.{overwritten}
-use Rattle.cfdp_tree.specs.Runs.{octets_in, KeepsFront}
-use Rattle.cfdp_tree.proofs.Octets.{step_copy, slice-first}
-use Rattle.cfdp_tree.proofs.RunLaws.{length-run}
-use Rattle.cfdp_tree.proofs.HeldLaws.{others_then}
-use Rattle.cfdp_tree.proofs.FrontLaws.{front_held, front_nth, front_take}
+use Rattle.cfdp_tree.specs.code.Runs.{octets_of_run, KeepsFront}
+use Rattle.cfdp_tree.proofs.OfRuns.OctetsInLists.{step_copy, slice-first}
+use Rattle.cfdp_tree.proofs.OfRuns.RunLaws.{length-run}
+use Rattle.cfdp_tree.proofs.OfRuns.HeldLaws.{others_then}
+use Rattle.cfdp_tree.proofs.OfRuns.FrontLaws.{front_held, front_nth, front_take}
 use Rattle.cfdp_tree.proofs.runs.Run.copy.Goals as goal
 
 pub copy_block-requires-clause-source_stays : goal.copy_block-requires-clause-source_stays
@@ -17,7 +17,7 @@ after-from-requires-clause-held c =
     let l = c.loop-index in let inv = l.invariant in let run = c.args.self.now in let e = c.copy_block.ensures in
     let q = 120 * l.target.index + c.args.at % 120 in
     let keeps : KeepsFront run q c.args.source.now c.args.len = (λ same. let r = c.requires.source_stays same in (r.0, omega (arith, r.1, inv.target_index))) in
-    let within : q ≤ length (octets_in l.arena run) = omega (arith, inv.target_index, length-run l.arena run.first 0 run.count run.first inv.held.parts) in
+    let within : q ≤ length (octets_of_run l.arena run) = omega (arith, inv.target_index, length-run l.arena run.first 0 run.count run.first inv.held.parts) in
     front_held l.arena c.copy_block.new.arena run c.args.source.now q c.args.len _ keeps e.held e.octets within e.places e.others inv.source
 
 pub after-from-requires-clause-place : goal.after-from-requires-clause-place
@@ -25,7 +25,7 @@ after-from-requires-clause-place c =
     let l = c.loop-index in let inv = l.invariant in let run = c.args.self.now in let e = c.copy_block.ensures in
     let q = 120 * l.target.index + c.args.at % 120 in
     let keeps : KeepsFront run q c.args.source.now c.args.len = (λ same. let r = c.requires.source_stays same in (r.0, omega (arith, r.1, inv.target_index))) in
-    let within : q ≤ length (octets_in l.arena run) = omega (arith, inv.target_index, length-run l.arena run.first 0 run.count run.first inv.held.parts) in
+    let within : q ≤ length (octets_of_run l.arena run) = omega (arith, inv.target_index, length-run l.arena run.first 0 run.count run.first inv.held.parts) in
     let still = front_nth l.arena c.copy_block.new.arena run c.args.source.now q c.args.len _ keeps e.held e.octets within e.places e.others inv.source in
     (inv.from.0, inv.from.1 ∙ sym (still l.from.index inv.from.0))
 
@@ -35,17 +35,17 @@ loop-index-preserved c =
     c.args.source.now in
     let at = c.args.at in let len = c.args.len in let n = c.min-count.result in
     let after = c.copy_block.new.arena in let e = c.copy_block.ensures in
-    let src = octets_in a source in let old = octets_in a run in
+    let src = octets_of_run a source in let old = octets_of_run a run in
     let i = l.index in let q = 120 * l.target.index + at % 120 in
     let p = 120 * (at / 120 + i) + at % 120 in
     let long = length-run a source.first 0 source.count source.first r.source.parts in
     let old_long = length-run a run.first 0 run.count run.first r.held.parts in
-    let within : q ≤ length (octets_in l.arena run) = omega (arith, inv.target_index, length-run l.arena run.first 0 run.count run.first inv.held.parts) in
+    let within : q ≤ length (octets_of_run l.arena run) = omega (arith, inv.target_index, length-run l.arena run.first 0 run.count run.first inv.held.parts) in
     let p_is : p ≡ at + 120 * i = omega arith in
     let keeps : KeepsFront run q source len = (λ same. let s = r.source_stays same in (s.0, omega (arith, s.1, inv.target_index))) in
     let start = 120 * l.from.index in
-    let part : slice_range (octets_in l.arena source) start (start + n) ≡ slice_range src start (start + n) =
-    slice-first (octets_in l.arena source) src len start (start + n) (omega (arith, inv.from_index)) inv.source_octets in
+    let part : slice_range (octets_of_run l.arena source) start (start + n) ≡ slice_range src start (start + n) =
+    slice-first (octets_of_run l.arena source) src len start (start + n) (omega (arith, inv.from_index)) inv.source_octets in
     record {
       held = e.held;
       octets = e.octets

@@ -1,10 +1,10 @@
 use Rattle.std.proofs.Common.{◌≡◌, ◌+◌, ◌-◌, ◌*◌, ◌≤◌, ℕ, length, length-take, length-drop, ap, ◌∙◌, sym, arith}
 use Rattle.std.specs.Prelude.{slice_range}
 use Rattle.cfdp_actions.specs.Store.{overwritten}
-use Rattle.cfdp_tree.specs.Runs.{octets_in}
-use Rattle.cfdp_tree.proofs.Octets.{overwritten-join, slice_join, slice-first}
-use Rattle.cfdp_tree.proofs.RunLaws.{length-run}
-use Rattle.cfdp_tree.proofs.FrontLaws.{front_held, front_nth, front_take}
+use Rattle.cfdp_tree.specs.code.Runs.{octets_of_run}
+use Rattle.cfdp_tree.proofs.OfRuns.OctetsInLists.{overwritten-join, slice_join, slice-first}
+use Rattle.cfdp_tree.proofs.OfRuns.RunLaws.{length-run}
+use Rattle.cfdp_tree.proofs.OfRuns.FrontLaws.{front_held, front_nth, front_take}
 use Rattle.cfdp_tree.proofs.runs.Run.copy_block.Goals as goal
 
 pub copy_in-requires-3-clause-source : goal.copy_in-requires-3-clause-source
@@ -24,7 +24,7 @@ copy_in-requires-3-clause-from c =
 pub returns-clause-octets : goal.returns-clause-octets
 returns-clause-octets c =
     let r = c.requires in let a = c.args.arena.now in let run = c.args.self.now in let source = c.args.source.now in
-    let src = octets_in a source in let old = octets_in a run in
+    let src = octets_of_run a source in let old = octets_of_run a run in
     let at = c.args.to.now.at in let n = c.args.count in let room = 120 - at in
     let base = 120 * c.args.from.now.index in let p = 120 * c.args.to.now.cursor.index + at in
     let e = c.copy_in-2.ensures in
@@ -34,8 +34,8 @@ returns-clause-octets c =
     let within : p ≤ length old = omega (arith, old_long) in
     let same = front_take a c.copy_in-2.new.arena run source p (base + n) _ r.source_stays e.held e.octets within e.places e.others r.source in
     let start = base + room in
-    let rest : slice_range (octets_in c.copy_in-2.new.arena source) start (start + (n - room)) ≡ slice_range src start (start + (n - room)) =
-    slice-first (octets_in c.copy_in-2.new.arena source) src (base + n) start (start + (n - room)) (omega arith) same in
+    let rest : slice_range (octets_of_run c.copy_in-2.new.arena source) start (start + (n - room)) ≡ slice_range src start (start + (n - room)) =
+    slice-first (octets_of_run c.copy_in-2.new.arena source) src (base + n) start (start + (n - room)) (omega arith) same in
     let none : base + 0 ≡ base = omega arith in
     let first_end : base + 0 + room ≡ base + room = omega arith in
     let last_end : base + room + (n - room) ≡ base + n = omega arith in

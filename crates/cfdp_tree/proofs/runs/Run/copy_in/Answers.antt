@@ -3,14 +3,14 @@ use Rattle.std.proofs.lemmas.List.{drop-drop}
 use Rattle.cfdp_arena.specs.Arena.{octets_at, octets_of, free_count}
 use Rattle.cfdp_arena.specs.Blocks.{with_part, payload_part}
 use Rattle.cfdp_actions.specs.Store.{overwritten}
-use Rattle.cfdp_tree.specs.Block.{payload}
-use Rattle.cfdp_tree.specs.Nodes.{nodes_in}
-use Rattle.cfdp_tree.specs.Runs.{octets, octets_in, nth, IsHeld, OthersStay}
-use Rattle.cfdp_tree.proofs.Counts.{free_count-written}
-use Rattle.cfdp_tree.proofs.BlockLaws.{header-part, payload-part, whole-part}
-use Rattle.cfdp_tree.proofs.Octets.{slice_is}
-use Rattle.cfdp_tree.proofs.RunLaws.{run_slice}
-use Rattle.cfdp_tree.proofs.HeldLaws.{held_part, put_held, put_nth, put_others, put_octets, put_nodes}
+use Rattle.cfdp_tree.specs.code.Block.{payload}
+use Rattle.cfdp_tree.specs.code.Nodes.{nodes_in}
+use Rattle.cfdp_tree.specs.code.Runs.{octets, octets_of_run, nth, IsHeld, OtherRunsStay}
+use Rattle.cfdp_tree.proofs.OfRuns.Counts.{free_count-written}
+use Rattle.cfdp_tree.proofs.OfRuns.BlockLaws.{header-part, payload-part, whole-part}
+use Rattle.cfdp_tree.proofs.OfRuns.OctetsInLists.{slice_is}
+use Rattle.cfdp_tree.proofs.OfRuns.RunLaws.{run_slice}
+use Rattle.cfdp_tree.proofs.OfRuns.HeldLaws.{held_part, put_held, put_nth, put_others, put_octets, put_nodes}
 use Rattle.cfdp_tree.proofs.runs.Run.copy_in.Goals as goal
 
 pub copy_payload-requires : goal.copy_payload-requires
@@ -40,19 +40,19 @@ returns c =
     let whole = whole-part old at part to.whole fits in
     let same = header-part old at part to.whole in
     let start = 120 * f.index + from_at in
-    let part_is : part ≡ take n (drop start (octets_in a source)) =
+    let part_is : part ≡ take n (drop start (octets_of_run a source)) =
     ap (λ xs. take n xs) (sym (drop-drop from_at 8 (octets_of a f.block)))
     ∙ ap (λ b. take n (drop from_at (payload (octets (octets_at a b))))) r.from.1
     ∙ sym (run_slice a source.first 0 source.count source.first f.index from_at n start r.source.parts r.from_within r.from_fits refl) in
     let target = c.copy_payload.ensures.target in
     record {
       held = subst (λ x. IsHeld x run) (sym target) (put_held a run r.held t.index r.to_within t.block r.to.1 new whole same);
-      octets = ap (λ x. octets_in x run) target
+      octets = ap (λ x. octets_of_run x run) target
           ∙ put_octets a run r.held t.index r.to_within t.block r.to.1 new whole same at part fits (payload-part old at part to.whole)
-          ∙ ap (λ xs. overwritten (octets_in a run) (120 * t.index + at) xs) (part_is ∙ sym (slice_is (octets_in a source) start (start + n) n refl));
+          ∙ ap (λ xs. overwritten (octets_of_run a run) (120 * t.index + at) xs) (part_is ∙ sym (slice_is (octets_of_run a source) start (start + n) n refl));
       places = (λ k le. ap (λ x. nth x run.first k) target ∙ put_nth a run r.held t.index r.to_within t.block r.to.1 new whole same k le);
       free = ap free_count target ∙ free_count-written a t.block new to.live;
       size = ap length target ∙ length-set a t.block (Some new);
-      others = subst (λ x. OthersStay a x run) (sym target) (put_others a run r.held t.index r.to_within t.block r.to.1 new whole same);
+      others = subst (λ x. OtherRunsStay a x run) (sym target) (put_others a run r.held t.index r.to_within t.block r.to.1 new whole same);
       nodes = ap nodes_in target ∙ put_nodes a run r.held t.index r.to_within t.block r.to.1 new whole same;
     }

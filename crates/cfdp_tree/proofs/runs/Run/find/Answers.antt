@@ -1,6 +1,6 @@
 use Rattle.std.proofs.Common.{◌<◌, arith}
-use Rattle.cfdp_tree.proofs.SlotPlaces.{tail_place}
-use Rattle.cfdp_tree.proofs.WayLaws.{on_way, found_at}
+use Rattle.cfdp_tree.proofs.OfStore.SlotPlaces.{tail_place}
+use Rattle.cfdp_tree.proofs.OfRuns.WayLaws.{on_way, found_at}
 use Rattle.cfdp_tree.proofs.runs.Run.find.Goals as goal
 
 pub find_back-requires-clause-on : goal.find_back-requires-clause-on

@@ -1,6 +1,6 @@
 use Rattle.std.proofs.Common.{arith}
-use Rattle.cfdp_tree.proofs.SlotPlaces.{tail_place}
-use Rattle.cfdp_tree.proofs.WayLaws.{on_way, ways_grown}
+use Rattle.cfdp_tree.proofs.OfStore.SlotPlaces.{tail_place}
+use Rattle.cfdp_tree.proofs.OfRuns.WayLaws.{on_way, ways_grown}
 use Rattle.cfdp_tree.proofs.runs.Run.grow.Goals as goal
 
 pub extend_list-requires-clause-on : goal.extend_list-requires-clause-on

@@ -1,12 +1,12 @@
 use Rattle.std.proofs.Common.{◌≡◌, ◌<◌, ◌≤◌, ◌+◌, ◌-◌, ◌*◌, ◌++◌, replicate, refl, ap, ◌∙◌, arith}
 use Rattle.cfdp_arena.specs.Arena.{octets_at}
 use Rattle.cfdp_arena.specs.Blocks.{blank_block}
-use Rattle.cfdp_tree.specs.Block.{payload}
-use Rattle.cfdp_tree.specs.Runs.{octets_in}
+use Rattle.cfdp_tree.specs.code.Block.{payload}
+use Rattle.cfdp_tree.specs.code.Runs.{octets_of_run}
 use Rattle.cfdp_tree.specs.declared.runs.Run.{Run}
-use Rattle.cfdp_tree.proofs.BegunLaws.{IsBegun, begun_first, begun_same, begun_is}
-use Rattle.cfdp_tree.proofs.Filling.{more_zeros}
-use Rattle.cfdp_tree.proofs.HeldLaws.{others_grown}
+use Rattle.cfdp_tree.proofs.OfRuns.BegunLaws.{IsBegun, begun_first, begun_same, begun_is}
+use Rattle.cfdp_tree.proofs.OfRuns.Filling.{more_zeros}
+use Rattle.cfdp_tree.proofs.OfRuns.HeldLaws.{others_grown}
 use Rattle.cfdp_tree.proofs.runs.Run.grow_to.Goals as goal
 use Rattle.cfdp_tree.proofs.runs.Run.grow_to.Goals.{then-self-eq0+then-count-gt0, else-self-eq0, else-self-eq0-via-then-self-eq0+else-count-gt0, else-self-eq0-via-else-self-eq0}
 
@@ -20,7 +20,7 @@ loop-block-preserved c =
       more = omega arith;
       most = omega arith;
       octets = g.octets ∙ ap (λ xs. xs ++ payload blank_block) inv.octets
-          ∙ more_zeros (octets_in a run) (120 * (l._block - run.count)) (120 * (l._block + 1 - run.count)) (omega (arith, inv.more));
+          ∙ more_zeros (octets_of_run a run) (120 * (l._block - run.count)) (120 * (l._block + 1 - run.count)) (omega (arith, inv.more));
       taken = omega (arith, g.taken, inv.taken);
       size = g.size ∙ inv.size;
       some = (λ more. omega arith);
@@ -91,4 +91,4 @@ pub returns-clause-octets : goal.returns-clause-octets
 returns-clause-octets c =
     let l = c.loop-block in let run = c.args.self.now in
     let end : l._block ≡ c.args.count = omega (arith, l.invariant.most, c.loop-block-test.false) in
-    l.invariant.octets ∙ ap (λ n. octets_in c.args.arena.now run ++ replicate (120 * (n - run.count)) 0) end
+    l.invariant.octets ∙ ap (λ n. octets_of_run c.args.arena.now run ++ replicate (120 * (n - run.count)) 0) end

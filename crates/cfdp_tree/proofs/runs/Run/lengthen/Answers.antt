@@ -2,9 +2,9 @@ use Rattle.std.proofs.Common.{◌+◌, List, ℕ, refl, sym, ap, ◌∙◌}
 use Rattle.cfdp_arena.specs.Blocks.{blank_block}
 use Rattle.cfdp_arena.specs.Arena.{octets_at, with_block}
 use Rattle.cfdp_tree.specs.declared.runs.Run.{Run}
-use Rattle.cfdp_tree.specs.Block.{header_of, payload, linked}
-use Rattle.cfdp_tree.proofs.HeldLaws.{octets_are}
-use Rattle.cfdp_tree.proofs.GrowLaws.{taken_octets, taken_written, grown_last_live, grown_held, grown_octets, grown_others, grown_free, grown_size, grown_places, grown_nodes, grown_live}
+use Rattle.cfdp_tree.specs.code.Block.{block_header, payload, linked}
+use Rattle.cfdp_tree.proofs.OfRuns.HeldLaws.{octets_are}
+use Rattle.cfdp_tree.proofs.OfRuns.GrowLaws.{taken_octets, taken_written, grown_last_live, grown_held, grown_octets, grown_others, grown_free, grown_size, grown_places, grown_nodes, grown_live}
 use Rattle.cfdp_tree.proofs.runs.Run.lengthen.Goals as goal
 
 pub bytes_mut-requires-2 : goal.bytes_mut-requires-2
@@ -16,7 +16,7 @@ bytes_mut-requires-2 c =
     ∙ c.bytes_mut.ensures.octets)) in
     record {
       live = grown_last_live a begun b t.ensures.was_free t.ensures.within run.first run.count fresh is c.set_tag.ensures.whole
-          (header_of c.bytes_mut.result.now) c.set_tag.ensures.header zeros run c.requires.held c.requires.some refl refl;
+          (block_header c.bytes_mut.result.now) c.set_tag.ensures.header zeros run c.requires.held c.requires.some refl refl;
     }
 
 pub returns : goal.returns
@@ -27,9 +27,9 @@ returns c =
     let zeros = c.set_tag.ensures.payload ∙ ap payload (taken_octets a b blank_block _ t.ensures.within (ap (λ x. octets_at x b) (sym t.ensures.zeros)
     ∙ c.bytes_mut.ensures.octets)) in
     let shown = octets_are begun run.last _ c.bytes_mut-2.ensures.octets in
-    let before = header_of c.bytes_mut.result.now in
+    let before = block_header c.bytes_mut.result.now in
     let new = c.set_next.new.block in
-    let link = c.set_next.ensures.header ∙ ap (λ (o : List ℕ). linked (header_of o) b) shown in
+    let link = c.set_next.ensures.header ∙ ap (λ (o : List ℕ). linked (block_header o) b) shown in
     let same = c.set_next.ensures.payload ∙ ap payload shown in
     let after : Run = record { first = run.first; last = b; count = run.count + 1 } in
     record {

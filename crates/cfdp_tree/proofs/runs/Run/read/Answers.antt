@@ -1,13 +1,13 @@
 use Rattle.std.proofs.Common.{◌≡◌, ◌<◌, ◌≤◌, ◌+◌, ◌-◌, ◌*◌, ℕ, length, length-take, length-drop, take, drop, ap, ◌∙◌, subst, arith}
 use borrow.Rule.Slice.PartMut.{put_mid}
-use Rattle.cfdp_tree.specs.Runs.{octets_in}
-use Rattle.cfdp_tree.proofs.Octets.{step_read, slice_is}
+use Rattle.cfdp_tree.specs.code.Runs.{octets_of_run}
+use Rattle.cfdp_tree.proofs.OfRuns.OctetsInLists.{step_read, slice_is}
 use Rattle.cfdp_tree.proofs.runs.Run.read.Goals as goal
 
 pub parts-preserved : goal.parts-preserved
 parts-preserved c =
     let l = c.parts in let inv = l.invariant in let a = c.args.arena.now in let run = c.args.self.now in let at = c.args.at in
-    let stop = c.min-stop.result in let count = stop - l.filled in let all = octets_in a run in let piece = c.get_in.new.buffer in
+    let stop = c.min-stop.result in let count = stop - l.filled in let all = octets_of_run a run in let piece = c.get_in.new.buffer in
     let less : l.filled < length l.buffer = c.parts-test.true in
     let begins : l.filled ≤ stop = omega (arith, c.min-stop.ensures, less) in
     let ends : stop ≤ length l.buffer = omega (arith, c.min-stop.ensures) in

@@ -1,11 +1,11 @@
 use Rattle.std.proofs.Common.{◌≡◌, ◌+◌, ◌-◌, ◌*◌, ◌<◌, ◌≤◌, take, drop, length}
-use Rattle.cfdp_tree.specs.Runs.{IsAt, octets_in}
+use Rattle.cfdp_tree.specs.code.Runs.{IsAt, octets_of_run}
 use Rattle.cfdp_tree.proofs.runs.Run.read.Given as goal
 
 abbrev pub invariant-parts : goal.invariant-parts
 invariant-parts l = record {
   within : l.filled ≤ length l.fn.buffer;
-  octets : take l.filled l.buffer ≡ take l.filled (drop l.at (octets_in l.arena l.self));
+  octets : take l.filled l.buffer ≡ take l.filled (drop l.at (octets_of_run l.arena l.self));
   place : IsAt l.arena l.self l.cursor;
   inside : l.place < 120;
   next : l.filled < length l.fn.buffer → 120 * l.cursor.index + l.place ≡ l.at + l.filled;

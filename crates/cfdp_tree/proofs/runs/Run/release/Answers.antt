@@ -1,4 +1,4 @@
-use Rattle.cfdp_tree.proofs.HeldLaws.{given_live, given_once, given_last, given_count, given_size, given_others, given_nodes}
+use Rattle.cfdp_tree.proofs.OfRuns.HeldLaws.{given_live, given_once, given_last, given_count, given_size, given_others, given_nodes}
 use Rattle.cfdp_tree.proofs.runs.Run.release.Goals as goal
 
 pub give_chain-requires : goal.give_chain-requires

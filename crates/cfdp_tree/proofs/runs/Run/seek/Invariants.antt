@@ -1,5 +1,5 @@
 use Rattle.std.proofs.Common.{◌≡◌, ◌≤◌}
-use Rattle.cfdp_tree.specs.Runs.{IsAt}
+use Rattle.cfdp_tree.specs.code.Runs.{IsAt}
 use Rattle.cfdp_tree.proofs.runs.Run.seek.Given as goal
 
 abbrev pub invariant-loop-step : goal.invariant-loop-step

@@ -1,11 +1,11 @@
 use Rattle.std.proofs.Common.{◌+◌, ◌*◌, take, drop, refl, sym, ap, ◌∙◌}
 use Rattle.cfdp_arena.specs.Arena.{octets_at}
 use Rattle.cfdp_checksum.specs.Checksum.{checksum_at}
-use Rattle.cfdp_tree.specs.Block.{payload}
-use Rattle.cfdp_tree.specs.Runs.{octets, octets_in}
-use Rattle.cfdp_tree.proofs.Octets.{slice_is}
-use Rattle.cfdp_tree.proofs.RunLaws.{run_slice}
-use Rattle.cfdp_tree.proofs.HeldLaws.{held_part, octets_are}
+use Rattle.cfdp_tree.specs.code.Block.{payload}
+use Rattle.cfdp_tree.specs.code.Runs.{octets, octets_of_run}
+use Rattle.cfdp_tree.proofs.OfRuns.OctetsInLists.{slice_is}
+use Rattle.cfdp_tree.proofs.OfRuns.RunLaws.{run_slice}
+use Rattle.cfdp_tree.proofs.OfRuns.HeldLaws.{held_part, octets_are}
 use Rattle.cfdp_tree.proofs.runs.Run.sum_in.Goals as goal
 
 pub bytes-requires : goal.bytes-requires
@@ -20,5 +20,5 @@ returns c = let r = c.requires in let k = c.args.cursor.now in let a = c.args.ar
     ∙ ap (λ o. take n (drop at (payload o))) (octets_are a k.block _ c.bytes.ensures.octets)
     ∙ ap (λ b. take n (drop at (payload (octets (octets_at a b))))) r.place.1
     ∙ sym (run_slice a run.first 0 run.count run.first k.index at n (120 * k.index + at) r.held.parts r.within r.fits refl)
-    ∙ sym (slice_is (octets_in a run) (120 * k.index + at) (120 * k.index + at + n) n refl)
+    ∙ sym (slice_is (octets_of_run a run) (120 * k.index + at) (120 * k.index + at + n) n refl)
     )

@@ -1,9 +1,9 @@
 use Rattle.std.proofs.Common.{◌≡◌, ◌≤◌, ◌+◌, ◌-◌, take, drop, sym, ap, ◌∙◌, arith}
 use Rattle.std.specs.Prelude.{slice_range}
 use Rattle.cfdp_checksum.specs.Checksum.{checksum_at}
-use Rattle.cfdp_tree.specs.Runs.{octets_in}
-use Rattle.cfdp_tree.proofs.RunLaws.{length-run}
-use Rattle.cfdp_tree.proofs.SummingLaws.{none_summed, step_sum}
+use Rattle.cfdp_tree.specs.code.Runs.{octets_of_run}
+use Rattle.cfdp_tree.proofs.OfRuns.RunLaws.{length-run}
+use Rattle.cfdp_tree.proofs.OfRuns.SummingLaws.{none_summed, step_sum}
 use Rattle.cfdp_tree.proofs.runs.Run.sum_of.Goals as goal
 
 pub parts-init : goal.parts-init
@@ -11,7 +11,7 @@ parts-init c =
     let at = c.args.at in let len = c.args.len in
     record {
       fewer = omega arith;
-      sum = sym (none_summed c.args.offset (drop at (octets_in c.args.arena.now c.args.self.now)) (len - len) (omega arith));
+      sum = sym (none_summed c.args.offset (drop at (octets_of_run c.args.arena.now c.args.self.now)) (len - len) (omega arith));
       offset = omega arith;
       place = c.requires.first;
       inside = omega arith;
@@ -21,7 +21,7 @@ parts-init c =
 pub parts-preserved : goal.parts-preserved
 parts-preserved c =
     let l = c.parts in let inv = l.invariant in let run = c.args.self.now in let at = c.args.at in let len = c.args.len in let offset = c.args.offset in
-    let all = octets_in c.args.arena.now run in let count = c.min-count.result in
+    let all = octets_of_run c.args.arena.now run in let count = c.min-count.result in
     let done = len - l.left in
     let fewer : count ≤ l.left = omega (arith, c.min-count.ensures) in
     let next = inv.next c.parts-test.true in

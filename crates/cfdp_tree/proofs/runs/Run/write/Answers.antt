@@ -1,10 +1,10 @@
 use Rattle.std.proofs.Common.{◌≡◌, ◌<◌, ◌≤◌, ◌+◌, ◌-◌, ◌*◌, length, take, drop, sym, ap, ◌∙◌, arith, length-drop}
 use Rattle.std.proofs.lemmas.List.{drop-drop}
 use Rattle.cfdp_actions.specs.Store.{overwritten}
-use Rattle.cfdp_tree.specs.Runs.{octets_in}
-use Rattle.cfdp_tree.proofs.Octets.{step_write}
-use Rattle.cfdp_tree.proofs.RunLaws.{length-run}
-use Rattle.cfdp_tree.proofs.HeldLaws.{others_then}
+use Rattle.cfdp_tree.specs.code.Runs.{octets_of_run}
+use Rattle.cfdp_tree.proofs.OfRuns.OctetsInLists.{step_write}
+use Rattle.cfdp_tree.proofs.OfRuns.RunLaws.{length-run}
+use Rattle.cfdp_tree.proofs.OfRuns.HeldLaws.{others_then}
 use Rattle.cfdp_tree.proofs.runs.Run.write.Goals as goal
 
 pub parts-preserved : goal.parts-preserved
@@ -22,10 +22,10 @@ parts-preserved c =
       rest = parts.back ∙ ap (drop count) inv.rest ∙ drop-drop count done octets ∙ ap (λ n. drop n octets) later;
       octets = put.octets
           ∙ (λ k. overwritten (inv.octets k) (120 * l.cursor.index + l.place) (parts.front k))
-          ∙ step_write (octets_in a run) octets l.rest.now at done count (120 * l.cursor.index + l.place)
+          ∙ step_write (octets_of_run a run) octets l.rest.now at done count (120 * l.cursor.index + l.place)
           (omega (arith, length-run a run.first 0 run.count run.first c.requires.held.parts, c.requires.range)) (omega (arith, fewer, inv.fewer)) inv.rest
           (inv.next some)
-          ∙ ap (λ n. overwritten (octets_in a run) at (take n octets)) later;
+          ∙ ap (λ n. overwritten (octets_of_run a run) at (take n octets)) later;
       place = c.after-cursor.ensures.place;
       inside = omega arith;
       next = (λ more. omega (arith, more, left, c.min.ensures, inv.next some, inv.inside, inv.fewer, c.after-cursor.ensures.index));

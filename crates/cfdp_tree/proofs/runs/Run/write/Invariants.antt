@@ -1,8 +1,8 @@
 use Rattle.std.proofs.Common.{◌≡◌, ℕ, ◌+◌, ◌-◌, ◌*◌, ◌<◌, ◌≤◌, take, drop, length}
 use Rattle.cfdp_arena.specs.Arena.{free_count}
 use Rattle.cfdp_actions.specs.Store.{overwritten}
-use Rattle.cfdp_tree.specs.Nodes.{nodes_in}
-use Rattle.cfdp_tree.specs.Runs.{IsHeld, IsAt, OthersStay, octets_in, nth}
+use Rattle.cfdp_tree.specs.code.Nodes.{nodes_in}
+use Rattle.cfdp_tree.specs.code.Runs.{IsHeld, IsAt, OtherRunsStay, octets_of_run, nth}
 use Rattle.cfdp_tree.proofs.runs.Run.write.Given as goal
 
 abbrev pub invariant-parts : goal.invariant-parts
@@ -10,14 +10,14 @@ invariant-parts l = record {
   held : IsHeld l.arena l.self;
   fewer : length l.rest ≤ length l.octets;
   rest : l.rest ≡ drop (length l.octets - length l.rest) l.octets;
-  octets : octets_in l.arena l.self ≡ overwritten (octets_in l.fn.arena l.self) l.at (take (length l.octets - length l.rest) l.octets);
+  octets : octets_of_run l.arena l.self ≡ overwritten (octets_of_run l.fn.arena l.self) l.at (take (length l.octets - length l.rest) l.octets);
   place : IsAt l.arena l.self l.cursor;
   inside : l.place < 120;
   next : 0 < length l.rest → 120 * l.cursor.index + l.place ≡ l.at + (length l.octets - length l.rest);
   last : IsAt l.arena l.self l.last;
   free : free_count l.arena ≡ free_count l.fn.arena;
   size : length l.arena ≡ length l.fn.arena;
-  others : OthersStay l.fn.arena l.arena l.self;
+  others : OtherRunsStay l.fn.arena l.arena l.self;
   places : (k : ℕ) → k ≤ l.self.count → nth l.arena l.self.first k ≡ nth l.fn.arena l.self.first k;
   nodes : nodes_in l.arena ≡ nodes_in l.fn.arena;
 }

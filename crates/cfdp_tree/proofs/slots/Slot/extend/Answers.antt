@@ -1,8 +1,8 @@
 use Rattle.std.proofs.Common.{◌≤◌, ◌∙◌, refl, sym, ap, arith}
 use Rattle.cfdp_actions.specs.Filestore.{blocks_of}
-use Rattle.cfdp_tree.specs.Runs.{nth}
-use Rattle.cfdp_tree.proofs.Filling.{blocks_of-le}
-use Rattle.cfdp_tree.proofs.SlotPlaces.{slot_grown}
+use Rattle.cfdp_tree.specs.code.Runs.{nth}
+use Rattle.cfdp_tree.proofs.OfRuns.Filling.{blocks_of-le}
+use Rattle.cfdp_tree.proofs.OfStore.SlotPlaces.{slot_grown}
 use Rattle.cfdp_tree.proofs.slots.Slot.extend.Goals as goal
 
 pub returns-then-not-within-clause-placed : goal.returns-then-not-within-clause-placed

@@ -1,14 +1,14 @@
 use Rattle.std.proofs.Common.{◌≡◌, ℕ, ◌<◌, List, length, refl, sym, ap, ◌∙◌, subst, arith}
 use Rattle.cfdp_tree.specs.declared.runs.Run.{Run}
 use Rattle.cfdp_tree.specs.declared.slots.Slot.{Slot}
-use Rattle.cfdp_tree.specs.Runs.{nth}
-use Rattle.cfdp_tree.specs.Ways.{HasWays}
-use Rattle.cfdp_tree.specs.Contents.{contents_in}
-use Rattle.cfdp_tree.specs.Slots.{blank_end, IsUnwritten}
-use Rattle.cfdp_tree.proofs.ContentsLaws.{length-contents}
-use Rattle.cfdp_tree.proofs.Filling.{blocks_of-fits}
-use Rattle.cfdp_tree.proofs.SlotPlaces.{end_written, same_unwritten}
-use Rattle.cfdp_tree.proofs.WayLaws.{ways_still, keeps_still}
+use Rattle.cfdp_tree.specs.code.Runs.{nth}
+use Rattle.cfdp_tree.specs.code.Ways.{HasWays}
+use Rattle.cfdp_tree.specs.code.Contents.{contents_in}
+use Rattle.cfdp_tree.specs.code.Slots.{blank_end, IsUnwrittenSlot}
+use Rattle.cfdp_tree.proofs.OfRuns.ContentsLaws.{length-contents}
+use Rattle.cfdp_tree.proofs.OfRuns.Filling.{blocks_of-fits}
+use Rattle.cfdp_tree.proofs.OfStore.SlotPlaces.{end_written, same_unwritten}
+use Rattle.cfdp_tree.proofs.OfRuns.WayLaws.{ways_still, keeps_still}
 use Rattle.cfdp_tree.proofs.slots.Slot.put.Goals as goal
 
 pub returns-clause-ways : goal.returns-clause-ways
@@ -34,8 +34,8 @@ sum_there-before-requires-clause-placed c =
 pub gap_after-self-requires : goal.gap_after-self-requires
 gap_after-self-requires c = record { ordered = c.requires.placed.unwritten.gap.ordered }
 
-same_octets : (xs ys : List ℕ) (slot : Slot) → xs ≡ ys → IsUnwritten ys slot → IsUnwritten xs slot
-same_octets xs ys slot e known = subst (λ zs. IsUnwritten zs slot) (sym e) known
+same_octets : (xs ys : List ℕ) (slot : Slot) → xs ≡ ys → IsUnwrittenSlot ys slot → IsUnwrittenSlot xs slot
+same_octets xs ys slot e known = subst (λ zs. IsUnwrittenSlot zs slot) (sym e) known
 
 pub returns-clause-placed : goal.returns-clause-placed
 returns-clause-placed c =

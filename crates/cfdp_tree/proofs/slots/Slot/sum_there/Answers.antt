@@ -3,12 +3,12 @@ use Rattle.std.specs.Prelude.{slice_range}
 use Rattle.cfdp_checksum.specs.Checksum.{checksum_at}
 use Rattle.cfdp_checksum.proofs.ChecksumSteps.{none-added}
 use Rattle.cfdp_tree.specs.declared.gap.Gap.{Gap}
-use Rattle.cfdp_tree.specs.Runs.{octets_in}
-use Rattle.cfdp_tree.specs.Contents.{contents_in}
-use Rattle.cfdp_tree.specs.Slots.{IsBlank, blank_end}
-use Rattle.cfdp_tree.proofs.Filling.{front_read, blocks_of-fits}
-use Rattle.cfdp_tree.proofs.ContentsLaws.{within_run}
-use Rattle.cfdp_tree.proofs.GapLaws.{part_blank}
+use Rattle.cfdp_tree.specs.code.Runs.{octets_of_run}
+use Rattle.cfdp_tree.specs.code.Contents.{contents_in}
+use Rattle.cfdp_tree.specs.code.Slots.{IsBlank, blank_end}
+use Rattle.cfdp_tree.proofs.OfRuns.Filling.{front_read, blocks_of-fits}
+use Rattle.cfdp_tree.proofs.OfRuns.ContentsLaws.{within_run}
+use Rattle.cfdp_tree.proofs.OfStore.GapLaws.{part_blank}
 use Rattle.cfdp_tree.proofs.slots.Slot.sum_there.Goals as goal
 use Rattle.cfdp_tree.proofs.slots.Slot.sum_there.Goals.{then-self-start-via-then-self-start, then-self-start-via-else-self-start+then-covers}
 
@@ -34,6 +34,6 @@ returns c =
     let a = c.args.arena.now in let contents = c.args.self.now.contents in let r = c.requires in let at = c.args.at in
     let all : at + (c.args.end - at) ≡ c.args.end = omega (arith, r.ordered) in
     c.sum_of.ensures
-    ∙ ap (checksum_at at) (front_read (octets_in a contents.run) contents.size (within_run a contents r.filled) at (c.args.end - at)
+    ∙ ap (checksum_at at) (front_read (octets_of_run a contents.run) contents.size (within_run a contents r.filled) at (c.args.end - at)
     (omega (arith, r.ordered, r.range)))
     ∙ ap (λ e. checksum_at at (slice_range (contents_in a contents) at e)) all

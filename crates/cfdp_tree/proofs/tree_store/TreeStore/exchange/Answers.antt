@@ -1,15 +1,15 @@
 use Rattle.std.proofs.Common.{[], ◌∷◌, Some, ap, refl, sym, ◌∙◌, arith}
 use Rattle.cfdp_arena.specs.Arena.{octets_of}
-use Rattle.cfdp_actions.specs.Filestore.{File, Becomes, Stages, octets_at, staged_in}
+use Rattle.cfdp_actions.specs.Filestore.{File, Becomes, Stages, file_octets_at, staged_in}
 use Rattle.cfdp_actions.specs.Store.{with_changes}
 use Rattle.cfdp_tree.specs.declared.contents.Contents.{Contents}
-use Rattle.cfdp_tree.specs.Nodes.{nodes_in}
-use Rattle.cfdp_tree.proofs.SlotPlaces.{slot_starts}
-use Rattle.cfdp_tree.proofs.SeenLaws.{slot_filled}
-use Rattle.cfdp_tree.proofs.FoundLaws.{file_found, file_most}
-use Rattle.cfdp_tree.proofs.ExchangeLaws.{exchange_store, exchange_seen}
-use Rattle.cfdp_tree.proofs.FileLaws.{kind_there}
-use Rattle.cfdp_tree.proofs.OrderedLaws.{ordered_written}
+use Rattle.cfdp_tree.specs.code.Nodes.{nodes_in}
+use Rattle.cfdp_tree.proofs.OfStore.SlotPlaces.{slot_starts}
+use Rattle.cfdp_tree.proofs.OfStore.SeenLaws.{slot_filled}
+use Rattle.cfdp_tree.proofs.OfStore.FoundLaws.{file_found, file_most}
+use Rattle.cfdp_tree.proofs.OfStore.ExchangeLaws.{exchange_store, exchange_seen}
+use Rattle.cfdp_tree.proofs.OfStore.FileLaws.{kind_there}
+use Rattle.cfdp_tree.proofs.OfOrders.OrderedLaws.{ordered_written}
 use Rattle.cfdp_tree.proofs.tree_store.TreeStore.exchange.Goals as goal
 
 pub find_file-file-requires-clause-there : goal.find_file-file-requires-clause-there
@@ -48,4 +48,4 @@ returns-clause-exchanged c =
     (octets_of (nodes_in later) b) set.nodes set.row set.name set.whole set.runs set.free set.capacity
     after (held.contents ∙ file.contents) (slot_starts later after (held.block ∙ ap (λ (x : Contents). x.run.first) (sym held.contents)) held.index (held.blank
     ∙ ap (λ (x : Contents). x.size) (sym held.contents)) held.gap)
-    ∙ ap (λ k. with_changes c.args.self.now (Stages k (octets_at F path) ∷ Becomes path (Some (File (staged_in F k))) ∷ [])) c.from-index.ensures
+    ∙ ap (λ k. with_changes c.args.self.now (Stages k (file_octets_at F path) ∷ Becomes path (Some (File (staged_in F k))) ∷ [])) c.from-index.ensures

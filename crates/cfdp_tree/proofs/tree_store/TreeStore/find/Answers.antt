@@ -1,8 +1,8 @@
 use Rattle.std.proofs.Common.{Some, sym, ap, ◌∙◌}
 use Rattle.std.specs.Option.{option_map}
 use Rattle.cfdp_tree.specs.Found.{found_of}
-use Rattle.cfdp_tree.proofs.SeenLaws.{seen_node, seen_none}
-use Rattle.cfdp_tree.proofs.SoundLaws.{node_sound}
+use Rattle.cfdp_tree.proofs.OfStore.SeenLaws.{seen_node, seen_none}
+use Rattle.cfdp_tree.proofs.OfStore.SoundLaws.{node_sound}
 use Rattle.cfdp_tree.proofs.tree_store.TreeStore.find.Goals as goal
 
 pub returns-in_err-node : goal.returns-in_err-node

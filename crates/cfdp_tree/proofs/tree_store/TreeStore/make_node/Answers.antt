@@ -1,16 +1,16 @@
 use Rattle.std.proofs.Common.{◌+◌, sym, ap, ◌∙◌, subst, arith, Some, None}
 use Rattle.std.proofs.lemmas.List.{with_items_is}
-use Rattle.cfdp_tree.specs.Nodes.{only_node, nodes_in}
-use Rattle.cfdp_tree.specs.Index.{IsIndex}
-use Rattle.cfdp_tree.specs.Slots.{IsStore}
-use Rattle.cfdp_tree.proofs.AlikeLaws.{runs_then}
-use Rattle.cfdp_tree.proofs.MakeLaws.{tree_made, index_made, make_view, make_store}
+use Rattle.cfdp_tree.specs.code.Nodes.{only_node, nodes_in}
+use Rattle.cfdp_tree.specs.code.Index.{IsIndex}
+use Rattle.cfdp_tree.specs.code.Slots.{IsStore}
+use Rattle.cfdp_tree.proofs.OfStore.AlikeLaws.{runs_then}
+use Rattle.cfdp_tree.proofs.OfStore.MakeLaws.{tree_made, index_made, make_view, make_store}
 use Rattle.std.proofs.Math.ListN.{get_or-map}
 use Rattle.cfdp_arena.specs.Arena.{octets_of}
-use Rattle.cfdp_tree.specs.Orders.{IsOrdered}
-use Rattle.cfdp_tree.proofs.LinkLaws.{relinked_places}
-use Rattle.cfdp_tree.proofs.OutLaws.{nodes_long}
-use Rattle.cfdp_tree.proofs.OrderedLaws.{kept_places, ordered_kept, ordered_made}
+use Rattle.cfdp_tree.specs.code.Orders.{IsInOrders}
+use Rattle.cfdp_tree.proofs.OfNodes.LinkLaws.{relinked_places}
+use Rattle.cfdp_tree.proofs.OfIndex.OutLaws.{nodes_long}
+use Rattle.cfdp_tree.proofs.OfOrders.OrderedLaws.{kept_places, ordered_kept, ordered_made}
 use Rattle.cfdp_tree.proofs.tree_store.TreeStore.make_node.Goals as goal
 
 pub enter-requires-clause-tree : goal.enter-requires-clause-tree
@@ -25,7 +25,7 @@ enter-requires-clause-tree c =
 pub enter-requires-clause-ordered : goal.enter-requires-clause-ordered
 enter-requires-clause-ordered c =
     let made = c.create_node-node.ensures in let arena = c.self.inside.arena in let b = c.create_node-node.result in
-    subst (λ ns. IsOrdered ns c.self.inside.orders (Some b)) (sym made.nodes)
+    subst (λ ns. IsInOrders ns c.self.inside.orders (Some b)) (sym made.nodes)
     (ordered_made (nodes_in arena) c.self.inside.orders b (octets_of (nodes_in c.create_node-node.new.arena) b) (get_or-map only_node arena b None
     ∙ ap only_node made.fresh) c.self.invariant.ordered)
 

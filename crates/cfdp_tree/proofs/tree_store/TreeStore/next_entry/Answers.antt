@@ -1,14 +1,14 @@
 use Rattle.std.proofs.Common.{sym, subst}
 use Rattle.std.specs.Prelude.{IfNone}
 use Rattle.cfdp_arena.specs.Arena.{octets_of}
-use Rattle.cfdp_tree.specs.Nodes.{nodes_in}
-use Rattle.cfdp_tree.specs.Tree.{path_of}
-use Rattle.cfdp_tree.specs.Kept.{node_of}
+use Rattle.cfdp_tree.specs.code.Nodes.{nodes_in}
+use Rattle.cfdp_tree.specs.code.Tree.{path_of_node}
+use Rattle.cfdp_tree.specs.code.Kept.{node_of}
 use Rattle.cfdp_tree.specs.Next.{IsLast}
-use Rattle.cfdp_tree.proofs.SeenLaws.{shows}
-use Rattle.cfdp_tree.proofs.SoundLaws.{node_sound}
-use Rattle.cfdp_tree.proofs.TextLaws.{path_good}
-use Rattle.cfdp_tree.proofs.NextLaws.{first_next, none_last}
+use Rattle.cfdp_tree.proofs.OfStore.SeenLaws.{shows}
+use Rattle.cfdp_tree.proofs.OfStore.SoundLaws.{node_sound}
+use Rattle.cfdp_tree.proofs.OfNodes.TextLaws.{path_good}
+use Rattle.cfdp_tree.proofs.OfOrders.NextLaws.{first_next, none_last}
 use Rattle.cfdp_tree.proofs.tree_store.TreeStore.next_entry.Goals as goal
 
 pub returns-in_err-node-clause-none : goal.returns-in_err-node-clause-none
@@ -29,7 +29,7 @@ returns-clause-next c =
     let shown = shows _ _ _ c.self.invariant.store _ c.self.view_is in
     let good = path_good nodes c.self.invariant.store.kept.tree b first.follows.node in
     record {
-      path = path_of nodes b;
+      path = path_of_node nodes b;
       node = node_of arena (octets_of nodes b);
       there = shown.each b first.follows.node;
       is_next = first_next arena nodes F shown c.args.after b first;

@@ -1,14 +1,14 @@
 use Rattle.std.proofs.Common.{◌≡◌, ◌+◌, ◌-◌, ℕ, ◌++◌, sym, ap, ◌∙◌, subst, arith}
 use Rattle.cfdp_arena.specs.Arena.{octets_of}
-use Rattle.cfdp_actions.specs.Filestore.{octets_at, blocks_of}
+use Rattle.cfdp_actions.specs.Filestore.{file_octets_at, blocks_of}
 use Rattle.std.proofs.lemmas.List.{with_items_is}
-use Rattle.cfdp_tree.specs.Nodes.{nodes_in}
-use Rattle.cfdp_tree.specs.Ways.{HasWays, KeepsWays}
-use Rattle.cfdp_tree.specs.Slots.{IsStore}
-use Rattle.cfdp_tree.proofs.Filling.{blocks_of-le, blocks_of-most}
-use Rattle.cfdp_tree.proofs.FoundLaws.{filled_blocks, file_found, file_most, found_filled, found_ways, found_octets, found_size, found_blocks, found_same, found_apart, append_most, append_room, found_store, found_changes}
-use Rattle.cfdp_tree.proofs.FileLaws.{kind_there}
-use Rattle.cfdp_tree.proofs.OrderedLaws.{ordered_written}
+use Rattle.cfdp_tree.specs.code.Nodes.{nodes_in}
+use Rattle.cfdp_tree.specs.code.Ways.{HasWays, KeepsWays}
+use Rattle.cfdp_tree.specs.code.Slots.{IsStore}
+use Rattle.cfdp_tree.proofs.OfRuns.Filling.{blocks_of-le, blocks_of-most}
+use Rattle.cfdp_tree.proofs.OfStore.FoundLaws.{filled_blocks, file_found, file_most, found_filled, found_ways, found_octets, found_size, found_blocks, found_same, found_apart, append_most, append_room, found_store, found_changes}
+use Rattle.cfdp_tree.proofs.OfStore.FileLaws.{kind_there}
+use Rattle.cfdp_tree.proofs.OfOrders.OrderedLaws.{ordered_written}
 use Rattle.cfdp_tree.proofs.tree_store.TreeStoreFilestore.append.Goals as goal
 
 pub find_file-file-requires-clause-there : goal.find_file-file-requires-clause-there
@@ -143,4 +143,4 @@ returns-clause-appended c =
     c.append-contents.new.arena c.set_contents.new.arena c.append-contents.result (octets_of (nodes_in c.set_contents.new.arena) c.find_file-file.result.node)
     after.nodes after.capacity after.spares after.filled (taken _ _ _ _ _ after.taken after.size) set.nodes set.row set.name set.whole set.runs set.free
     set.capacity
-    (octets_at F c.args.first.now ++ octets_at F c.args.second.now) (after.octets ∙ (λ k. sym first k ++ sym second k))
+    (file_octets_at F c.args.first.now ++ file_octets_at F c.args.second.now) (after.octets ∙ (λ k. sym first k ++ sym second k))

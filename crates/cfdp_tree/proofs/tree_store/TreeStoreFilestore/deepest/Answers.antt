@@ -3,15 +3,15 @@ use Rattle.std.specs.Prelude.{IfSome, IsSome}
 use Rattle.cfdp_order.specs.declared.links.Order.{Order}
 use Rattle.cfdp_order.specs.Orders as trees
 use Rattle.cfdp_order.specs.Orders.{IsOrder}
-use Rattle.cfdp_tree.specs.Nodes.{nodes_in}
-use Rattle.cfdp_tree.specs.Tree.{IsNode, path_of}
-use Rattle.cfdp_tree.specs.Orders.{in_order}
-use Rattle.cfdp_tree.specs.Walk.{walks, walk_from, longest, StandAt}
-use Rattle.cfdp_tree.specs.Survey.{IsSurvey}
-use Rattle.cfdp_tree.proofs.SeenLaws.{shows, seen_none}
-use Rattle.cfdp_tree.proofs.WalkLaws.{place_deep, one_deeper}
-use Rattle.cfdp_tree.proofs.DeepestLaws.{deepest_is}
-use Rattle.cfdp_tree.proofs.SurveyLaws.{survey_from}
+use Rattle.cfdp_tree.specs.code.Nodes.{nodes_in}
+use Rattle.cfdp_tree.specs.code.Tree.{IsNode, path_of_node}
+use Rattle.cfdp_tree.specs.code.Orders.{in_order}
+use Rattle.cfdp_tree.specs.code.Walk.{walks, walk_from, most_names_in, StandAt}
+use Rattle.cfdp_tree.specs.code.Survey.{IsNodeSurvey}
+use Rattle.cfdp_tree.proofs.OfStore.SeenLaws.{shows, seen_none}
+use Rattle.cfdp_tree.proofs.OfWalks.WalkLaws.{place_deep, one_deeper}
+use Rattle.cfdp_tree.proofs.OfWalks.DeepestLaws.{deepest_is}
+use Rattle.cfdp_tree.proofs.OfWalks.SurveyLaws.{survey_from}
 use Rattle.cfdp_tree.proofs.tree_store.TreeStoreFilestore.deepest.Goals as goal
 
 there : (found : Option ℕ) (P : Type 0) (A : Type 0) (o : Option A) → IfNone found P → (P → o ≡ None) → IsSome o → IsSome found
@@ -33,7 +33,7 @@ deepest_in-below-requires-clause-order c =
 pub deepest_in-below-requires-clause-deep : goal.deepest_in-below-requires-clause-deep
 deepest_in-below-requires-clause-deep c =
     let nodes = nodes_in c.self.inside.arena in let orders = c.self.inside.orders in let b = c.unwrap-node.result in let path = c.args.path.now in
-    let way = subst (λ r. IfSome r (λ b. path_of nodes b ≡ path)) c.unwrap-node.ensures c.find_path.ensures.path in
+    let way = subst (λ r. IfSome r (λ b. path_of_node nodes b ≡ path)) c.unwrap-node.ensures c.find_path.ensures.path in
     subst (λ (o : Order). StandAt nodes (c.depth-depth.result + 1) (trees.nodes orders.links.items o)) (sym c.of-entries.ensures)
     (place_deep nodes c.self.invariant.store.kept.tree orders c.self.invariant.ordered (Some b) c.depth-depth.result (ap length way
     ∙ sym c.depth-depth.ensures.depth))
@@ -50,13 +50,13 @@ returns-clause-value c =
     c.args.path.now in let depth = c.depth-depth.result in
     let tree = c.self.invariant.store.kept.tree in
     let node = subst (λ r. IfSome r (λ b. IsNode nodes b)) c.unwrap-node.ensures c.find_path.ensures.node in
-    let way = subst (λ r. IfSome r (λ b. path_of nodes b ≡ path)) c.unwrap-node.ensures c.find_path.ensures.path in
-    let long : length (path_of nodes b) ≡ depth = ap length way ∙ sym c.depth-depth.ensures.depth in
+    let way = subst (λ r. IfSome r (λ b. path_of_node nodes b ≡ path)) c.unwrap-node.ensures c.find_path.ensures.path in
+    let long : length (path_of_node nodes b) ≡ depth = ap length way ∙ sym c.depth-depth.ensures.depth in
     let survey = survey_from nodes tree orders c.self.invariant.ordered (Some b) depth (some_node (IsNode nodes) b node) long in
-    let below : c.deepest_in-below.result ≡ longest nodes (walks orders (8 - depth) (in_order orders (Some b))) =
+    let below : c.deepest_in-below.result ≡ most_names_in nodes (walks orders (8 - depth) (in_order orders (Some b))) =
     c.deepest_in-below.ensures.value
-    ∙ ap (longest nodes) (one_deeper orders depth (trees.nodes orders.links.items c.of-entries.result)
+    ∙ ap (most_names_in nodes) (one_deeper orders depth (trees.nodes orders.links.items c.of-entries.result)
     ∙ ap (λ (o : Order). walks orders (8 - depth) (trees.nodes orders.links.items o)) c.of-entries.ensures) in
     c.max.ensures ∙ (λ k. max (sym long k) (below k))
     ∙ deepest_is nodes arena c.args.self.now.filestore (shows _ _ _ c.self.invariant.store _ c.self.view_is) path (walk_from orders depth (Some b))
-    (subst (λ p. IsSurvey nodes p (walk_from orders depth (Some b))) way survey)
+    (subst (λ p. IsNodeSurvey nodes p (walk_from orders depth (Some b))) way survey)

@@ -2,9 +2,9 @@ use Rattle.std.proofs.Common.{◌≡◌, ◌<◌, ℕ, Bool, true, false, not, s
 use Rattle.std.proofs.lemmas.Bool.{cases_eq}
 use Rattle.std.specs.Prelude.{◌↔◌, IsTrue}
 use Rattle.cfdp_order.specs.declared.links.Order.{Order}
-use Rattle.cfdp_tree.specs.Nodes.{nodes_in}
-use Rattle.cfdp_tree.proofs.SeenLaws.{shows}
-use Rattle.cfdp_tree.proofs.BelowLaws.{order_some, order_none, absent_none}
+use Rattle.cfdp_tree.specs.code.Nodes.{nodes_in}
+use Rattle.cfdp_tree.proofs.OfStore.SeenLaws.{shows}
+use Rattle.cfdp_tree.proofs.OfNodes.BelowLaws.{order_some, order_none, absent_none}
 use Rattle.cfdp_tree.proofs.tree_store.TreeStoreFilestore.has_entries.Goals as goal
 
 -- a test whether there is nothing

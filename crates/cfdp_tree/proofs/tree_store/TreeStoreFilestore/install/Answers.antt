@@ -1,7 +1,7 @@
 use Rattle.std.proofs.Common.{[], ◌∷◌, Some, ap, ◌∙◌}
 use Rattle.cfdp_actions.specs.Filestore.{File, Becomes, Stages, is_file, node_at, staged_in}
 use Rattle.cfdp_actions.specs.Store.{Store, with_changes}
-use Rattle.cfdp_tree.proofs.InstallLaws.{made_there, made_over}
+use Rattle.cfdp_tree.proofs.OfStore.InstallLaws.{made_there, made_over}
 use Rattle.cfdp_tree.proofs.tree_store.TreeStoreFilestore.install.Goals as goal
 
 pub install_over-requires-2-clause-file : goal.install_over-requires-2-clause-file

@@ -2,14 +2,14 @@ use Rattle.std.proofs.Common.{[], map, Vec, None, refl, sym, ap, ◌∙◌}
 use Rattle.std.proofs.lemmas.Simd.{map-map}
 use Rattle.std.specs.declared.alloc.Global.{Global}
 use Rattle.cfdp_actions.specs.declared.kind.Entry.{Entry}
-use Rattle.cfdp_actions.specs.Store.{entry_of, listing_of}
-use Rattle.cfdp_tree.specs.Nodes.{nodes_in}
-use Rattle.cfdp_tree.specs.Walk.{walk_from}
-use Rattle.cfdp_tree.specs.Survey.{shown}
-use Rattle.cfdp_tree.proofs.SeenLaws.{shows}
-use Rattle.cfdp_tree.proofs.SurveyLaws.{survey_from, survey_rising}
-use Rattle.cfdp_tree.proofs.InOrderLaws.{told_tree, tree_whole}
-use Rattle.cfdp_tree.proofs.SoundLaws.{items_are, under_nodes, found_sound}
+use Rattle.cfdp_actions.specs.Store.{listing_entry, listing_of}
+use Rattle.cfdp_tree.specs.code.Nodes.{nodes_in}
+use Rattle.cfdp_tree.specs.code.Walk.{walk_from}
+use Rattle.cfdp_tree.specs.code.Survey.{shown_node}
+use Rattle.cfdp_tree.proofs.OfStore.SeenLaws.{shows}
+use Rattle.cfdp_tree.proofs.OfWalks.SurveyLaws.{survey_from, survey_rising}
+use Rattle.cfdp_tree.proofs.OfWalks.InOrderLaws.{told_tree, tree_whole}
+use Rattle.cfdp_tree.proofs.OfStore.SoundLaws.{items_are, under_nodes, found_sound}
 use Rattle.cfdp_tree.proofs.tree_store.TreeStoreFilestore.listing.Goals as goal
 
 pub entries-requires : goal.entries-requires
@@ -29,5 +29,5 @@ returns c =
     let told = told_tree nodes tree [] list (survey_from nodes tree orders ordered None 0 (λ d e. cc) refl)
     (survey_rising nodes tree orders ordered None 0 (λ d e. cc)) found c.in_ok-found.ensures
     arena F (shows _ _ _ c.self.invariant.store _ c.self.view_is) in
-    items_are (λ (v : Vec Entry Global). v.items) c.entries.result (map (λ e. entry_of (shown arena nodes e)) found) (listing_of F) c.entries.ensures
-    (sym (map-map entry_of (shown arena nodes) found) ∙ ap (map entry_of) (told ∙ tree_whole F))
+    items_are (λ (v : Vec Entry Global). v.items) c.entries.result (map (λ e. listing_entry (shown_node arena nodes e)) found) (listing_of F) c.entries.ensures
+    (sym (map-map listing_entry (shown_node arena nodes) found) ∙ ap (map listing_entry) (told ∙ tree_whole F))

@@ -2,14 +2,14 @@ use Rattle.std.proofs.Common.{◌≡◌, ◌+◌, List, ℕ, length, sym, ap, �
 use Rattle.std.specs.Prelude.{IfSome, slice_range}
 use Rattle.cfdp_actions.specs.declared.kind.Kind.TheVariants as kind
 use Rattle.cfdp_tree.specs.declared.contents.Contents.{Contents}
-use Rattle.cfdp_tree.specs.Row.{row_of}
-use Rattle.cfdp_tree.specs.Nodes.{nodes_in}
-use Rattle.cfdp_tree.specs.Tree.{IsNode, path_of}
-use Rattle.cfdp_tree.specs.Contents.{IsFilled, contents_in}
-use Rattle.cfdp_tree.specs.Kept.{contents_told}
-use Rattle.cfdp_tree.specs.Ways.{HasWays}
-use Rattle.cfdp_tree.proofs.ContentsLaws.{length-contents}
-use Rattle.cfdp_tree.proofs.SeenLaws.{seen_there, seen_file, file_ways, file_small}
+use Rattle.cfdp_tree.specs.code.NodeFields.{node_fields_of}
+use Rattle.cfdp_tree.specs.code.Nodes.{nodes_in}
+use Rattle.cfdp_tree.specs.code.Tree.{IsNode, path_of_node}
+use Rattle.cfdp_tree.specs.code.Contents.{IsFilled, contents_in}
+use Rattle.cfdp_tree.specs.code.Kept.{contents_told}
+use Rattle.cfdp_tree.specs.code.Ways.{HasWays}
+use Rattle.cfdp_tree.proofs.OfRuns.ContentsLaws.{length-contents}
+use Rattle.cfdp_tree.proofs.OfStore.SeenLaws.{seen_there, seen_file, file_ways, file_small}
 use Rattle.cfdp_tree.proofs.tree_store.TreeStoreFilestore.read.Goals as goal
 
 pub unwrap-node-requires : goal.unwrap-node-requires
@@ -19,10 +19,10 @@ pub contents_of-file-requires : goal.contents_of-file-requires
 contents_of-file-requires c =
     let arena = c.self.inside.arena in let block = c.bytes.result.now in let path = c.args.path.now in
     let node = subst (λ r. IfSome r (λ b. IsNode (nodes_in arena) b)) c.unwrap-node.ensures c.find_path.ensures.node in
-    let way = subst (λ r. IfSome r (λ b. path_of (nodes_in arena) b ≡ path)) c.unwrap-node.ensures c.find_path.ensures.path in
+    let way = subst (λ r. IfSome r (λ b. path_of_node (nodes_in arena) b ≡ path)) c.unwrap-node.ensures c.find_path.ensures.path in
     let file = seen_file _ _ _ c.self.invariant.store _ c.self.view_is c.unwrap-node.result path block node way c.bytes.ensures.octets c.requires.file in
     let small = file_small _ _ _ c.self.invariant.store _ c.self.view_is path in
-    omega (arith, length-contents arena (contents_told kind.File (row_of block)) file.1, ap (λ (xs : List ℕ). length xs) file.0, small)
+    omega (arith, length-contents arena (contents_told kind.File (node_fields_of block)) file.1, ap (λ (xs : List ℕ). length xs) file.0, small)
 
 -- the file's octets, by the contents that were read from its block
 pub overflow_cast-at : goal.overflow_cast-at
@@ -32,7 +32,7 @@ pub get-requires-clause-filled : goal.get-requires-clause-filled
 get-requires-clause-filled c =
     let arena = c.self.inside.arena in let block = c.bytes.result.now in let path = c.args.path.now in
     let node = subst (λ r. IfSome r (λ b. IsNode (nodes_in arena) b)) c.unwrap-node.ensures c.find_path.ensures.node in
-    let way = subst (λ r. IfSome r (λ b. path_of (nodes_in arena) b ≡ path)) c.unwrap-node.ensures c.find_path.ensures.path in
+    let way = subst (λ r. IfSome r (λ b. path_of_node (nodes_in arena) b ≡ path)) c.unwrap-node.ensures c.find_path.ensures.path in
     let file = seen_file _ _ _ c.self.invariant.store _ c.self.view_is c.unwrap-node.result path block node way c.bytes.ensures.octets c.requires.file in
     subst (IsFilled arena) (sym c.contents_of-file.ensures) file.1
 
@@ -40,7 +40,7 @@ pub get-requires-clause-ways : goal.get-requires-clause-ways
 get-requires-clause-ways c =
     let arena = c.self.inside.arena in let block = c.bytes.result.now in let path = c.args.path.now in
     let node = subst (λ r. IfSome r (λ b. IsNode (nodes_in arena) b)) c.unwrap-node.ensures c.find_path.ensures.node in
-    let way = subst (λ r. IfSome r (λ b. path_of (nodes_in arena) b ≡ path)) c.unwrap-node.ensures c.find_path.ensures.path in
+    let way = subst (λ r. IfSome r (λ b. path_of_node (nodes_in arena) b ≡ path)) c.unwrap-node.ensures c.find_path.ensures.path in
     let has = file_ways _ _ _ c.self.invariant.store _ c.self.view_is c.unwrap-node.result path block node way c.bytes.ensures.octets c.requires.file in
     subst (λ ws. HasWays arena ws c.contents_of-file.result.run) (sym c.deref-2.ensures.value)
     (subst (λ (x : Contents). HasWays arena c.self.inside.ways.items x.run) (sym c.contents_of-file.ensures) has)
@@ -49,9 +49,9 @@ pub get-requires-clause-range : goal.get-requires-clause-range
 get-requires-clause-range c =
     let arena = c.self.inside.arena in let block = c.bytes.result.now in let path = c.args.path.now in
     let node = subst (λ r. IfSome r (λ b. IsNode (nodes_in arena) b)) c.unwrap-node.ensures c.find_path.ensures.node in
-    let way = subst (λ r. IfSome r (λ b. path_of (nodes_in arena) b ≡ path)) c.unwrap-node.ensures c.find_path.ensures.path in
+    let way = subst (λ r. IfSome r (λ b. path_of_node (nodes_in arena) b ≡ path)) c.unwrap-node.ensures c.find_path.ensures.path in
     let file = seen_file _ _ _ c.self.invariant.store _ c.self.view_is c.unwrap-node.result path block node way c.bytes.ensures.octets c.requires.file in
-    let contents = contents_told kind.File (row_of block) in
+    let contents = contents_told kind.File (node_fields_of block) in
     let size = ap (λ (x : Contents). x.size) c.contents_of-file.ensures in
     omega (arith, length-contents arena contents file.1, ap (λ (xs : List ℕ). length xs) file.0, c.requires.range, size)
 
@@ -59,7 +59,7 @@ pub returns : goal.returns
 returns c =
     let arena = c.self.inside.arena in let block = c.bytes.result.now in let path = c.args.path.now in
     let node = subst (λ r. IfSome r (λ b. IsNode (nodes_in arena) b)) c.unwrap-node.ensures c.find_path.ensures.node in
-    let way = subst (λ r. IfSome r (λ b. path_of (nodes_in arena) b ≡ path)) c.unwrap-node.ensures c.find_path.ensures.path in
+    let way = subst (λ r. IfSome r (λ b. path_of_node (nodes_in arena) b ≡ path)) c.unwrap-node.ensures c.find_path.ensures.path in
     let file = seen_file _ _ _ c.self.invariant.store _ c.self.view_is c.unwrap-node.result path block node way c.bytes.ensures.octets c.requires.file in
     c.get.ensures.octets
     ∙ ap (λ (x : Contents). slice_range (contents_in arena x) c.args.at (c.args.at + length c.args.buffer.now)) c.contents_of-file.ensures

@@ -1,9 +1,9 @@
 use Rattle.std.proofs.Common.{◌+◌, List, ℕ, length, sym, ap, ◌∙◌, subst, arith}
 use Rattle.std.specs.Prelude.{slice_range}
 use Rattle.cfdp_actions.specs.Filestore.{staged_in}
-use Rattle.cfdp_tree.specs.Ways.{HasWays}
-use Rattle.cfdp_tree.proofs.ContentsLaws.{length-contents}
-use Rattle.cfdp_tree.proofs.SeenLaws.{seen_staged, slot_filled, slot_ways, staged_small}
+use Rattle.cfdp_tree.specs.code.Ways.{HasWays}
+use Rattle.cfdp_tree.proofs.OfRuns.ContentsLaws.{length-contents}
+use Rattle.cfdp_tree.proofs.OfStore.SeenLaws.{seen_staged, slot_filled, slot_ways, staged_small}
 use Rattle.cfdp_tree.proofs.tree_store.TreeStoreFilestore.read_staged.Goals as goal
 
 pub overflow_cast-at : goal.overflow_cast-at

@@ -2,18 +2,18 @@ use Rattle.std.proofs.Common.{◌≡◌, ◌-◌, [], get_or, refl, sym, ap, ◌
 use Rattle.std.proofs.lemmas.List.{with_items_is}
 use Rattle.std.specs.Prelude.{IfSome}
 use Rattle.std.specs.Vec.{with_items}
-use Rattle.cfdp_tree.specs.Nodes.{nodes_in}
-use Rattle.cfdp_tree.specs.Tree.{IsNode, home_in, path_of}
-use Rattle.cfdp_tree.specs.Index.{IsIndex}
-use Rattle.cfdp_tree.specs.Slots.{IsStore}
-use Rattle.cfdp_tree.proofs.TreeLaws.{node_octets}
-use Rattle.cfdp_tree.proofs.OutLaws.{nodes_long}
-use Rattle.cfdp_tree.proofs.AlikeLaws.{alike_relinked, runs_then}
-use Rattle.cfdp_tree.proofs.DropLaws.{seen_found, tree_one, index_one, entry_one, node_name, alike_two}
-use Rattle.cfdp_tree.proofs.ShiftLaws.{place_nodes, place_other, tree_three, index_three, entry_three, shift_view, shift_store}
+use Rattle.cfdp_tree.specs.code.Nodes.{nodes_in}
+use Rattle.cfdp_tree.specs.code.Tree.{IsNode, home_in, path_of_node}
+use Rattle.cfdp_tree.specs.code.Index.{IsIndex}
+use Rattle.cfdp_tree.specs.code.Slots.{IsStore}
+use Rattle.cfdp_tree.proofs.OfNodes.TreeLaws.{node_octets}
+use Rattle.cfdp_tree.proofs.OfIndex.OutLaws.{nodes_long}
+use Rattle.cfdp_tree.proofs.OfStore.AlikeLaws.{alike_relinked, runs_then}
+use Rattle.cfdp_tree.proofs.OfStore.DropLaws.{seen_found, tree_one, index_one, entry_one, node_name, alike_two}
+use Rattle.cfdp_tree.proofs.OfStore.ShiftLaws.{place_nodes, place_other, tree_three, index_three, entry_three, shift_view, shift_store}
 use Rattle.cfdp_arena.specs.Arena.{octets_of}
-use Rattle.cfdp_tree.specs.Orders.{IsOrdered}
-use Rattle.cfdp_tree.proofs.OrderedLaws.{kept_places, ordered_kept, ordered_moved}
+use Rattle.cfdp_tree.specs.code.Orders.{IsInOrders}
+use Rattle.cfdp_tree.proofs.OfOrders.OrderedLaws.{kept_places, ordered_kept, ordered_moved}
 use Rattle.cfdp_tree.proofs.tree_store.TreeStoreFilestore.rename.Goals as goal
 
 pub unwrap-node-requires : goal.unwrap-node-requires
@@ -24,7 +24,7 @@ pub leave-requires-clause-entry : goal.leave-requires-clause-entry
 leave-requires-clause-entry c =
     let arena = c.self.inside.arena in let b = c.unwrap-node.result in let p = c.args.from.now in
     let node = subst (λ r. IfSome r (λ x. IsNode (nodes_in arena) x)) c.unwrap-node.ensures c.find_path.ensures.node in
-    let way = subst (λ r. IfSome r (λ x. path_of (nodes_in arena) x ≡ p)) c.unwrap-node.ensures c.find_path.ensures.path in
+    let way = subst (λ r. IfSome r (λ x. path_of_node (nodes_in arena) x ≡ p)) c.unwrap-node.ensures c.find_path.ensures.path in
     let there = c.home_of.ensures ∙ ap (home_in b) (node_octets arena b node c.bytes.result.now c.bytes.ensures.octets) in
     let name = c.name-old_name.ensures.name ∙ ap (λ n. get_or p (n - 1) []) c.depth.ensures.depth in
     record { node = node; there = sym there; named = node_name _ _ _ c.self.invariant.store _ c.self.view_is p b node way ∙ sym name }
@@ -33,14 +33,14 @@ pub remove-requires-clause-tree : goal.remove-requires-clause-tree
 remove-requires-clause-tree c =
     let arena = c.self.inside.arena in let b = c.unwrap-node.result in let p = c.args.from.now in let q = c.args.to.now in
     let node = subst (λ r. IfSome r (λ x. IsNode (nodes_in arena) x)) c.unwrap-node.ensures c.find_path.ensures.node in
-    let way = subst (λ r. IfSome r (λ x. path_of (nodes_in arena) x ≡ p)) c.unwrap-node.ensures c.find_path.ensures.path in
+    let way = subst (λ r. IfSome r (λ x. path_of_node (nodes_in arena) x ≡ p)) c.unwrap-node.ensures c.find_path.ensures.path in
     tree_one _ _ _ c.self.invariant.store _ c.self.view_is p b node way arena refl
 
 pub remove-requires-clause-index : goal.remove-requires-clause-index
 remove-requires-clause-index c =
     let arena = c.self.inside.arena in let b = c.unwrap-node.result in let p = c.args.from.now in let q = c.args.to.now in
     let node = subst (λ r. IfSome r (λ x. IsNode (nodes_in arena) x)) c.unwrap-node.ensures c.find_path.ensures.node in
-    let way = subst (λ r. IfSome r (λ x. path_of (nodes_in arena) x ≡ p)) c.unwrap-node.ensures c.find_path.ensures.path in
+    let way = subst (λ r. IfSome r (λ x. path_of_node (nodes_in arena) x ≡ p)) c.unwrap-node.ensures c.find_path.ensures.path in
     subst (λ hs. IsIndex (nodes_in c.self.inside.arena) hs None) (sym c.deref_mut.ensures.value)
     (index_one _ _ _ c.self.invariant.store _ c.self.view_is p b node way arena refl)
 
@@ -48,7 +48,7 @@ pub remove-requires-clause-entry : goal.remove-requires-clause-entry
 remove-requires-clause-entry c =
     let arena = c.self.inside.arena in let b = c.unwrap-node.result in let p = c.args.from.now in let q = c.args.to.now in
     let node = subst (λ r. IfSome r (λ x. IsNode (nodes_in arena) x)) c.unwrap-node.ensures c.find_path.ensures.node in
-    let way = subst (λ r. IfSome r (λ x. path_of (nodes_in arena) x ≡ p)) c.unwrap-node.ensures c.find_path.ensures.path in
+    let way = subst (λ r. IfSome r (λ x. path_of_node (nodes_in arena) x ≡ p)) c.unwrap-node.ensures c.find_path.ensures.path in
     let there = c.home_of.ensures ∙ ap (home_in b) (node_octets arena b node c.bytes.result.now c.bytes.ensures.octets) in
     let name = c.name-old_name.ensures.name ∙ ap (λ n. get_or p (n - 1) []) c.depth.ensures.depth in
     entry_one _ _ _ c.self.invariant.store _ c.self.view_is p b node way arena refl
@@ -58,7 +58,7 @@ pub rename_node-requires-clause-directory : goal.rename_node-requires-clause-dir
 rename_node-requires-clause-directory c =
     let arena = c.self.inside.arena in let b = c.unwrap-node.result in let p = c.args.from.now in let q = c.args.to.now in
     let node = subst (λ r. IfSome r (λ x. IsNode (nodes_in arena) x)) c.unwrap-node.ensures c.find_path.ensures.node in
-    let way = subst (λ r. IfSome r (λ x. path_of (nodes_in arena) x ≡ p)) c.unwrap-node.ensures c.find_path.ensures.path in
+    let way = subst (λ r. IfSome r (λ x. path_of_node (nodes_in arena) x ≡ p)) c.unwrap-node.ensures c.find_path.ensures.path in
     place_nodes _ _ _ c.self.invariant.store _ c.self.view_is p b node way q c.depth-depth.ensures.within _
     (omega (arith, c.depth-depth.ensures.depth, c.depth-depth.ensures.within.some)) c.requires.parent
     c.lookup.result c.lookup.ensures.node c.lookup.ensures.path c.lookup.ensures.none c.name-new_name.result.now c.name-new_name.ensures.name c.requires.apart
@@ -68,7 +68,7 @@ pub rename_node-requires-clause-apart : goal.rename_node-requires-clause-apart
 rename_node-requires-clause-apart c =
     let arena = c.self.inside.arena in let b = c.unwrap-node.result in let p = c.args.from.now in let q = c.args.to.now in
     let node = subst (λ r. IfSome r (λ x. IsNode (nodes_in arena) x)) c.unwrap-node.ensures c.find_path.ensures.node in
-    let way = subst (λ r. IfSome r (λ x. path_of (nodes_in arena) x ≡ p)) c.unwrap-node.ensures c.find_path.ensures.path in
+    let way = subst (λ r. IfSome r (λ x. path_of_node (nodes_in arena) x ≡ p)) c.unwrap-node.ensures c.find_path.ensures.path in
     place_other _ _ _ c.self.invariant.store _ c.self.view_is p b node way q c.depth-depth.ensures.within _
     (omega (arith, c.depth-depth.ensures.depth, c.depth-depth.ensures.within.some)) c.requires.parent
     c.lookup.result c.lookup.ensures.node c.lookup.ensures.path c.lookup.ensures.none c.name-new_name.result.now c.name-new_name.ensures.name c.requires.apart
@@ -77,7 +77,7 @@ pub enter-requires-clause-tree : goal.enter-requires-clause-tree
 enter-requires-clause-tree c =
     let arena = c.self.inside.arena in let b = c.unwrap-node.result in let p = c.args.from.now in let q = c.args.to.now in
     let node = subst (λ r. IfSome r (λ x. IsNode (nodes_in arena) x)) c.unwrap-node.ensures c.find_path.ensures.node in
-    let way = subst (λ r. IfSome r (λ x. path_of (nodes_in arena) x ≡ p)) c.unwrap-node.ensures c.find_path.ensures.path in
+    let way = subst (λ r. IfSome r (λ x. path_of_node (nodes_in arena) x ≡ p)) c.unwrap-node.ensures c.find_path.ensures.path in
     tree_three _ _ _ c.self.invariant.store _ c.self.view_is p b node way q c.depth-depth.ensures.within _
     (omega (arith, c.depth-depth.ensures.depth, c.depth-depth.ensures.within.some)) c.requires.parent
     c.lookup.result c.lookup.ensures.node c.lookup.ensures.path c.lookup.ensures.none c.name-new_name.result.now c.name-new_name.ensures.name c.requires.apart
@@ -89,10 +89,10 @@ pub enter-requires-clause-ordered : goal.enter-requires-clause-ordered
 enter-requires-clause-ordered c =
     let arena = c.self.inside.arena in let b = c.unwrap-node.result in let p = c.args.from.now in
     let node = subst (λ r. IfSome r (λ x. IsNode (nodes_in arena) x)) c.unwrap-node.ensures c.find_path.ensures.node in
-    let way = subst (λ r. IfSome r (λ x. path_of (nodes_in arena) x ≡ p)) c.unwrap-node.ensures c.find_path.ensures.path in
+    let way = subst (λ r. IfSome r (λ x. path_of_node (nodes_in arena) x ≡ p)) c.unwrap-node.ensures c.find_path.ensures.path in
     let two = c.remove.new.arena in
     let alike = alike_two _ _ _ c.self.invariant.store _ c.self.view_is p b node way arena refl two c.remove.ensures.links in
-    subst (λ ns. IsOrdered ns c.leave.new.self (Some b)) (sym c.rename_node.ensures.nodes)
+    subst (λ ns. IsInOrders ns c.leave.new.self (Some b)) (sym c.rename_node.ensures.nodes)
     (ordered_moved (nodes_in two) c.leave.new.self b (octets_of (nodes_in c.rename_node.new.arena) b)
     (ordered_kept (nodes_in arena) (nodes_in two) c.leave.new.self (Some b) (nodes_long arena two c.remove.ensures.size)
     (kept_places (nodes_in arena) (nodes_in two) (Some b) alike.places) c.leave.ensures))
@@ -101,7 +101,7 @@ pub insert-requires-clause-tree : goal.insert-requires-clause-tree
 insert-requires-clause-tree c =
     let arena = c.self.inside.arena in let b = c.unwrap-node.result in let p = c.args.from.now in let q = c.args.to.now in
     let node = subst (λ r. IfSome r (λ x. IsNode (nodes_in arena) x)) c.unwrap-node.ensures c.find_path.ensures.node in
-    let way = subst (λ r. IfSome r (λ x. path_of (nodes_in arena) x ≡ p)) c.unwrap-node.ensures c.find_path.ensures.path in
+    let way = subst (λ r. IfSome r (λ x. path_of_node (nodes_in arena) x ≡ p)) c.unwrap-node.ensures c.find_path.ensures.path in
     tree_three _ _ _ c.self.invariant.store _ c.self.view_is p b node way q c.depth-depth.ensures.within _
     (omega (arith, c.depth-depth.ensures.depth, c.depth-depth.ensures.within.some)) c.requires.parent
     c.lookup.result c.lookup.ensures.node c.lookup.ensures.path c.lookup.ensures.none c.name-new_name.result.now c.name-new_name.ensures.name c.requires.apart
@@ -113,7 +113,7 @@ pub insert-requires-clause-entry : goal.insert-requires-clause-entry
 insert-requires-clause-entry c =
     let arena = c.self.inside.arena in let b = c.unwrap-node.result in let p = c.args.from.now in let q = c.args.to.now in
     let node = subst (λ r. IfSome r (λ x. IsNode (nodes_in arena) x)) c.unwrap-node.ensures c.find_path.ensures.node in
-    let way = subst (λ r. IfSome r (λ x. path_of (nodes_in arena) x ≡ p)) c.unwrap-node.ensures c.find_path.ensures.path in
+    let way = subst (λ r. IfSome r (λ x. path_of_node (nodes_in arena) x ≡ p)) c.unwrap-node.ensures c.find_path.ensures.path in
     entry_three _ _ _ c.self.invariant.store _ c.self.view_is p b node way q c.depth-depth.ensures.within _
     (omega (arith, c.depth-depth.ensures.depth, c.depth-depth.ensures.within.some)) c.requires.parent
     c.lookup.result c.lookup.ensures.node c.lookup.ensures.path c.lookup.ensures.none c.name-new_name.result.now c.name-new_name.ensures.name c.requires.apart
@@ -125,7 +125,7 @@ pub insert-requires-clause-index : goal.insert-requires-clause-index
 insert-requires-clause-index c =
     let arena = c.self.inside.arena in let b = c.unwrap-node.result in let p = c.args.from.now in let q = c.args.to.now in
     let node = subst (λ r. IfSome r (λ x. IsNode (nodes_in arena) x)) c.unwrap-node.ensures c.find_path.ensures.node in
-    let way = subst (λ r. IfSome r (λ x. path_of (nodes_in arena) x ≡ p)) c.unwrap-node.ensures c.find_path.ensures.path in
+    let way = subst (λ r. IfSome r (λ x. path_of_node (nodes_in arena) x ≡ p)) c.unwrap-node.ensures c.find_path.ensures.path in
     subst (λ hs. IsIndex (nodes_in c.rename_node.new.arena) hs (Some b)) (sym (c.deref_mut-2.ensures.value
     ∙ with_items_is c.self.inside.heads c.remove.new.heads (c.remove.auto.heads ∙ c.deref_mut.ensures.len)))
     (index_three _ _ _ c.self.invariant.store _ c.self.view_is p b node way q c.depth-depth.ensures.within _
@@ -139,7 +139,7 @@ pub invariant_of-self : goal.invariant_of-self
 invariant_of-self c =
     let arena = c.self.inside.arena in let b = c.unwrap-node.result in let p = c.args.from.now in let q = c.args.to.now in
     let node = subst (λ r. IfSome r (λ x. IsNode (nodes_in arena) x)) c.unwrap-node.ensures c.find_path.ensures.node in
-    let way = subst (λ r. IfSome r (λ x. path_of (nodes_in arena) x ≡ p)) c.unwrap-node.ensures c.find_path.ensures.path in
+    let way = subst (λ r. IfSome r (λ x. path_of_node (nodes_in arena) x ≡ p)) c.unwrap-node.ensures c.find_path.ensures.path in
     let two = c.remove.new.arena in let three = c.rename_node.new.arena in let later = c.insert.new.arena in
     let alike = alike_relinked (nodes_in three) (nodes_in later) c.insert.ensures.links in
     let runs = runs_then arena three later (runs_then arena two three c.remove.ensures.runs c.rename_node.ensures.runs) c.insert.ensures.runs in
@@ -164,7 +164,7 @@ pub returns-clause-moved : goal.returns-clause-moved
 returns-clause-moved c =
     let arena = c.self.inside.arena in let b = c.unwrap-node.result in let p = c.args.from.now in let q = c.args.to.now in
     let node = subst (λ r. IfSome r (λ x. IsNode (nodes_in arena) x)) c.unwrap-node.ensures c.find_path.ensures.node in
-    let way = subst (λ r. IfSome r (λ x. path_of (nodes_in arena) x ≡ p)) c.unwrap-node.ensures c.find_path.ensures.path in
+    let way = subst (λ r. IfSome r (λ x. path_of_node (nodes_in arena) x ≡ p)) c.unwrap-node.ensures c.find_path.ensures.path in
     let two = c.remove.new.arena in let three = c.rename_node.new.arena in let later = c.insert.new.arena in
     let alike = alike_relinked (nodes_in three) (nodes_in later) c.insert.ensures.links in
     let runs = runs_then arena three later (runs_then arena two three c.remove.ensures.runs c.rename_node.ensures.runs) c.insert.ensures.runs in

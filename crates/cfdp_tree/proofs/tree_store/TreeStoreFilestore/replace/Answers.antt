@@ -2,17 +2,17 @@ use Rattle.std.proofs.Common.{◌≡◌, ◌+◌, ◌*◌, ℕ, [], ◌∷◌, S
 use Rattle.std.proofs.lemmas.Bool.{eqb-true, eqb-false}
 use Rattle.std.specs.Prelude.{if◌then◌else◌}
 use Rattle.cfdp_arena.specs.Arena.{octets_of}
-use Rattle.cfdp_actions.specs.Filestore.{File, Becomes, octets_at, blocks_of}
+use Rattle.cfdp_actions.specs.Filestore.{File, Becomes, file_octets_at, blocks_of}
 use Rattle.cfdp_actions.specs.Store.{with_changes}
 use Rattle.std.proofs.lemmas.List.{with_items_is}
-use Rattle.cfdp_tree.specs.Nodes.{nodes_in}
-use Rattle.cfdp_tree.specs.Ways.{HasWays, KeepsWays}
-use Rattle.cfdp_tree.specs.Slots.{IsStore}
-use Rattle.cfdp_tree.proofs.Filling.{blocks_of-most}
-use Rattle.cfdp_tree.proofs.SeenLaws.{file_small}
-use Rattle.cfdp_tree.proofs.FoundLaws.{file_found, file_most, found_filled, found_ways, found_octets, found_blocks, found_one, found_two, found_apart, replace_most, replace_room, found_store, found_changes}
-use Rattle.cfdp_tree.proofs.FileLaws.{kind_there}
-use Rattle.cfdp_tree.proofs.OrderedLaws.{ordered_written}
+use Rattle.cfdp_tree.specs.code.Nodes.{nodes_in}
+use Rattle.cfdp_tree.specs.code.Ways.{HasWays, KeepsWays}
+use Rattle.cfdp_tree.specs.code.Slots.{IsStore}
+use Rattle.cfdp_tree.proofs.OfRuns.Filling.{blocks_of-most}
+use Rattle.cfdp_tree.proofs.OfStore.SeenLaws.{file_small}
+use Rattle.cfdp_tree.proofs.OfStore.FoundLaws.{file_found, file_most, found_filled, found_ways, found_octets, found_blocks, found_one, found_two, found_apart, replace_most, replace_room, found_store, found_changes}
+use Rattle.cfdp_tree.proofs.OfStore.FileLaws.{kind_there}
+use Rattle.cfdp_tree.proofs.OfOrders.OrderedLaws.{ordered_written}
 use Rattle.cfdp_tree.proofs.tree_store.TreeStoreFilestore.replace.Goals as goal
 
 pub find_file-file-requires-clause-there : goal.find_file-file-requires-clause-there
@@ -34,7 +34,8 @@ returns-then-eq-clause-ticks c =
     file.contents
     c.args.second.now c.requires.second c.find_file-source.result source.node source.path source.contents
     (eqb-true c.find_file-file.result.node c.find_file-source.result.node (sym c.eq.ensures ∙ c.if-eq.true)) in
-    sym (ap (λ same. if same then 0 else blocks_of (length (octets_at F c.args.first.now)) + 2 * blocks_of (length (octets_at F c.args.second.now))) one)
+    sym (ap (λ same. if same then 0 else blocks_of (length (file_octets_at F c.args.first.now)) + 2 * blocks_of
+    (length (file_octets_at F c.args.second.now))) one)
 
 pub returns-then-eq-clause-replaced : goal.returns-then-eq-clause-replaced
 returns-then-eq-clause-replaced c =
@@ -43,7 +44,7 @@ returns-then-eq-clause-replaced c =
     file.contents
     c.args.second.now c.requires.second c.find_file-source.result source.node source.path source.contents
     (eqb-true c.find_file-file.result.node c.find_file-source.result.node (sym c.eq.ensures ∙ c.if-eq.true)) in
-    sym (ap (λ same. with_changes c.args.self.now (if same then [] else Becomes c.args.first.now (Some (File (octets_at F c.args.second.now))) ∷ [])) one)
+    sym (ap (λ same. with_changes c.args.self.now (if same then [] else Becomes c.args.first.now (Some (File (file_octets_at F c.args.second.now))) ∷ [])) one)
 
 pub replace-requires-clause-filled : goal.replace-requires-clause-filled
 replace-requires-clause-filled c =
@@ -86,7 +87,7 @@ overflow_mul-result c =
     let source = c.find_file-source.ensures in
     let count = found_blocks _ _ _ c.self.invariant.store _ c.self.view_is c.args.second.now c.requires.second c.find_file-source.result source.node source.path
     source.contents in
-    let m = length (octets_at c.args.self.now.filestore c.args.second.now) in
+    let m = length (file_octets_at c.args.self.now.filestore c.args.second.now) in
     omega (arith, count, blocks_of-most m (file_small _ _ _ c.self.invariant.store _ c.self.view_is c.args.second.now))
 
 pub overflow_add-result : goal.overflow_add-result
@@ -100,8 +101,8 @@ overflow_add-result c =
       arith,
       first,
       second,
-      blocks_of-most (length (octets_at F c.args.first.now)) (file_small _ _ _ c.self.invariant.store _ c.self.view_is c.args.first.now),
-      blocks_of-most (length (octets_at F c.args.second.now)) (file_small _ _ _ c.self.invariant.store _ c.self.view_is c.args.second.now),
+      blocks_of-most (length (file_octets_at F c.args.first.now)) (file_small _ _ _ c.self.invariant.store _ c.self.view_is c.args.first.now),
+      blocks_of-most (length (file_octets_at F c.args.second.now)) (file_small _ _ _ c.self.invariant.store _ c.self.view_is c.args.second.now),
     )
 
 -- the blocks that are taken
@@ -139,7 +140,8 @@ returns-clause-ticks c =
     c.args.second.now c.requires.second c.find_file-source.result source.node source.path source.contents
     (eqb-false c.find_file-file.result.node c.find_file-source.result.node (sym c.eq.ensures ∙ c.if-eq.false)) in
     (λ k. first k + 2 * second k)
-    ∙ sym (ap (λ same. if same then 0 else blocks_of (length (octets_at F c.args.first.now)) + 2 * blocks_of (length (octets_at F c.args.second.now))) two)
+    ∙ sym (ap (λ same. if same then 0 else blocks_of (length (file_octets_at F c.args.first.now)) + 2 * blocks_of
+    (length (file_octets_at F c.args.second.now))) two)
 
 pub returns-clause-replaced : goal.returns-clause-replaced
 returns-clause-replaced c =
@@ -155,5 +157,6 @@ returns-clause-replaced c =
     c.replace.new.arena c.set_contents.new.arena c.replace.new.self (octets_of (nodes_in c.set_contents.new.arena) c.find_file-file.result.node)
     after.nodes after.capacity after.spares after.filled (taken _ _ _ _ _ after.taken after.size) set.nodes set.row set.name set.whole set.runs set.free
     set.capacity
-    (octets_at F c.args.second.now) (after.octets ∙ sym second)
-    ∙ sym (ap (λ same. with_changes c.args.self.now (if same then [] else Becomes c.args.first.now (Some (File (octets_at F c.args.second.now))) ∷ [])) two)
+    (file_octets_at F c.args.second.now) (after.octets ∙ sym second)
+    ∙ sym (ap (λ same. with_changes c.args.self.now (if same then [] else Becomes c.args.first.now (Some (File (file_octets_at F c.args.second.now))) ∷ []))
+    two)

@@ -2,12 +2,12 @@ use Rattle.std.proofs.Common.{◌≡◌, None, ℕ, ◌+◌, get_or, set, sym, a
 use Rattle.cfdp_actions.specs.Filestore.{staged_in, blocks_of}
 use Rattle.cfdp_actions.specs.Store.{extended}
 use Rattle.std.proofs.lemmas.List.{with_items_is}
-use Rattle.cfdp_tree.specs.Ways.{HasWays, KeepsWays}
-use Rattle.cfdp_tree.specs.Slots.{IsStore}
-use Rattle.cfdp_tree.proofs.Filling.{blocks_of-le}
-use Rattle.cfdp_tree.proofs.SeenLaws.{seen_staged, slot_filled, slot_ways, staged_size, room_there, size_fits}
-use Rattle.cfdp_tree.proofs.SlotLaws.{slot_changes, slot_store}
-use Rattle.cfdp_tree.specs.Orders.{IsOrdered}
+use Rattle.cfdp_tree.specs.code.Ways.{HasWays, KeepsWays}
+use Rattle.cfdp_tree.specs.code.Slots.{IsStore}
+use Rattle.cfdp_tree.proofs.OfRuns.Filling.{blocks_of-le}
+use Rattle.cfdp_tree.proofs.OfStore.SeenLaws.{seen_staged, slot_filled, slot_ways, staged_size, room_there, size_fits}
+use Rattle.cfdp_tree.proofs.OfStore.SlotLaws.{slot_changes, slot_store}
+use Rattle.cfdp_tree.specs.code.Orders.{IsInOrders}
 use Rattle.cfdp_tree.proofs.tree_store.TreeStoreFilestore.stage_extend.Goals as goal
 
 pub overflow_cast-size : goal.overflow_cast-size
@@ -73,7 +73,7 @@ invariant_of-self c =
           c.extend.new.ways after.ways
           (subst (λ ws. KeepsWays c.self.inside.arena c.extend.new.arena ws c.extend.new.ways c.index_mut-slot.result.now.contents.run)
           c.deref_mut.ensures.value after.other_ways));
-      ordered = subst (λ ns. IsOrdered ns c.self.inside.orders None) (sym after.nodes) c.self.invariant.ordered;
+      ordered = subst (λ ns. IsInOrders ns c.self.inside.orders None) (sym after.nodes) c.self.invariant.ordered;
     }
 
 pub returns-clause-ticks : goal.returns-clause-ticks

@@ -2,10 +2,10 @@ use Rattle.std.proofs.Common.{◌≡◌, None, ℕ, ◌+◌, get_or, sym, ap, �
 use Rattle.cfdp_actions.specs.Filestore.{staged_in, blocks_of}
 use Rattle.cfdp_actions.specs.Store.{overwritten}
 use Rattle.cfdp_tree.specs.declared.contents.Contents.{Contents}
-use Rattle.cfdp_tree.specs.Ways.{HasWays, KeepsWays}
-use Rattle.cfdp_tree.proofs.SeenLaws.{seen_staged, slot_filled, slot_ways, staged_size, staged_small}
-use Rattle.cfdp_tree.proofs.SlotLaws.{slot_changes, slot_store}
-use Rattle.cfdp_tree.specs.Orders.{IsOrdered}
+use Rattle.cfdp_tree.specs.code.Ways.{HasWays, KeepsWays}
+use Rattle.cfdp_tree.proofs.OfStore.SeenLaws.{seen_staged, slot_filled, slot_ways, staged_size, staged_small}
+use Rattle.cfdp_tree.proofs.OfStore.SlotLaws.{slot_changes, slot_store}
+use Rattle.cfdp_tree.specs.code.Orders.{IsInOrders}
 use Rattle.cfdp_tree.proofs.tree_store.TreeStoreFilestore.stage_put.Goals as goal
 
 pub overflow_cast-at : goal.overflow_cast-at
@@ -42,7 +42,7 @@ invariant_of-self c =
           (same_taken _ _ c.index_mut-slot.result.now.contents c.put.new.self.contents after.free after.size)
           c.self.inside.ways.items (subst (λ ws. HasWays c.put.new.arena ws c.put.new.self.contents.run) c.deref.ensures.value after.ways)
           (subst (λ ws. KeepsWays c.self.inside.arena c.put.new.arena ws ws c.index_mut-slot.result.now.contents.run) c.deref.ensures.value after.other_ways);
-      ordered = subst (λ ns. IsOrdered ns c.self.inside.orders None) (sym after.nodes) c.self.invariant.ordered;
+      ordered = subst (λ ns. IsInOrders ns c.self.inside.orders None) (sym after.nodes) c.self.invariant.ordered;
     }
 
 pub returns : goal.returns

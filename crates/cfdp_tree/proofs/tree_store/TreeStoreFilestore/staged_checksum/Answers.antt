@@ -1,7 +1,7 @@
 use Rattle.std.proofs.Common.{sym, ap, ◌∙◌, arith}
 use Rattle.cfdp_checksum.specs.Checksum.{checksum}
 use Rattle.cfdp_actions.specs.Filestore.{staged_in}
-use Rattle.cfdp_tree.proofs.SeenLaws.{seen_staged, slot_filled}
+use Rattle.cfdp_tree.proofs.OfStore.SeenLaws.{seen_staged, slot_filled}
 use Rattle.cfdp_tree.proofs.tree_store.TreeStoreFilestore.staged_checksum.Goals as goal
 
 pub returns : goal.returns

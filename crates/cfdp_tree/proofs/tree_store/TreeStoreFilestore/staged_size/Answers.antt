@@ -1,7 +1,7 @@
 use Rattle.std.proofs.Common.{List, ℕ, length, sym, ap, ◌∙◌, arith}
 use Rattle.cfdp_actions.specs.Filestore.{staged_in}
-use Rattle.cfdp_tree.proofs.ContentsLaws.{length-contents}
-use Rattle.cfdp_tree.proofs.SeenLaws.{seen_staged, slot_filled, staged_small}
+use Rattle.cfdp_tree.proofs.OfRuns.ContentsLaws.{length-contents}
+use Rattle.cfdp_tree.proofs.OfStore.SeenLaws.{seen_staged, slot_filled, staged_small}
 use Rattle.cfdp_tree.proofs.tree_store.TreeStoreFilestore.staged_size.Goals as goal
 
 pub returns-clause-value : goal.returns-clause-value

@@ -8,16 +8,16 @@ use Rattle.cfdp_actions.specs.declared.kind.Standing.{Standing}
 use Rattle.cfdp_actions.specs.Store.{standing_of, standings_of}
 use Rattle.cfdp_order.specs.declared.links.Order.{Order}
 use Rattle.cfdp_order.proofs.TreeLaws.{no_nodes}
-use Rattle.cfdp_tree.specs.Nodes.{nodes_in}
-use Rattle.cfdp_tree.specs.Tree.{IsNode}
-use Rattle.cfdp_tree.specs.Orders.{order_at, in_order}
-use Rattle.cfdp_tree.specs.Walk.{walk_from}
-use Rattle.cfdp_tree.specs.Survey.{IsSurvey, shown, IsSound}
-use Rattle.cfdp_tree.proofs.AloneLaws.{alone_tree}
-use Rattle.cfdp_tree.proofs.SeenLaws.{shows}
-use Rattle.cfdp_tree.proofs.SurveyLaws.{survey_from, survey_rising}
-use Rattle.cfdp_tree.proofs.InOrderLaws.{found_tree, told_tree}
-use Rattle.cfdp_tree.proofs.SoundLaws.{items_are, under_nodes, node_sound, found_sound, none_under}
+use Rattle.cfdp_tree.specs.code.Nodes.{nodes_in}
+use Rattle.cfdp_tree.specs.code.Tree.{IsNode}
+use Rattle.cfdp_tree.specs.code.Orders.{order_at, in_order}
+use Rattle.cfdp_tree.specs.code.Walk.{walk_from}
+use Rattle.cfdp_tree.specs.code.Survey.{IsNodeSurvey, shown_node, IsSoundNode}
+use Rattle.cfdp_tree.proofs.OfNodes.AloneLaws.{alone_tree}
+use Rattle.cfdp_tree.proofs.OfStore.SeenLaws.{shows}
+use Rattle.cfdp_tree.proofs.OfWalks.SurveyLaws.{survey_from, survey_rising}
+use Rattle.cfdp_tree.proofs.OfWalks.InOrderLaws.{found_tree, told_tree}
+use Rattle.cfdp_tree.proofs.OfStore.SoundLaws.{items_are, under_nodes, node_sound, found_sound, none_under}
 use Rattle.cfdp_tree.proofs.tree_store.TreeStoreFilestore.standing.Goals as goal
 
 some_node : (P : ℕ → Type 0) (b : ℕ) → P b → (d : ℕ) → Some b ≡ Some d → P d
@@ -45,12 +45,12 @@ returns c =
     c.in_ok-found.found.items in let F = c.args.self.now.filestore in
     let node = some_node (IsNode nodes) b c.in-Some.ensures.node in
     let survey = survey_from nodes tree orders ordered (Some b) depth node (ap length c.in-Some.ensures.path ∙ sym c.depth.ensures.depth) in
-    let told = told_tree nodes tree path list (subst (λ p. IsSurvey nodes p list) c.in-Some.ensures.path survey)
+    let told = told_tree nodes tree path list (subst (λ p. IsNodeSurvey nodes p list) c.in-Some.ensures.path survey)
     (survey_rising nodes tree orders ordered (Some b) depth node) found c.in_ok-found.ensures
     arena F (shows _ _ _ c.self.invariant.store _ c.self.view_is) in
-    items_are (λ (v : Vec Standing Global). v.items) c.standings.result (map (λ e. standing_of (shown arena nodes e)) found)
+    items_are (λ (v : Vec Standing Global). v.items) c.standings.result (map (λ e. standing_of (shown_node arena nodes e)) found)
     (standings_of F path) c.standings.ensures
-    (sym (map-map standing_of (shown arena nodes) found) ∙ ap (map standing_of) told)
+    (sym (map-map standing_of (shown_node arena nodes) found) ∙ ap (map standing_of) told)
 
 not_some : (r : Option ℕ) (P : Type 0) → ((x : ℕ) → r ≡ Some x → ⊥) → IfNone r P → P
 not_some None P absent p = p
@@ -68,7 +68,7 @@ returns-in_default c =
 pub only_standing-requires : goal.only_standing-requires
 only_standing-requires c =
     let arena = c.self.inside.arena in let b = c.in-Some.node in
-    subst (λ (p : Path). IsSound arena (p, b)) c.in-Some.ensures.path (node_sound _ _ _ c.self.invariant.store _ c.self.view_is b c.in-Some.ensures.node)
+    subst (λ (p : Path). IsSoundNode arena (p, b)) c.in-Some.ensures.path (node_sound _ _ _ c.self.invariant.store _ c.self.view_is b c.in-Some.ensures.node)
 
 pub returns-then-is_empty : goal.returns-then-is_empty
 returns-then-is_empty c =
@@ -78,6 +78,6 @@ returns-then-is_empty c =
     ∙ c.is_empty.ensures.0 c.if-is_empty.true) in
     let tree = alone_tree nodes c.self.invariant.store.kept.tree orders c.self.invariant.ordered b path c.in-Some.ensures.node c.in-Some.ensures.path none arena
     F (shows _ _ _ c.self.invariant.store _ c.self.view_is) in
-    items_are (λ (v : Vec Standing Global). v.items) c.only_standing.result (standing_of (shown arena nodes (path, b)) ∷ [])
+    items_are (λ (v : Vec Standing Global). v.items) c.only_standing.result (standing_of (shown_node arena nodes (path, b)) ∷ [])
     (standings_of F path) c.only_standing.ensures
     (ap (map standing_of) tree)

@@ -1,6 +1,6 @@
 use Rattle.std.proofs.Common.{ap}
 use Rattle.cfdp_actions.specs.Store.{Store}
-use Rattle.cfdp_tree.proofs.SeenLaws.{few_blocks}
+use Rattle.cfdp_tree.proofs.OfStore.SeenLaws.{few_blocks}
 use Rattle.cfdp_tree.proofs.tree_store.TreeStoreFilestore.takes_no_memory.Goals as goal
 
 pub returns-clause-value : goal.returns-clause-value

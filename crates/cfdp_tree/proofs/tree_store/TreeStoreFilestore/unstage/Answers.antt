@@ -4,15 +4,15 @@ use Rattle.cfdp_actions.specs.Filestore.{blocks_of}
 use Rattle.cfdp_tree.specs.declared.contents.Contents.{Contents}
 use Rattle.cfdp_tree.specs.declared.runs.Run.{Run}
 use Rattle.cfdp_tree.specs.declared.slots.Slot.{Slot}
-use Rattle.cfdp_tree.specs.Runs.{Spares}
-use Rattle.cfdp_tree.specs.Slots.{no_gap, IsPlaced}
-use Rattle.cfdp_tree.proofs.Filling.{blocks_of-none}
-use Rattle.cfdp_tree.proofs.ContentsLaws.{none_filled, none_contents}
-use Rattle.cfdp_tree.proofs.SlotPlaces.{slot_starts}
-use Rattle.cfdp_tree.proofs.SeenLaws.{slot_filled, slot_ways, staged_size}
-use Rattle.cfdp_tree.proofs.SlotLaws.{slot_changes, slot_store}
-use Rattle.cfdp_tree.proofs.WayLaws.{ways_none, keeps_still}
-use Rattle.cfdp_tree.specs.Orders.{IsOrdered}
+use Rattle.cfdp_tree.specs.code.Runs.{Spares}
+use Rattle.cfdp_tree.specs.code.Slots.{no_gap, IsPlaced}
+use Rattle.cfdp_tree.proofs.OfRuns.Filling.{blocks_of-none}
+use Rattle.cfdp_tree.proofs.OfRuns.ContentsLaws.{none_filled, none_contents}
+use Rattle.cfdp_tree.proofs.OfStore.SlotPlaces.{slot_starts}
+use Rattle.cfdp_tree.proofs.OfStore.SeenLaws.{slot_filled, slot_ways, staged_size}
+use Rattle.cfdp_tree.proofs.OfStore.SlotLaws.{slot_changes, slot_store}
+use Rattle.cfdp_tree.proofs.OfRuns.WayLaws.{ways_none, keeps_still}
+use Rattle.cfdp_tree.specs.code.Orders.{IsInOrders}
 use Rattle.cfdp_tree.proofs.tree_store.TreeStoreFilestore.unstage.Goals as goal
 
 -- a run of no blocks is apart from each other one
@@ -62,7 +62,7 @@ invariant_of-self c =
           (none_filled later after.contents none.blocks none.size none.sum) none.placed (no_room arena later slot after none.blocks none.size _ _ gone.freed)
           c.self.inside.ways.items (ways_none later c.self.inside.ways.items after.contents.run (had.long ∙ sym gone.capacity) none.blocks)
           (keeps_still arena later c.self.inside.ways.items slot.contents.run slot.contents.run gone.capacity gone.spares);
-      ordered = subst (λ ns. IsOrdered ns c.self.inside.orders None) (sym gone.nodes) c.self.invariant.ordered;
+      ordered = subst (λ ns. IsInOrders ns c.self.inside.orders None) (sym gone.nodes) c.self.invariant.ordered;
     }
 
 pub returns-clause-ticks : goal.returns-clause-ticks

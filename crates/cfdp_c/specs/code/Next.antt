@@ -1,0 +1,9 @@
+-- What only the proofs of the code need of `Next`.
+--   kind_number               the number of a kind
+use Rattle.std.specs.Prelude.{ℕ}
+use Rattle.cfdp_actions.specs.declared.kind.Kind.{Kind}
+use Rattle.cfdp_actions.specs.declared.kind.Kind.TheVariants as kind
+
+abbrev pub kind_number : Kind → ℕ
+kind_number kind.File = 1
+kind_number kind.Directory = 2

@@ -1,6 +1,0 @@
-use Rattle.std.proofs.Common.{◌∙◌}
-use Rattle.cfdp_states.proofs.Sketched.{depth-is}
-use Rattle.cfdp_states.proofs.kinds.ExtentsKinds.is_too_deep.Goals as goal
-
-pub returns-clause-told : goal.returns-clause-told
-returns-clause-told c = λ F h. c.is_too_deep.ensures ∙ depth-is _ F h _ _

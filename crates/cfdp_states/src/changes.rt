@@ -1,0 +1,67 @@
+//! The rows of the action table that are not refused, on kinds and sizes alone, with unlimited room.
+
+ghost use Rattle.std.specs.Prelude.{◌≡◌, false, IsTrue, OnOk, OnErr};
+ghost use Rattle.std.specs.FinMap as finite;
+ghost use Rattle.cfdp_status.specs.declared.status.Status.TheVariants.{Successful};
+ghost use Rattle.cfdp_paths.specs.Paths.{Path};
+ghost use Rattle.cfdp_paths.specs.PathMaps.{is_too_deep, tree_in};
+ghost use Rattle.cfdp_actions.specs.Filestore.{Filestore};
+ghost use Rattle.cfdp_actions.specs.Actions.{RenameFile, action_in, succeeded, table};
+ghost use Rattle.cfdp_states.specs.Sketching.{makes_path};
+ghost use Rattle.cfdp_states.specs.code.Sketching.{IsOutline, Does, resized, size_in};
+
+use crate::extent::Extent;
+use crate::extents::Extents;
+use cfdp_actions::Request;
+use cfdp_paths::{Memory, Path};
+use cfdp_status::Action;
+
+/// Changes the extents as the row of the request says. Only a request that makes a path takes memory; when out of it
+/// they are as before.
+pub fn change(extents: &mut Extents, request: &Request) -> Result<(), Memory>
+    requires allowed { (F : Filestore) → IsOutline extents.old F → IsTrue (succeeded (table F request.now).answer) }
+    requires shallow { (p q : Path) → request.now ≡ RenameFile p q
+        → is_too_deep p q (tree_in p (finite.entries extents.old)) ≡ false }
+    ensures done { OnOk result (Does extents.old extents.new request.now (Successful (action_in request.now))) }
+    ensures err { OnErr result (extents.new ≡ extents.old) }
+    ensures thrifty { OnErr result (IsTrue (makes_path request.now)) }
+{
+    let first = request.first();
+    match request.action() {
+        Action::CreateFile => extents.put(first, Extent::File(0)),
+        Action::CreateDirectory => extents.put(first, Extent::Directory),
+        Action::DeleteFile | Action::RemoveDirectory | Action::DenyFile | Action::DenyDirectory => {
+            extents.remove(first);
+            Ok(())
+        }
+        Action::RenameFile => extents.relocate(first, request.second().unwrap()),
+        Action::AppendFile => {
+            let more = size(extents, request.second().unwrap());
+            resize(extents, first, size(extents, first).saturating_add(more));
+            Ok(())
+        }
+        Action::ReplaceFile => {
+            resize(extents, first, size(extents, request.second().unwrap()));
+            Ok(())
+        }
+    }
+}
+
+/// The most octets that a file has: 0 where no file exists.
+fn size(extents: &Extents, path: &Path) -> u64
+    ensures { result ≡ size_in (finite.get extents.now path.now) }
+{
+    match extents.get(path) {
+        Some(Extent::File(octets)) => octets,
+        _ => 0,
+    }
+}
+
+/// From now on what is at the path, if anything is there, is a file of at most this many octets.
+fn resize(extents: &mut Extents, path: &Path, octets: u64)
+    ensures { extents.new ≡ resized path.now octets extents.old }
+{
+    if extents.get(path).is_some() {
+        extents.set(path, Extent::File(octets));
+    }
+}

@@ -1,0 +1,20 @@
+-- The program's table, leases and quota after each change, and the replies that follow.
+pub mod TableUnderNames
+pub mod Accounts
+pub mod WorldOfTable
+pub mod Budgets
+pub mod EntryChanged
+pub mod EntryEnded
+pub mod EntryTurned
+pub mod Answering
+pub mod EntryAdded
+pub mod EntryGranted
+pub mod FirstClosed
+pub mod Acting
+pub mod StepDone
+pub mod DataStored
+pub mod DataAnswers
+pub mod EntryTakenOut
+pub mod Following
+pub mod EntryDone
+pub mod EofAnswers

@@ -1,5 +1,0 @@
-use Rattle.std.proofs.Common.{rules}
-use Rattle.cfdp_transactions.proofs.receiver.Core.apply.Goals as goal
-
-pub returns-in-Eof-clause-follows : goal.returns-in-Eof-clause-follows
-returns-in-Eof-clause-follows g c = search rules

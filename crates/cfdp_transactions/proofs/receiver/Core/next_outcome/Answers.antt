@@ -1,7 +1,0 @@
-use Rattle.std.proofs.Common.{◌∙◌, sym}
-use Rattle.cfdp_transactions.proofs.RowWorld.{over_in}
-use Rattle.cfdp_transactions.proofs.receiver.Core.next_outcome.Goals as goal
-
-pub returns : goal.returns
-returns g c =
-    rw (← c.self.view_is) (c.next_outcome.ensures ∙ sym (over_in (g.S.Filestore.state c.self.inside.store).filestore c.self.inside.books.table))

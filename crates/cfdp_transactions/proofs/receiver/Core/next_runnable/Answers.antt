@@ -1,7 +1,0 @@
-use Rattle.std.proofs.Common.{◌∙◌, sym}
-use Rattle.cfdp_transactions.proofs.RowWorld.{runnable_in}
-use Rattle.cfdp_transactions.proofs.receiver.Core.next_runnable.Goals as goal
-
-pub returns : goal.returns
-returns g c =
-    rw (← c.self.view_is) (c.next_runnable.ensures ∙ sym (runnable_in (g.S.Filestore.state c.self.inside.store).filestore c.self.inside.books.table))

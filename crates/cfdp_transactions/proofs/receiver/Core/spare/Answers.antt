@@ -1,5 +1,0 @@
-use Rattle.std.proofs.Common.{rules}
-use Rattle.cfdp_transactions.proofs.receiver.Core.spare.Goals as goal
-
-pub returns : goal.returns
-returns g c = search rules

@@ -1,9 +1,0 @@
-use Rattle.std.proofs.Common.{◌≡◌, ◌-◌, ◌++◌, drop}
-use Rattle.cfdp_transactions.specs.Outcome.{responses_of}
-use Rattle.cfdp_transactions.specs.Taking.{statuses_of}
-use Rattle.cfdp_transactions.proofs.taking.make_responses.Given as goal
-
-abbrev pub invariant-loop-place : goal.invariant-loop-place
-invariant-loop-place l =
-    l.responses.items ++ responses_of (drop l.place l.requests) (statuses_of (l.performed - l.place) (drop l.place l.requests))
-    ≡ responses_of l.requests (statuses_of l.performed l.requests)

@@ -1,0 +1,35 @@
+use Rattle.std.proofs.Common.{refl}
+use Rattle.cfdp_transactions.specs.Events.{Cancel}
+use Rattle.cfdp_transactions.specs.Ending.{cancelled}
+use Rattle.cfdp_transactions.specs.code.Books.{world_of}
+use Rattle.cfdp_transactions.proofs.KeptTable.Following.{carries_follows, found_carries, absent_entry, still_whole}
+use Rattle.cfdp_transactions.proofs.the_core.Core.cancel.Goals as goal
+
+pub invariant_of-self : goal.invariant_of-self
+invariant_of-self g c =
+    let s = g.S.Filestore.state c.self.inside.store in
+    let b = c.self.inside.books in
+    let t = g.S.Filestore.state c.cancel.new.store in
+    let d = c.cancel.new.books in
+    let carried = found_carries s b c.args.id (λ k o. cancelled (world_of s b) k o)
+    (world_of t d) c.cancel.result c.in-Some.place c.in-Some.ensures.found c.in-Some.ensures.within c.cancel.ensures.answer in
+    let follows = carries_follows (world_of s b) (world_of t d) (Cancel c.args.id) c.cancel.result carried in
+    still_whole c.follows_is_sound.ensures s t b d (Cancel c.args.id) c.cancel.result c.self.invariant follows c.cancel.ensures.booked
+
+pub returns-clause-follows : goal.returns-clause-follows
+returns-clause-follows g c =
+    let s = g.S.Filestore.state c.self.inside.store in
+    let b = c.self.inside.books in
+    let t = g.S.Filestore.state c.cancel.new.store in
+    let d = c.cancel.new.books in
+    let carried = found_carries s b c.args.id (λ k o. cancelled (world_of s b) k o)
+    (world_of t d) c.cancel.result c.in-Some.place c.in-Some.ensures.found c.in-Some.ensures.within c.cancel.ensures.answer in
+    let follows = carries_follows (world_of s b) (world_of t d) (Cancel c.args.id) c.cancel.result carried in
+    rw (← c.self.view_is) follows
+
+pub returns-in_default-clause-follows : goal.returns-in_default-clause-follows
+returns-in_default-clause-follows g c =
+    let s = g.S.Filestore.state c.self.inside.store in
+    let b = c.self.inside.books in
+    let none = absent_entry s b c.args.id (rw c.in_default.is at c.find.ensures.absent) in
+    rw (← c.self.view_is, none) refl

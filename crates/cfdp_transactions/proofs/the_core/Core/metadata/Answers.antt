@@ -1,0 +1,19 @@
+use Rattle.std.proofs.Common.{refl}
+use Rattle.cfdp_transactions.specs.Entry.{Entry}
+use Rattle.cfdp_pdus.specs.Values.{MetadataFields}
+use Rattle.cfdp_transactions.proofs.KeptTable.WorldOfTable.{read_in}
+use Rattle.cfdp_transactions.proofs.the_core.Core.metadata.Goals as goal
+
+pub returns-in_default : goal.returns-in_default
+returns-in_default g c =
+    let F = (g.S.Filestore.state c.self.inside.store).filestore in
+    let rows = c.self.inside.books.table in
+    let f : Entry → MetadataFields = λ e. e.metadata in
+    rw (← c.self.view_is, read_in f F c.args.id rows, ← c.get.ensures, c.in_default.is) refl
+
+pub returns : goal.returns
+returns g c =
+    let F = (g.S.Filestore.state c.self.inside.store).filestore in
+    let rows = c.self.inside.books.table in
+    let f : Entry → MetadataFields = λ e. e.metadata in
+    rw (← c.self.view_is, read_in f F c.args.id rows, ← c.get.ensures, c.in-Some.is, c.metadata.ensures) refl

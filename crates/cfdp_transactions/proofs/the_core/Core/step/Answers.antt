@@ -1,0 +1,43 @@
+use Rattle.std.proofs.Common.{refl}
+use Rattle.cfdp_transactions.specs.Events.{Step}
+use Rattle.cfdp_transactions.specs.Execution.{stepped}
+use Rattle.cfdp_transactions.specs.code.Books.{world_of}
+use Rattle.cfdp_transactions.proofs.KeptTable.Following.{carries_follows, found_carries, absent_entry, still_whole}
+use Rattle.cfdp_transactions.proofs.the_core.Core.step.Goals as goal
+
+pub invariant_of-self : goal.invariant_of-self
+invariant_of-self g c =
+    let s = g.S.Filestore.state c.self.inside.store in
+    let b = c.self.inside.books in
+    let t = g.S.Filestore.state c.step.new.store in
+    let d = c.step.new.books in
+    let carried = found_carries s b c.args.id (λ k o. stepped (world_of s b) k o)
+    (world_of t d) c.step.result c.in-Some.place c.in-Some.ensures.found c.in-Some.ensures.within c.step.ensures.answer in
+    let follows = carries_follows (world_of s b) (world_of t d) (Step c.args.id) c.step.result carried in
+    still_whole c.follows_is_sound.ensures s t b d (Step c.args.id) c.step.result c.self.invariant follows c.step.ensures.booked
+
+pub returns-clause-follows : goal.returns-clause-follows
+returns-clause-follows g c =
+    let s = g.S.Filestore.state c.self.inside.store in
+    let b = c.self.inside.books in
+    let t = g.S.Filestore.state c.step.new.store in
+    let d = c.step.new.books in
+    let carried = found_carries s b c.args.id (λ k o. stepped (world_of s b) k o)
+    (world_of t d) c.step.result c.in-Some.place c.in-Some.ensures.found c.in-Some.ensures.within c.step.ensures.answer in
+    let follows = carries_follows (world_of s b) (world_of t d) (Step c.args.id) c.step.result carried in
+    rw (← c.self.view_is) follows
+
+pub returns-in_default-clause-follows : goal.returns-in_default-clause-follows
+returns-in_default-clause-follows g c =
+    let s = g.S.Filestore.state c.self.inside.store in
+    let b = c.self.inside.books in
+    let none = absent_entry s b c.args.id (rw c.in_default.is at c.find.ensures.absent) in
+    rw (← c.self.view_is, none) refl
+
+pub step-requires-clause-laws : goal.step-requires-clause-laws
+step-requires-clause-laws g c = c.lower_laws.ensures
+
+pub returns-clause-answered : goal.returns-clause-answered
+returns-clause-answered g c =
+    let thrifty = c.step.ensures.answered in
+    rw (← c.self.view_is) thrifty

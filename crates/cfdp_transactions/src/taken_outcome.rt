@@ -1,0 +1,322 @@
+//! The outcome of a transaction, which is taken once it is over (CCSDS 727.0-B-5 §5.2.3, copy file procedures).
+
+ghost use Rattle.std.specs.Prelude.{◌≡◌, ℕ, ◌<◌, ◌≤◌, [], IfErr, IfOk, IsFalse, length, slice_get, vec_capacity, vec_len, Some, None};
+ghost use Rattle.cfdp_status.specs.declared.status.Status.TheVariants.{Successful, NotPerformed};
+ghost use Rattle.cfdp_actions.specs.Filestore.{Filestore as Files};
+ghost use Rattle.cfdp_status.specs.Codes.{action_of};
+ghost use Rattle.cfdp_transactions.specs.Books.{IsAnswered};
+ghost use Rattle.cfdp_transactions.specs.code.Books.{AnswersAt, IsBooked, IsLiveAt, world_of};
+ghost use Rattle.cfdp_transactions.specs.Ending.{taken_out};
+ghost use Rattle.cfdp_transactions.specs.Entry.{Entry as Transaction, has_file, is_live};
+ghost use Rattle.cfdp_transactions.specs.code.Issuing.{FallsShort, Issues};
+ghost use Rattle.cfdp_transactions.specs.Outcome.{condition_of, outcome_of, responses_of};
+ghost use Rattle.cfdp_transactions.specs.code.TableEntries.{entry_in};
+ghost use Rattle.cfdp_transactions.specs.Sound.{Sound};
+ghost use Rattle.cfdp_transactions.specs.code.Taking.{answered_by, statuses_of, status_by, fault_by};
+ghost use Rattle.cfdp_transactions.specs.Writable.{IsWritable};
+
+use crate::admission::names_file;
+use crate::books::Books;
+use crate::conditions::{FILESTORE_REJECTION, NO_ERROR, UNSUPPORTED_CHECKSUM_TYPE};
+use crate::entry::Entry;
+use crate::issuing::{ShortBuffer, TakenFinished, put_finished};
+use crate::outcome::{Outcome, SharedOutcome};
+use crate::{Phase, Reply};
+use cfdp_actions::Filestore;
+use cfdp_paths::Memory;
+use cfdp_pdus::{Finished, Header};
+use cfdp_status::{Action, Status};
+use cfdp_tlv::{FilestoreRequest, FilestoreResponse};
+use std::alloc::Global;
+use std::sync::Arc;
+
+/// What became of the file (§5.2.3): it was discarded, rejected by the filestore, retained, or there was none.
+const DISCARDED: u8 = 0;
+
+const REJECTED: u8 = 1;
+
+const RETAINED: u8 = 2;
+
+const UNREPORTED: u8 = 3;
+
+/// The transaction at an index is forgotten, and its outcome handed out: the reply, twice. Where memory is refused
+/// nothing has changed. Cost: a copy of its requests' names.
+pub(crate) fn take<S: Filestore>(
+    alloc: Global,
+    store: &S,
+    books: &mut Books,
+    place: usize,
+) -> (Reply, Reply)
+    requires booked { IsBooked (S.state store.now) books.old }
+    requires within { place < length books.old.table }
+    ensures answer { let W = world_of (S.state store.now) books.old in
+        AnswersAt W (world_of (S.state store.now) books.new) place (taken_out W place) result.0 }
+    ensures lean { IsLiveAt (world_of (S.state store.now) books.old) place → IsAnswered result.0 }
+    ensures same { result.1 ≡ result.0 }
+    ensures booked { IsBooked (S.state store.now) books.new }
+{
+    let entry = books.table.at(place);
+    if entry.phase().is_live() {
+        return (Reply::Idle, Reply::Idle);
+    }
+    let Ok((outcome, again)) = make_handles(alloc, entry) else {
+        return (Reply::Memory, Reply::Memory);
+    };
+    books.table.forget(place);
+    (Reply::Taken(outcome), Reply::Taken(again))
+}
+
+/// The same with the reply once: the names of the requests are moved into the outcome. Where memory is refused nothing
+/// has changed. Cost: two allocations, a move of each request, and the drop of the rest of what the table has.
+pub(crate) fn take_moved<S: Filestore>(
+    alloc: Global,
+    store: &S,
+    books: &mut Books,
+    place: usize,
+) -> Reply
+    requires booked { IsBooked (S.state store.now) books.old }
+    requires within { place < length books.old.table }
+    ensures answer { let W = world_of (S.state store.now) books.old in
+        AnswersAt W (world_of (S.state store.now) books.new) place (taken_out W place) result }
+    ensures lean { IsLiveAt (world_of (S.state store.now) books.old) place → IsAnswered result }
+    ensures booked { IsBooked (S.state store.now) books.new }
+{
+    let entry = books.table.at(place);
+    if entry.phase().is_live() {
+        return Reply::Idle;
+    }
+    let outcome = bare_outcome(alloc, entry);
+    let performed = usize::from(entry.performed());
+    let Ok(room) = Vec::with_capacity(alloc, entry.metadata().requests.len()) else {
+        return Reply::Memory;
+    };
+    let Ok(mut handle) = SharedOutcome::new(alloc, bare_outcome(alloc, entry)) else {
+        return Reply::Memory;
+    };
+    let Some(shared) = Arc::get_mut(&mut handle.shared) else {
+        return Reply::Memory;
+    };
+    let requests = books.table.take_out(place).into_requests();
+    *shared = with_responses(outcome, responses_to(requests, performed, room));
+    Reply::Taken(handle)
+}
+
+/// The same for an outcome that was made before: the transaction at an index is forgotten, and the outcome handed out.
+/// Where memory is refused nothing has changed. Cost: one allocation.
+pub(crate) fn hand_out<S: Filestore>(
+    alloc: Global,
+    store: &S,
+    books: &mut Books,
+    place: usize,
+    outcome: Outcome,
+) -> Reply
+    requires booked { IsBooked (S.state store.now) books.old }
+    requires within { place < length books.old.table }
+    requires made { (e : Transaction) → slice_get (world_of (S.state store.now) books.old).table place ≡ Some e →
+        IsFalse (is_live e.phase) → outcome ≡ outcome_of e }
+    ensures answer { let W = world_of (S.state store.now) books.old in
+        AnswersAt W (world_of (S.state store.now) books.new) place (taken_out W place) result }
+    ensures booked { IsBooked (S.state store.now) books.new }
+{
+    if books.table.at(place).phase().is_live() {
+        return Reply::Idle;
+    }
+    let Ok(shared) = SharedOutcome::new(alloc, outcome) else {
+        return Reply::Memory;
+    };
+    books.table.forget(place);
+    Reply::Taken(shared)
+}
+
+/// The transaction at an index is forgotten, and its Finished PDU written to the front of a buffer: what is said of it.
+/// `None` where it is live, which changes nothing.
+///
+/// # Errors
+///
+/// The buffer is too short: nothing has changed. Takes no memory. Cost: the octets that it writes, and the drop of what
+/// the table has.
+pub(crate) fn take_finished<S: Filestore>(
+    alloc: Global,
+    store: &S,
+    books: &mut Books,
+    place: usize,
+    out: &mut [u8],
+) -> Result<Option<TakenFinished>, ShortBuffer>
+    requires booked { IsBooked (S.state store.now) books.old }
+    requires within { place < length books.old.table }
+    requires writable { let W = world_of (S.state store.now) books.old in
+        (e : Transaction) → slice_get W.table place ≡ Some e → IsFalse (is_live e.phase) → IsWritable (outcome_of e) }
+    ensures ok { let W = world_of (S.state store.now) books.old in
+        IfOk result (λ told. (e : Transaction) → slice_get W.table place ≡ Some e →
+        Issues (taken_out W place (Some e)) (world_of (S.state store.now) books.new) out.old out.new told) }
+    ensures err { let W = world_of (S.state store.now) books.old in
+        IfErr result (λ short. (e : Transaction) → slice_get W.table place ≡ Some e →
+        FallsShort (taken_out W place (Some e)) W (world_of (S.state store.now) books.new) out.old out.new short) }
+    ensures booked { IsBooked (S.state store.now) books.new }
+{
+    let entry = books.table.at(place);
+    if entry.phase().is_live() {
+        return Ok(None);
+    }
+    let outcome = bare_outcome(alloc, entry);
+    let condition = outcome.finished.condition;
+    let performed = usize::from(entry.performed());
+    match put_finished(&outcome, &entry.metadata().requests, performed, out) {
+        Err(short) => Err(short),
+        Ok(len) => {
+            books.table.forget(place);
+            Ok(Some(TakenFinished { condition, len }))
+        }
+    }
+}
+
+/// Two handles of the outcome of a transaction that is over.
+fn make_handles(alloc: Global, entry: &Entry) -> Result<(SharedOutcome, SharedOutcome), Memory>
+    ensures outcome { IfOk result (λ both. (F : Files) → both.0 ≡ outcome_of (entry_in F entry.now)) }
+    ensures same { IfOk result (λ both. both.1 ≡ both.0) }
+{
+    let outcome = SharedOutcome::new(alloc, make_outcome(alloc, entry)?)?;
+    let again = outcome.share()?;
+    Ok((outcome, again))
+}
+
+/// The outcome of a transaction that is over.
+pub(crate) fn make_outcome(alloc: Global, entry: &Entry) -> Result<Outcome, Memory>
+    ensures { IfOk result (λ outcome. (F : Files) → outcome ≡ outcome_of (entry_in F entry.now)) }
+{
+    let requests = &entry.metadata().requests;
+    let responses = make_responses(alloc, requests, usize::from(entry.performed()))?;
+    Ok(with_responses(bare_outcome(alloc, entry), responses))
+}
+
+/// The outcome of a transaction that is over, without the responses to its requests. Takes no memory.
+fn bare_outcome(alloc: Global, entry: &Entry) -> Outcome
+    ensures { (F : Files) → result ≡ answered_by [] (outcome_of (entry_in F entry.now)) }
+{
+    let header = entry.header();
+    let metadata = entry.metadata();
+    let condition = condition_of(entry.phase());
+    let finished = Finished {
+        condition,
+        incomplete: !entry.is_complete(),
+        file_status: file_status(names_file(metadata), entry.is_installed(), entry.phase()),
+        responses: Vec::new(alloc),
+        fault: find_fault(condition, entry.is_ended_by_eof(), header),
+    };
+    Outcome {
+        header: Header {
+            toward_sender: true,
+            ..*header
+        },
+        finished,
+        send: header.acknowledged || metadata.closure,
+    }
+}
+
+/// The outcome with these responses in place of its own.
+fn with_responses(outcome: Outcome, responses: Vec<FilestoreResponse>) -> Outcome
+    ensures { result ≡ answered_by responses.items outcome }
+{
+    let Outcome {
+        header,
+        finished,
+        send,
+    } = outcome;
+    let finished = Finished {
+        responses,
+        ..finished
+    };
+    Outcome {
+        header,
+        finished,
+        send,
+    }
+}
+
+/// The condition code of the outcome.
+fn condition_of(phase: Phase) -> u8
+    ensures { result ≡ condition_of phase }
+{
+    match phase {
+        Phase::Refused => FILESTORE_REJECTION,
+        Phase::Ended(condition) => condition,
+        Phase::Receiving | Phase::Awaiting(_) | Phase::Executing(_) | Phase::Done => NO_ERROR,
+    }
+}
+
+/// What became of the file.
+fn file_status(has_file: bool, installed: bool, phase: Phase) -> u8
+    ensures { result ≡ status_by has_file installed phase }
+{
+    if !has_file {
+        UNREPORTED
+    } else if installed {
+        RETAINED
+    } else if phase == Phase::Refused {
+        REJECTED
+    } else {
+        DISCARDED
+    }
+}
+
+/// Who is at fault: nobody where there is no error or the checksum type is not supported, the sender where its EOF said
+/// so, and else this entity.
+fn find_fault(condition: u8, by_eof: bool, header: &Header) -> Option<u64>
+    ensures { result ≡ fault_by condition by_eof header.now }
+{
+    if condition == NO_ERROR || condition == UNSUPPORTED_CHECKSUM_TYPE {
+        None
+    } else if by_eof {
+        Some(header.source)
+    } else {
+        Some(header.destination)
+    }
+}
+
+/// The status of the request of this number: the first ones were performed, and each of them was successful.
+pub(crate) fn status_of(action: Action, number: usize, performed: usize) -> Status
+    ensures performed { number < performed → result ≡ Successful action }
+    ensures left { performed ≤ number → result ≡ NotPerformed action }
+    ensures action { action_of result ≡ action }
+{
+    if number < performed {
+        Status::successful(action)
+    } else {
+        Status::not_performed(action)
+    }
+}
+
+/// One response for each request, in order, with a copy of its names.
+fn make_responses(
+    alloc: Global,
+    requests: &[FilestoreRequest],
+    performed: usize,
+) -> Result<Vec<FilestoreResponse>, Memory>
+    ensures { IfOk result (λ responses. responses.items ≡ responses_of requests.now
+        (statuses_of performed requests.now)) }
+{
+    let mut responses = Vec::with_capacity(alloc, requests.len())?;
+    for (place, request) in requests.iter().enumerate() {
+        let status = status_of(request.action(), place, performed);
+        responses.push(request.copy(alloc)?.into_response(status))?;
+    }
+    Ok(responses)
+}
+
+/// One response for each request, in order, with its names. Takes no memory.
+fn responses_to(
+    requests: Vec<FilestoreRequest>,
+    performed: usize,
+    room: Vec<FilestoreResponse>,
+) -> Vec<FilestoreResponse>
+    requires empty { room.items ≡ [] }
+    requires room { vec_len requests ≤ vec_capacity room }
+    ensures { result.items ≡ responses_of requests.items (statuses_of performed requests.items) }
+{
+    let mut responses = room;
+    for request in requests {
+        let status = status_of(request.action(), responses.len(), performed);
+        responses.push_reserved(request.into_response(status));
+    }
+    responses
+}

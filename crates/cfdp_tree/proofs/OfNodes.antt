@@ -1,0 +1,17 @@
+-- The nodes of the tree: their blocks, their ways to the root, and what a change of one does.
+pub mod NodeLaws
+pub mod NodeFieldLaws
+pub mod TreeLaws
+pub mod PlaceLaws
+pub mod WriteLaws
+pub mod LinkLaws
+pub mod ClimbLaws
+pub mod AddLaws
+pub mod RemoveLaws
+pub mod BelowLaws
+pub mod MoveLaws
+pub mod TextLaws
+pub mod AloneLaws
+pub mod NamesLeft
+pub mod ParentLaws
+pub mod RootedLaws

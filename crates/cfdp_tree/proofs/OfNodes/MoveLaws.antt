@@ -1,0 +1,244 @@
+-- A node with all that is below it, moved: one block is written.
+--     moved_tree        there is a tree still
+--     moved_path        what was below the old path is below the new one
+--     stayed_path       the others are where they were
+use Rattle.std.proofs.Common.{◌≡◌, ◌≢◌, ℕ, zero, suc, ◌+◌, ◌-◌, ◌≤◌, Bool, true, false, List, [], ◌∷◌, ◌++◌, length, length-append, take, drop, append_assoc, Option, Some, None, is_some, refl, sym, ap, ◌∙◌, subst, inl, inr, arith}
+use Rattle.std.proofs.lemmas.List.{get_or-set_other, take_at, drop_all, length-drop, append-nil}
+use Rattle.std.proofs.lemmas.Bool.{cases_eq}
+use Rattle.std.specs.Option.{option_map_or}
+use Rattle.std.specs.Prelude.{unwrap_or}
+use Rattle.cfdp_paths.specs.Paths.{Name, Path, parent, is_at_or_below, rebased}
+use Rattle.cfdp_paths.proofs.Below.{at_or_below-itself, at_or_below-trans, at_or_below-append, length-at_or_below, is_below-Decides, below_parent, parent-take}
+use Rattle.cfdp_arena.specs.Arena.{Blocks, octets_at, octets_of, with_block}
+use Rattle.cfdp_tree.specs.code.NodeFields.{node_fields_of, node_name, kind_told}
+use Rattle.cfdp_tree.specs.code.Tree.{IsNode, IsDirectory, node_fields_at, name_at, home_in, home, climb, most_names, path_of_node, Ends, IsEntry, IsNamed, IsTree}
+use Rattle.cfdp_tree.specs.code.Places.{path_at}
+use Rattle.cfdp_tree.proofs.OfNodes.TreeLaws.{same_node}
+use Rattle.cfdp_tree.proofs.OfNodes.PlaceLaws.{kept_climb, kept_ends, at_b, kept_by}
+use Rattle.cfdp_tree.proofs.OfNodes.ClimbLaws.{most_is, ends_by_length, climb_same, path_by_home}
+
+-- what a path without its last name is below, where the path is
+front_below : (x : Path) (n : Name) (p : Path) → is_at_or_below (x ++ n ∷ []) p ≡ true → x ++ n ∷ [] ≢ p → is_at_or_below x p ≡ true
+front_below x n p below other =
+    let whole : Path = x ++ n ∷ [] in
+    let long : length whole - 1 ≡ length x = omega (arith, length-append x (n ∷ [])) in
+    let front : parent whole ≡ x = parent-take whole ∙ ap (λ k. take k whole) long ∙ take_at x (n ∷ []) (length x) refl in
+    ap (λ y. is_at_or_below y p) (sym front) ∙ below_parent whole p ((is_below-Decides whole p).1 (below, other))
+
+drop_front : (k : ℕ) (xs ys : Path) → k ≤ length xs → drop k (xs ++ ys) ≡ drop k xs ++ ys
+drop_front zero xs ys within = refl
+drop_front (suc k) [] ys within = absurd (omega arith)
+drop_front (suc k) (x ∷ xs) ys within = drop_front k xs ys (omega arith)
+
+true_false : {b : Bool} → b ≡ true → b ≡ false → ⊥
+true_false is not = cc
+
+module _ (old : Blocks) (b : ℕ) (block : List ℕ) (node : IsNode old b) (tree : IsTree old) (named : IsNamed block)
+    (kind : kind_told (node_fields_of block).kind ≡ kind_told (node_fields_at old b).kind) (good : (d : ℕ) → home_in b block ≡ Some d → IsDirectory old d)
+    (p q : Path) (p_is : path_of_node old b ≡ p) (q_is : path_at old (home_in b block) ++ node_name block ∷ [] ≡ q) (apart : is_at_or_below q p ≡ false)
+    (fresh : (c : ℕ) → IsEntry old (home_in b block) (node_name block) c → ⊥)
+    (fits : (c : ℕ) → IsNode old c → is_at_or_below (path_of_node old c) p ≡ true → length (rebased p q (path_of_node old c)) ≤ 8) where
+  abbrev new : Blocks
+  new = with_block old b block
+
+  octets_new : octets_of new b ≡ block
+  octets_new = ap (λ entry. unwrap_or entry []) (at_b old b block node)
+
+  octets_other : (c : ℕ) → c ≢ b → octets_of new c ≡ octets_of old c
+  octets_other c other = ap (λ entry. unwrap_or entry []) (get_or-set_other old b c (Some block) None other)
+
+  somes : (c : ℕ) → is_some (octets_at new c) ≡ is_some (octets_at old c)
+  somes = kept_by old b block node (λ c entry. is_some entry) (sym node)
+
+  kinds : (c : ℕ) → kind_told (node_fields_at new c).kind ≡ kind_told (node_fields_at old c).kind
+  kinds = kept_by old b block node (λ c entry. kind_told (node_fields_of (unwrap_or entry [])).kind) kind
+
+  home_other : (c : ℕ) → c ≢ b → home new c ≡ home old c
+  home_other c other = ap (home_in c) (octets_other c other)
+
+  name_other : (c : ℕ) → c ≢ b → name_at new c ≡ name_at old c
+  name_other c other = ap node_name (octets_other c other)
+
+  home_new : home new b ≡ home_in b block
+  home_new = ap (home_in b) octets_new
+
+  name_new : name_at new b ≡ node_name block
+  name_new = ap node_name octets_new
+
+  directory_kept : (d : ℕ) → IsDirectory old d → IsDirectory new d
+  directory_kept d was = record { node = somes d ∙ was.node; directory = kinds d ∙ was.directory }
+
+  -- what is not at or below the old path
+  record Stays (c : ℕ) : Type 0 where
+    there : IsNode old c
+    outside : is_at_or_below (path_of_node old c) p ≡ false
+
+  under_home : (c d : ℕ) → IsNode old c → home old c ≡ Some d → path_of_node old c ≡ path_of_node old d ++ name_at old c ∷ []
+  under_home c d was there = path_by_home old tree c was ∙ ap (λ x. path_at old x ++ name_at old c ∷ []) there
+
+  -- what is in a directory at or below a path is below it
+  stays_by : (x : Path) (n : Name) → is_at_or_below (x ++ n ∷ []) p ≡ false → is_at_or_below x p ≡ false
+  stays_by x n outside = by_case (is_at_or_below x p) refl
+    where
+      by_case : (below : Bool) → is_at_or_below x p ≡ below → is_at_or_below x p ≡ false
+      by_case false e = e
+      by_case true e = absurd (true_false (at_or_below-trans (x ++ n ∷ []) x p (at_or_below-append x (n ∷ [])) e) outside)
+
+  closed : (c d : ℕ) → Stays c → home old c ≡ Some d → Stays d
+  closed c d stays there = record {
+    there = (tree.homes c d stays.there there).node;
+    outside = stays_by (path_of_node old d) (name_at old c) (ap (λ x. is_at_or_below x p) (sym (under_home c d stays.there there)) ∙ stays.outside);
+  }
+
+  is_other : (c : ℕ) → Stays c → c ≢ b
+  is_other c stays e = true_false (ap (λ x. is_at_or_below x p) (ap (path_of_node old) e ∙ p_is) ∙ at_or_below-itself p) stays.outside
+
+  climb_stays : (n c : ℕ) → Stays c → climb new n c ≡ climb old n c
+  climb_stays = kept_climb old new Stays closed (λ c stays. home_other c (is_other c stays)) (λ c stays. name_other c (is_other c stays))
+
+  ends_stays : (n c : ℕ) → Stays c → Ends old n c → Ends new n c
+  ends_stays = kept_ends old new Stays closed (λ c stays. home_other c (is_other c stays)) (λ c stays. name_other c (is_other c stays))
+
+  -- the directory to which it moves
+  target : (d : ℕ) → home_in b block ≡ Some d → Stays d
+  target d there = record {
+    there = (good d there).node;
+    outside = stays_by (path_of_node old d) (node_name block) (ap (λ x. is_at_or_below (path_at old x ++ node_name block ∷ []) p) (sym there)
+        ∙ ap (λ x. is_at_or_below x p) q_is ∙ apart);
+  }
+
+  abbrev Way : ℕ → ℕ → Type 0
+  Way k c = Ends new k c × (climb new k c ≡ rebased p q (path_of_node old c))
+
+  target_ends : (k d : ℕ) → home_in b block ≡ Some d → length q ≤ suc k → Ends old k d
+  target_ends k d there few =
+      let long : length (path_of_node old d) + 1 ≡ length q = sym (length-append (path_of_node old d) (node_name block ∷ []))
+      ∙ ap (λ x. length (path_at old x ++ node_name block ∷ [])) (sym there) ∙ ap length q_is in
+      ends_by_length old most_names k d (tree.ends d (good d there).node) (omega (arith, long))
+
+  above_target : (k : ℕ) → length q ≤ suc k → (x : Option ℕ) → home_in b block ≡ x → option_map_or (λ d. climb new k d) x [] ≡ path_at old x
+  above_target k few None there = refl
+  above_target k few (Some d) there = climb_stays k d (target d there) ∙ climb_same old k most_names d (target_ends k d there few)
+      (tree.ends d (good d there).node)
+
+  way_here : (k : ℕ) → length (rebased p q (path_of_node old b)) ≤ suc k → Way (suc k) b
+  way_here k few =
+      let none : rebased p q (path_of_node old b) ≡ q = ap (λ x. q ++ drop (length p) x) p_is ∙ ap (λ x. q ++ x) (drop_all (length p) p (omega arith))
+      ∙ append-nil q in
+      let short : length q ≤ suc k = omega (arith, ap length none) in (
+        (λ d there. (let at = sym home_new ∙ there in ends_stays k d (target d at) (target_ends k d at short))),
+        (λ i. option_map_or (λ d. climb new k d) (home_new i) [] ++ name_new i ∷ [])
+            ∙ ap (λ x. x ++ node_name block ∷ []) (above_target k short (home_in b block) refl) ∙ q_is ∙ sym none,
+      )
+
+  way_below : (k c d : ℕ) → IsNode old c → c ≢ b → home old c ≡ Some d → length p ≤ length (path_of_node old d) → Way k d → Way (suc k) c
+  way_below k c d was other there long way = (
+    (λ e at. subst (Ends new k) (some_same (sym there ∙ sym (home_other c other) ∙ at)) way.0),
+    (λ i. option_map_or (λ e. climb new k e) (home_other c other i) [] ++ name_other c other i ∷ [])
+        ∙ ap (λ x. option_map_or (λ e. climb new k e) x [] ++ name_at old c ∷ []) there
+        ∙ ap (λ x. x ++ name_at old c ∷ []) way.1
+        ∙ append_assoc q (drop (length p) (path_of_node old d)) (name_at old c ∷ [])
+        ∙ ap (λ x. q ++ x) (sym (drop_front (length p) (path_of_node old d) (name_at old c ∷ []) long))
+        ∙ ap (λ x. rebased p q x) (sym (under_home c d was there)),
+  )
+    where
+      some_same : {x y : ℕ} → Some x ≡ Some y → x ≡ y
+      some_same e = cc
+
+  some_q : 1 ≤ length q
+  some_q = omega (arith, ap length q_is, length-append (path_at old (home_in b block)) (node_name block ∷ []))
+
+  some_p : 1 ≤ length p
+  some_p = omega (arith, ap length (sym (path_by_home old tree b node) ∙ p_is), length-append (path_at old (home old b)) (name_at old b ∷ []))
+
+  -- the directory of what is below the old path
+  home_inside : (c : ℕ) → IsNode old c → c ≢ b → is_at_or_below (path_of_node old c) p ≡ true → is_at_or_below (path_at old (home old c)) p ≡ true
+  home_inside c was other below =
+      let whole = path_by_home old tree c was in
+      front_below (path_at old (home old c)) (name_at old c) p (ap (λ x. is_at_or_below x p) (sym whole) ∙ below)
+      (λ e. other (same_node old tree c b was node (whole ∙ e ∙ sym p_is)))
+
+  length-rebased : (x : Path) → length (rebased p q x) ≡ length q + (length x - length p)
+  length-rebased x = omega (arith, length-append q (drop (length p) x), length-drop (length p) x)
+
+  way : (n k c : ℕ) → IsNode old c → Ends old n c → is_at_or_below (path_of_node old c) p ≡ true → length (rebased p q (path_of_node old c)) ≤ k → Way k c
+  way zero k c was ends below few = absurd ends
+  way (suc n) zero c was ends below few = absurd (omega (arith, length-rebased (path_of_node old c), some_q))
+  way (suc n) (suc k) c was ends below few = elim (cases_eq c b) [
+    | inl e ↦ subst (Way (suc k)) (sym e) (way_here k (subst (λ x. length (rebased p q (path_of_node old x)) ≤ suc k) e few))
+    | inr other ↦ by_home other (home old c) refl (λ d there. way n k d (tree.homes c d was there).node (ends d there))
+  ]
+    where
+      by_home : c ≢ b → (x : Option ℕ) → home old c ≡ x
+          → ((d : ℕ) → home old c ≡ Some d → is_at_or_below (path_of_node old d) p ≡ true → length (rebased p q (path_of_node old d)) ≤ k → Way k d) → Way
+          (suc k) c
+      by_home other None there above =
+          absurd (omega (arith, some_p, length-at_or_below [] p (ap (λ x. is_at_or_below (path_at old x) p) (sym there) ∙ home_inside c was other below)))
+      by_home other (Some d) there above =
+          let inside : is_at_or_below (path_of_node old d) p ≡ true = ap (λ x. is_at_or_below (path_at old x) p) (sym there) ∙ home_inside c was other below in
+          let long = length-at_or_below (path_of_node old d) p inside in
+          let more : length (path_of_node old c) ≡ length (path_of_node old d) + 1 = ap length (under_home c d was there)
+          ∙ length-append (path_of_node old d) (name_at old c ∷ []) in
+          way_below k c d was other there long (above d there inside (omega (
+            arith,
+            long,
+            more,
+            few,
+            length-rebased (path_of_node old c),
+            length-rebased (path_of_node old d),
+          )))
+
+  moved_way : (c : ℕ) → IsNode old c → is_at_or_below (path_of_node old c) p ≡ true → Way most_names c
+  moved_way c was below = subst (λ k. Way k c) (sym most_is) (way most_names (suc 7) c was (tree.ends c was) below (fits c was below))
+
+  pub moved_path : (c : ℕ) → IsNode old c → is_at_or_below (path_of_node old c) p ≡ true → path_of_node new c ≡ rebased p q (path_of_node old c)
+  moved_path c was below = (moved_way c was below).1
+
+  pub stayed_path : (c : ℕ) → IsNode old c → is_at_or_below (path_of_node old c) p ≡ false → path_of_node new c ≡ path_of_node old c
+  stayed_path c was outside = climb_stays most_names c (record { there = was; outside = outside })
+
+  was_node : (c : ℕ) → IsNode new c → IsNode old c
+  was_node c is = sym (somes c) ∙ is
+
+  homes_new : (c d : ℕ) → IsNode new c → home new c ≡ Some d → IsDirectory new d
+  homes_new c d is there = directory_kept d (elim (cases_eq c b) [
+    | inl e ↦ good d (sym home_new ∙ ap (home new) (sym e) ∙ there)
+    | inr other ↦ tree.homes c d (was_node c is) (sym (home_other c other) ∙ there)
+  ])
+
+  ends_new : (c : ℕ) → IsNode new c → Ends new most_names c
+  ends_new c is = by_case (is_at_or_below (path_of_node old c) p) refl
+    where
+      by_case : (below : Bool) → is_at_or_below (path_of_node old c) p ≡ below → Ends new most_names c
+      by_case true e = (moved_way c (was_node c is) e).0
+      by_case false e = ends_stays most_names c (record { there = was_node c is; outside = e }) (tree.ends c (was_node c is))
+
+  -- under the new name there is nothing else
+  alone : (c : ℕ) → IsNode old c → c ≢ b → home new c ≡ home new b → name_at new c ≡ name_at new b → ⊥
+  alone c was other there name = fresh c (record {
+    node = was;
+    there = sym (home_other c other) ∙ there ∙ home_new;
+    named = sym (name_other c other) ∙ name ∙ name_new;
+  })
+
+  unique_new : (c d : ℕ) → IsNode new c → IsNode new d → home new c ≡ home new d → name_at new c ≡ name_at new d → c ≡ d
+  unique_new c d is also there name = elim (cases_eq c b) [
+    | inl e ↦ elim (cases_eq d b) [
+      | inl f ↦ e ∙ sym f
+      | inr other ↦ absurd (alone d (was_node d also) other (sym there ∙ ap (home new) e) (sym name ∙ ap (name_at new) e))
+    ]
+    | inr other ↦ elim (cases_eq d b) [
+      | inl f ↦ absurd (alone c (was_node c is) other (there ∙ ap (home new) f) (name ∙ ap (name_at new) f))
+      | inr else ↦ tree.unique c d (was_node c is) (was_node d also)
+          (sym (home_other c other) ∙ there ∙ home_other d else) (sym (name_other c other) ∙ name ∙ name_other d else)
+    ]
+  ]
+
+  named_new : (c : ℕ) → IsNode new c → IsNamed (octets_of new c)
+  named_new c is = elim (cases_eq c b) [
+    | inl e ↦ subst IsNamed (sym (ap (octets_of new) e ∙ octets_new)) named
+    | inr other ↦ subst IsNamed (sym (octets_other c other)) (tree.named c (was_node c is))
+  ]
+
+  pub moved_tree : IsTree new
+  moved_tree = record { named = named_new; homes = homes_new; ends = ends_new; unique = unique_new }

@@ -1,0 +1,124 @@
+-- A node less, in which nothing exists.
+--     left_path          the paths of the others
+--     removed_tree       there is a tree still
+--     removed_shows      what exists then
+use Rattle.std.proofs.Common.{◌≡◌, ◌≢◌, ℕ, Bool, true, false, List, [], cond, Option, Some, None, refl, sym, ap, ◌∙◌, subst}
+use Rattle.std.proofs.lemmas.List.{get_or-set_same, get_or-set_other}
+use Rattle.std.specs.FinMap as finite
+use Rattle.std.specs.FinMap.{get-remove}
+use Rattle.std.specs.Prelude.{IsSome, unwrap_or}
+use Rattle.cfdp_paths.specs.Paths.{Path, path_cmp, same_path}
+use Rattle.cfdp_paths.proofs.Comparing.{same_path-Decides, path_cmp-total}
+use Rattle.cfdp_arena.specs.Arena.{Blocks, octets_at, octets_of, without_block}
+use Rattle.cfdp_arena.proofs.Chains.{live_within}
+use Rattle.cfdp_actions.specs.Filestore.{Node}
+use Rattle.cfdp_tree.specs.code.NodeFields.{node_fields_of, node_name, kind_told}
+use Rattle.cfdp_tree.specs.code.Tree.{IsNode, IsDirectory, name_at, home_in, home, climb, most_names, path_of_node, IsNamed, IsTree}
+use Rattle.cfdp_tree.specs.code.Kept.{node_of, Shows}
+use Rattle.cfdp_tree.proofs.OfNodes.TreeLaws.{same_node}
+use Rattle.cfdp_tree.proofs.OfNodes.PlaceLaws.{kept_climb, kept_ends}
+
+module _ (old : Blocks) (b : ℕ) (node : IsNode old b) (tree : IsTree old) (childless : (c : ℕ) → IsNode old c → home old c ≡ Some b → ⊥) where
+  abbrev new : Blocks
+  new = without_block old b
+
+  at_new : octets_at new b ≡ None
+  at_new = get_or-set_same old b None None (live_within old b node)
+
+  at_other : (c : ℕ) → c ≢ b → octets_at new c ≡ octets_at old c
+  at_other c other = get_or-set_other old b c None None other
+
+  octets_other : (c : ℕ) → c ≢ b → octets_of new c ≡ octets_of old c
+  octets_other c other = ap (λ entry. unwrap_or entry []) (at_other c other)
+
+  no_node : {x : Option (List ℕ)} → x ≡ None → IsSome x → ⊥
+  no_node none some = cc
+
+  is_other : (c : ℕ) → IsNode new c → c ≢ b
+  is_other c left e = no_node at_new (subst (IsNode new) e left)
+
+  abbrev Left : ℕ → Type 0
+  Left c = IsNode old c × (c ≢ b)
+
+  left : (c : ℕ) → IsNode new c → Left c
+  left c stays = (subst IsSome (at_other c (is_other c stays)) stays, is_other c stays)
+
+  home_left : (c : ℕ) → Left c → home new c ≡ home old c
+  home_left c is = ap (home_in c) (octets_other c is.1)
+
+  name_left : (c : ℕ) → Left c → name_at new c ≡ name_at old c
+  name_left c is = ap node_name (octets_other c is.1)
+
+  closed : (c d : ℕ) → Left c → home old c ≡ Some d → Left d
+  closed c d is there = ((tree.homes c d is.0 there).node, (λ e. childless c is.0 (there ∙ ap Some e)))
+
+  climb_left : (n c : ℕ) → Left c → climb new n c ≡ climb old n c
+  climb_left = kept_climb old new Left closed home_left name_left
+
+  homes_new : (c d : ℕ) → IsNode new c → home new c ≡ Some d → IsDirectory new d
+  homes_new c d stays there =
+      let is = left c stays in
+      let at = sym (home_left c is) ∙ there in
+      let was = tree.homes c d is.0 at in
+      let other = (closed c d is at).1 in
+      record {
+        node = subst IsSome (sym (at_other d other)) was.node;
+        directory = ap (λ o. kind_told (node_fields_of o).kind) (octets_other d other)
+            ∙ was.directory;
+      }
+
+  unique_new : (c d : ℕ) → IsNode new c → IsNode new d → home new c ≡ home new d → name_at new c ≡ name_at new d → c ≡ d
+  unique_new c d one two there name =
+      let x = left c one in
+      let y = left d two in
+      tree.unique c d x.0 y.0 (sym (home_left c x) ∙ there ∙ home_left d y) (sym (name_left c x) ∙ name ∙ name_left d y)
+
+  pub removed_tree : IsTree new
+  removed_tree = record {
+    named = (λ c stays. subst IsNamed (sym (octets_other c (is_other c stays))) (tree.named c (left c stays).0));
+    homes = homes_new;
+    ends = (λ c stays. (let is = left c stays in kept_ends old new Left closed home_left name_left most_names c is (tree.ends c is.0)));
+    unique = unique_new;
+  }
+
+  pub left_path : (c : ℕ) → IsNode old c → c ≢ b → path_of_node new c ≡ path_of_node old c
+  left_path c was other = climb_left most_names c (was, other)
+
+  module _ (arena later : Blocks) (F : finite.FinMap path_cmp Node) (shows : Shows arena old F)
+      (stays : (c : ℕ) → IsNode old c → c ≢ b → node_of later (octets_of old c) ≡ node_of arena (octets_of old c)) where
+    without : Bool → Option Node → Option Node
+    without same here = cond same None here
+
+    got : (q : Path) → finite.get (finite.remove F (path_of_node old b)) q ≡ without (same_path q (path_of_node old b)) (finite.get F q)
+    unfolding without
+    got q = get-remove path_cmp-total F (path_of_node old b) q
+
+    each_new : (c : ℕ) (is : Left c) (same : Bool) → same_path (path_of_node new c) (path_of_node old b) ≡ same
+        → without same (finite.get F (path_of_node new c)) ≡ Some (node_of later (octets_of new c))
+    unfolding without
+    each_new c is true e =
+        absurd (is.1 (same_node old tree c b is.0 node (sym (left_path c is.0 is.1) ∙ (same_path-Decides (path_of_node new c) (path_of_node old b)).0 e)))
+    each_new c is false e =
+        ap (finite.get F) (left_path c is.0 is.1) ∙ shows.each c is.0 ∙ ap Some (sym (stays c is.0 is.1) ∙ ap (node_of later) (sym (octets_other c is.1)))
+
+    none_some : {x : Node} → None ≡ Some x → ⊥
+    none_some e = cc
+
+    only_new : (q : Path) (here : Node) (same : Bool) → same_path q (path_of_node old b) ≡ same → without same (finite.get F q) ≡ Some here
+        → (c : ℕ) × IsNode new c × (path_of_node new c ≡ q)
+    unfolding without
+    only_new q here true is e = absurd (none_some e)
+    only_new q here false is e =
+        let there = shows.only q here e in
+        let other : there.0 ≢ b = λ same. differ (same_path q (path_of_node old b)) is
+        ((same_path-Decides q (path_of_node old b)).1 (sym there.2 ∙ ap (path_of_node old) same)) in
+        (there.0, subst IsSome (sym (at_other there.0 other)) there.1, left_path there.0 there.1 other ∙ there.2)
+      where
+        differ : (x : Bool) → x ≡ false → x ≡ true → ⊥
+        differ x is not = cc
+
+    pub removed_shows : Shows later new (finite.remove F (path_of_node old b))
+    removed_shows = record {
+      each = (λ c now. got (path_of_node new c) ∙ each_new c (left c now) (same_path (path_of_node new c) (path_of_node old b)) refl);
+      only = (λ q here e. only_new q here (same_path q (path_of_node old b)) refl (sym (got q) ∙ e));
+    }

@@ -1,0 +1,19 @@
+-- What the store is seen as, and each change of a slot, of a file's octets and of nodes.
+pub mod SlotPlaces
+pub mod GapLaws
+pub mod ShowLaws
+pub mod StoredLaws
+pub mod SeenLaws
+pub mod SlotLaws
+pub mod FoundLaws
+pub mod SoundLaws
+pub mod AlikeLaws
+pub mod ChangedLaws
+pub mod DropLaws
+pub mod ExchangeLaws
+pub mod FileLaws
+pub mod FileNodeLaws
+pub mod InstallLaws
+pub mod MakeLaws
+pub mod NewLaws
+pub mod ShiftLaws

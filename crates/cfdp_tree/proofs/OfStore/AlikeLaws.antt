@@ -1,0 +1,80 @@
+-- Nodes that say the same but for their links.
+--     Alike                              they are where they were, and files hold what they held
+--     alike_relinked                     where links of the index change
+--     alike_shows                        the same is at each path
+--     alike_directory, told_by           directories stay;  what is at a node by what it holds
+--     runs_then                          runs that stay in two steps
+use Rattle.std.proofs.Common.{◌≡◌, ℕ, List, [], Option, Some, None, is_some, refl, sym, ap, ◌∙◌}
+use Rattle.std.specs.FinMap as finite
+use Rattle.std.specs.Prelude.{IsSome, unwrap_or}
+use Rattle.cfdp_paths.specs.Paths.{path_cmp}
+use Rattle.cfdp_arena.specs.Arena.{Blocks, octets_at, octets_of}
+use Rattle.cfdp_actions.specs.declared.kind.Kind.{Kind}
+use Rattle.cfdp_actions.specs.declared.kind.Kind.TheVariants as kind
+use Rattle.cfdp_actions.specs.Filestore.{Node}
+use Rattle.cfdp_tree.specs.declared.runs.Run.{Run}
+use Rattle.cfdp_tree.specs.code.NodeFields.{NodeFields, node_fields_of, kind_told}
+use Rattle.cfdp_tree.specs.code.Runs.{Stays, RunsStay}
+use Rattle.cfdp_tree.specs.code.Tree.{IsNode, IsDirectory, node_fields_at, unlinked, Relinked, SamePlaces}
+use Rattle.cfdp_tree.specs.code.Kept.{contents_told, file_of, file_in, node_told, node_of, Shows}
+use Rattle.cfdp_tree.proofs.OfNodes.PlaceLaws.{same_paths}
+use Rattle.cfdp_tree.proofs.OfNodes.LinkLaws.{relinked_places}
+
+pub record Alike (old new : Blocks) : Type 0 where
+  pub places : SamePlaces old new
+  pub files : (b : ℕ) → file_in (octets_at new b) ≡ file_in (octets_at old b)
+
+told_unlinked : (k : Kind) (row : NodeFields) → contents_told k (unlinked row) ≡ contents_told k row
+told_unlinked kind.File row = refl
+told_unlinked kind.Directory row = refl
+
+-- what a node holds, by what it says
+by_row : (x y : Option (List ℕ)) → is_some x ≡ is_some y → unlinked (node_fields_of (unwrap_or x [])) ≡ unlinked (node_fields_of (unwrap_or y [])) → file_in x
+    ≡ file_in y
+by_row None None some rows = refl
+by_row None (Some y) some rows = cc
+by_row (Some x) None some rows = cc
+by_row (Some x) (Some y) some rows =
+    sym (told_unlinked (kind_told (node_fields_of x).kind) (node_fields_of x)) ∙ ap (λ (r : NodeFields). contents_told (kind_told r.kind) r) rows
+    ∙ told_unlinked (kind_told (node_fields_of y).kind) (node_fields_of y)
+
+pub alike_relinked : (old new : Blocks) → Relinked old new → Alike old new
+alike_relinked old new links = record {
+  places = relinked_places old new links;
+  files = (λ b. by_row (octets_at new b) (octets_at old b) (links.nodes b) (links.rows b));
+}
+
+held_is : (o : Option (List ℕ)) → IsSome o → file_of (unwrap_or o []) ≡ file_in o
+held_is None some = cc
+held_is (Some block) some = refl
+
+pub told_by : (arena nodes : Blocks) (b : ℕ) → IsNode nodes b → node_of arena (octets_of nodes b)
+    ≡ node_told arena (kind_told (node_fields_at nodes b).kind) (file_in (octets_at nodes b))
+told_by arena nodes b node = ap (node_told arena (kind_told (node_fields_at nodes b).kind)) (held_is (octets_at nodes b) node)
+
+module _ (old new : Blocks) (same : Alike old new) where
+  pub alike_node : (b : ℕ) → IsNode new b → IsNode old b
+  alike_node b node = sym (same.places.nodes b) ∙ node
+
+  pub alike_told : (arena : Blocks) (b : ℕ) → IsNode new b → node_of arena (octets_of new b) ≡ node_of arena (octets_of old b)
+  alike_told arena b node =
+      told_by arena new b node ∙ (λ k. node_told arena (same.places.kinds b k) (same.files b k)) ∙ sym (told_by arena old b (alike_node b node))
+
+  pub alike_directory : (d : ℕ) → IsDirectory old d → IsDirectory new d
+  alike_directory d was = record { node = same.places.nodes d ∙ was.node; directory = same.places.kinds d ∙ was.directory }
+
+  pub alike_shows : (arena : Blocks) (F : finite.FinMap path_cmp Node) → Shows arena old F → Shows arena new F
+  alike_shows arena F shows = record {
+    each = (λ b node. ap (finite.get F) (same_paths old new same.places b) ∙ shows.each b (alike_node b node) ∙ ap Some (sym (alike_told arena b node)));
+    only = (λ p node e. (let at = shows.only p node e in (at.0, same.places.nodes at.0 ∙ at.1, same_paths old new same.places at.0 ∙ at.2)));
+  }
+
+stays_then : (first second third : Blocks) (run : Run) → Stays first second run → Stays second third run → Stays first third run
+stays_then first second third run one two = record {
+  held = two.held;
+  octets = two.octets ∙ one.octets;
+  places = (λ k within. two.places k within ∙ one.places k within);
+}
+
+pub runs_then : (first second third : Blocks) → RunsStay first second → RunsStay second third → RunsStay first third
+runs_then first second third one two run held = (let stays = one run held in stays_then first second third run stays (two run stays.held))

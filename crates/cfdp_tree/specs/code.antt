@@ -1,0 +1,39 @@
+-- What only the proofs of the code need: no clause of a public function cites it.
+--     Block        what a block of the arena says of itself, and its payload
+--     Runs         runs of blocks, and the octets that they hold
+--     Ways         the ways back in runs, by which their blocks are found
+--     Contents     the octets of a file or of a staged list, which are in a run
+--     NodeFields   a node: what is at one path, and its links
+--     Nodes        the nodes of an arena alone
+--     Tree         the tree that they make
+--     Places       directories and the root
+--     Lists        lists of nodes by links
+--     Index        nodes by their directory and their name
+--     Entries      the entries of a directory and of the root
+--     Kept         the store that an arena is
+--     Slots        its staged lists
+--     Changes      what is made
+--     Walk         walks over what is below a place, in path order
+--     Survey       the nodes of what is there
+--     Text         the octets of a path
+--     Orders       the entries of a directory and of the root, in order of their names
+pub mod Block
+pub mod Changes
+pub mod Contents
+pub mod Entries
+pub mod Files
+pub mod Index
+pub mod Kept
+pub mod Lists
+pub mod Next
+pub mod Nodes
+pub mod Orders
+pub mod Places
+pub mod NodeFields
+pub mod Runs
+pub mod Slots
+pub mod Survey
+pub mod Text
+pub mod Tree
+pub mod Walk
+pub mod Ways

@@ -1,0 +1,41 @@
+-- What only the proofs of the code need of `Next`.
+--     name_cmp                  the order of names by octets
+--     IsBehind after name       the name is greater, where another one is given
+--     IsLeast nodes after list b    the least name after it is that of this node of the list
+--     IsListOf nodes place list     the nodes of the list are just those that are in the place
+--     ComesAfter nodes place p b  a node at or below the place, after p
+--     IsFirst nodes place p b   the first one of these
+use Rattle.std.specs.Prelude.{◌≡◌, ◌≢◌, ℕ, true, List, Option, Some, None, All, Contains}
+use Rattle.std.specs.Cmp.Lexicographic.{slice_cmp}
+use Rattle.std.specs.Ordering.{nat_cmp}
+use Rattle.std.specs.declared.cmp.Ordering.{Ordering}
+use Rattle.std.specs.declared.cmp.Ordering.TheVariants.{Less, Greater}
+use Rattle.cfdp_arena.specs.Arena.{Blocks}
+use Rattle.cfdp_paths.specs.Paths.{Name, Path, path_cmp, is_at_or_below}
+use Rattle.cfdp_tree.specs.code.Tree.{IsNode, name_at, path_of_node}
+use Rattle.cfdp_tree.specs.code.Entries.{IsMember}
+
+abbrev pub name_cmp : Name → Name → Ordering
+name_cmp = slice_cmp nat_cmp
+
+abbrev pub IsBehind : Option Name → Name → Type 0
+IsBehind None name = Unit {0}
+IsBehind (Some after) name = name_cmp after name ≡ Less
+
+pub record IsLeast (nodes : Blocks) (after : Option Name) (list : List ℕ) (b : ℕ) : Type 0 where
+  pub listed : Contains list b
+  pub behind : IsBehind after (name_at nodes b)
+  pub least : All (λ c. IsBehind after (name_at nodes c) → name_cmp (name_at nodes b) (name_at nodes c) ≢ Greater) list
+
+pub record IsListOf (nodes : Blocks) (place : Option ℕ) (list : List ℕ) : Type 0 where
+  pub own : All (IsMember nodes None place) list
+  pub all : (b : ℕ) → IsMember nodes None place b → Contains list b
+
+pub record ComesAfter (nodes : Blocks) (place p : Path) (b : ℕ) : Type 0 where
+  pub node : IsNode nodes b
+  pub below : is_at_or_below (path_of_node nodes b) place ≡ true
+  pub behind : path_cmp p (path_of_node nodes b) ≡ Less
+
+pub record IsFirst (nodes : Blocks) (place p : Path) (b : ℕ) : Type 0 where
+  pub follows : ComesAfter nodes place p b
+  pub first : (c : ℕ) → ComesAfter nodes place p c → path_cmp (path_of_node nodes b) (path_of_node nodes c) ≢ Greater

@@ -1,0 +1,15 @@
+-- Directories as places, of which the root is one.
+--     path_at nodes place       the path of a directory;  none of the root
+--     StandsAt nodes place p    the place is one, and has this path
+use Rattle.std.specs.Prelude.{◌≡◌, ℕ, [], Option, Some}
+use Rattle.std.specs.Option.{option_map_or}
+use Rattle.cfdp_arena.specs.Arena.{Blocks}
+use Rattle.cfdp_paths.specs.Paths.{Path}
+use Rattle.cfdp_tree.specs.code.Tree.{IsNode, path_of_node}
+
+abbrev pub path_at : Blocks → Option ℕ → Path
+path_at nodes place = option_map_or (λ d. path_of_node nodes d) place []
+
+pub record StandsAt (nodes : Blocks) (place : Option ℕ) (p : Path) : Type 0 where
+  pub node : (d : ℕ) → place ≡ Some d → IsNode nodes d
+  pub path : path_at nodes place ≡ p
