@@ -244,4 +244,54 @@ static void make_engine(uint32_t blocks) {
     if (scattered) scatter(blocks);
 }
 
+/* ---- a directory of files of no octets */
+
+/* The last octets of names of one hash. The engine's hash of 16 octets is a product; these make one of its factors
+ * 0. */
+#define ONE_HASH_TAIL "\x15\x7c\x4a\x7f\xb9\x79\x37\x9e"
+
+enum { LONGEST_PATH = 2 + 8 + 8 };
+
+/* The path of an entry: a directory of one letter, and a number of six digits, or of eight and a tail. So the order of
+ * paths is that of the numbers. */
+static void spell(char path[LONGEST_PATH + 1], char directory, uint32_t number) {
+    int digits = arrangement == ONE_HASH ? 8 : 6;
+    path[0] = directory;
+    path[1] = '/';
+    for (int i = 0; i < digits; i++) path[2 + i] = "0123456789abcdef"[number >> (4 * (digits - 1 - i)) & 15];
+    path[2 + digits] = 0;
+    if (arrangement == ONE_HASH) strcat(path, ONE_HASH_TAIL);
+}
+
+/* The Metadata PDU of a list with one request for each of the numbers in `order` from `start` up to, and without,
+ * `stop`. */
+static void make_list(enum action action, char directory, uint32_t start, uint32_t stop) {
+    make_metadata(LIST_NUMBER, 0, "");
+    for (uint32_t i = start; i < stop; i++) {
+        char path[LONGEST_PATH + 1];
+        spell(path, directory, order[i]);
+        add_request(action, path, NULL);
+    }
+}
+
+/* A new directory with an entry for each of these numbers. */
+static void fill(char directory, uint32_t start, uint32_t stop) {
+    make_metadata(LIST_NUMBER, 0, "");
+    add_request(CREATE_DIRECTORY, (char[]){directory, 0}, NULL);
+    receive(CFDP_ADMITTED);
+    perform(1);
+    for (uint32_t i = start; i < stop; i += LIST) {
+        uint32_t last = stop - i < LIST ? stop : i + LIST;
+        make_list(CREATE_FILE, directory, i, last);
+        receive(CFDP_ADMITTED);
+        perform(last - i);
+    }
+}
+
+static void make_directory(uint32_t count) {
+    make_engine(BLOCKS);
+    arrange(count);
+    fill('d', 0, count);
+}
+
 #endif
