@@ -75,13 +75,13 @@ fn octets_of(alloc: Global, entity: &Entity, entry: &Entry) -> Result<Vec<u8>, A
 
 /// All that a filestore has, in the order of paths.
 fn all_of(alloc: Global, entity: &Entity) -> Result<Vec<Kept>, AllocError> {
+    let listing = entity.core().store().listing(alloc)?;
     let mut all = Vec::new(alloc);
-    for entry in entity.core().store().listing(alloc)? {
-        let octets = octets_of(alloc, entity, &entry)?;
+    for entry in &listing {
         all.push(Kept {
-            path: entry.path,
+            path: entry.path.copy(alloc)?,
             kind: entry.kind,
-            octets,
+            octets: octets_of(alloc, entity, entry)?,
         })?;
     }
     Ok(all)
