@@ -40,8 +40,8 @@ static unsigned refused;
 
 /* Counts the answers that there is no memory: at most one in a whole run. */
 static bool again(uint32_t answer) {
-    if (answer == CFDP_NO_MEMORY) refused++;
-    return answer == CFDP_NO_MEMORY;
+    if (answer == CFDP_ANSWER_NO_MEMORY) refused++;
+    return answer == CFDP_ANSWER_NO_MEMORY;
 }
 
 static int run(void) {
@@ -54,20 +54,20 @@ static int run(void) {
     size_t count = 0;
     while (again(cfdp_new(&engine, &config, &boot, 1))) {}
     uint32_t put;
-    while (again(put = cfdp_put(&engine, &image, CFDP_FILE, eof, sizeof eof))) {}
-    int wrong = put != CFDP_DONE;
+    while (again(put = cfdp_put(&engine, &image, CFDP_ENTRY_FILE, eof, sizeof eof))) {}
+    int wrong = put != CFDP_ANSWER_DONE;
     while (again(cfdp_receive(&engine, metadata, sizeof metadata, &reply))) {}
-    wrong |= reply.kind != CFDP_ADMITTED;
+    wrong |= reply.kind != CFDP_REPLY_ADMITTED;
     unsigned before = calls;
-    wrong |= cfdp_receive(&engine, eof, sizeof eof, &reply) != CFDP_DONE || reply.kind != CFDP_COMPLETE;
-    wrong |= cfdp_step(&engine, 1, 1, &reply) != CFDP_DONE || reply.kind != CFDP_PERFORMED;
-    wrong |= cfdp_step(&engine, 1, 1, &reply) != CFDP_DONE || reply.kind != CFDP_PERFORMED;
-    wrong |= cfdp_take(&engine, 1, 1, pdu, sizeof pdu, &count, &reply) != CFDP_DONE || reply.kind != CFDP_TAKEN ||
-        count != 30;
+    wrong |= cfdp_receive(&engine, eof, sizeof eof, &reply) != CFDP_ANSWER_DONE || reply.kind != CFDP_REPLY_COMPLETE;
+    wrong |= cfdp_step(&engine, 1, 1, &reply) != CFDP_ANSWER_DONE || reply.kind != CFDP_REPLY_PERFORMED;
+    wrong |= cfdp_step(&engine, 1, 1, &reply) != CFDP_ANSWER_DONE || reply.kind != CFDP_REPLY_PERFORMED;
+    wrong |= cfdp_take(&engine, 1, 1, pdu, sizeof pdu, &count, &reply) != CFDP_ANSWER_DONE ||
+             reply.kind != CFDP_REPLY_TAKEN || count != 30;
     wrong |= calls != before; /* no memory was asked for */
     while (again(cfdp_receive(&engine, live, sizeof live, &reply))) {}
-    wrong |= reply.kind != CFDP_ADMITTED;
-    wrong |= cfdp_free(&engine) != CFDP_DONE;
+    wrong |= reply.kind != CFDP_REPLY_ADMITTED;
+    wrong |= cfdp_free(&engine) != CFDP_ANSWER_DONE;
     return wrong | (out != 0); /* all memory was given back */
 }
 

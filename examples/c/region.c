@@ -62,20 +62,22 @@ int main(void) {
     struct cfdp_engine engine = CFDP_ENGINE_EMPTY;
     struct cfdp_reply reply = {0};
     /* Too much for the region: nothing is kept. */
-    int wrong = cfdp_new(&engine, &large, &none, 0) != CFDP_NO_MEMORY || blocks_out != 0;
-    wrong |= cfdp_new(&engine, &config, &none, 0) != CFDP_DONE;
-    wrong |= cfdp_receive(&engine, metadata, sizeof metadata, &reply) != CFDP_DONE || reply.kind != CFDP_ADMITTED;
+    int wrong = cfdp_new(&engine, &large, &none, 0) != CFDP_ANSWER_NO_MEMORY || blocks_out != 0;
+    wrong |= cfdp_new(&engine, &config, &none, 0) != CFDP_ANSWER_DONE;
+    wrong |= cfdp_receive(&engine, metadata, sizeof metadata, &reply) != CFDP_ANSWER_DONE ||
+             reply.kind != CFDP_REPLY_ADMITTED;
     size_t before = calls;
     for (int i = 0; i < 3; i++)
-        wrong |= cfdp_receive(&engine, pieces[i], sizeof pieces[i], &reply) != CFDP_DONE || reply.kind != CFDP_STORED;
-    wrong |= cfdp_receive(&engine, eof, sizeof eof, &reply) != CFDP_DONE || reply.kind != CFDP_COMPLETE;
-    wrong |= cfdp_step(&engine, 1, 2, &reply) != CFDP_DONE || reply.kind != CFDP_INSTALLED;
+        wrong |= cfdp_receive(&engine, pieces[i], sizeof pieces[i], &reply) != CFDP_ANSWER_DONE ||
+                 reply.kind != CFDP_REPLY_STORED;
+    wrong |= cfdp_receive(&engine, eof, sizeof eof, &reply) != CFDP_ANSWER_DONE || reply.kind != CFDP_REPLY_COMPLETE;
+    wrong |= cfdp_step(&engine, 1, 2, &reply) != CFDP_ANSWER_DONE || reply.kind != CFDP_REPLY_INSTALLED;
     printf("while the file arrived and was installed memory was asked for %zu times\n", calls - before);
     struct cfdp_path image = {.length = 5, .octets = "image"};
     uint8_t octets[32];
     size_t count = 0;
-    wrong |= cfdp_read(&engine, &image, 0, octets, sizeof octets, &count) != CFDP_DONE;
+    wrong |= cfdp_read(&engine, &image, 0, octets, sizeof octets, &count) != CFDP_ANSWER_DONE;
     printf("image: %.*s\n", (int)count, (const char *)octets);
-    wrong |= cfdp_free(&engine) != CFDP_DONE || used != 0;
+    wrong |= cfdp_free(&engine) != CFDP_ANSWER_DONE || used != 0;
     return wrong;
 }

@@ -48,10 +48,10 @@ static void show_all(struct cfdp_engine *engine) {
     struct cfdp_path path = {0};
     struct cfdp_entry entry;
     struct cfdp_blocks blocks;
-    while (cfdp_next(engine, &path, &entry) == CFDP_DONE)
-        printf("%s %.*s %" PRIu64 " %08" PRIx32 "\n", entry.kind == CFDP_FILE ? "file" : "dir", (int)path.length,
+    while (cfdp_next(engine, &path, &entry) == CFDP_ANSWER_DONE)
+        printf("%s %.*s %" PRIu64 " %08" PRIx32 "\n", entry.kind == CFDP_ENTRY_FILE ? "file" : "dir", (int)path.length,
             (const char *)path.octets, entry.size, entry.checksum);
-    expect(cfdp_blocks(engine, &blocks), CFDP_DONE);
+    expect(cfdp_blocks(engine, &blocks), CFDP_ANSWER_DONE);
     printf("free %" PRIu32 " spare %" PRIu32 "\n", blocks.free, blocks.spare);
 }
 
@@ -59,20 +59,21 @@ static void show_all(struct cfdp_engine *engine) {
 static void keep(struct cfdp_engine *engine) {
     struct cfdp_path path = {0};
     struct cfdp_entry entry;
-    for (kept_count = 0; cfdp_next(engine, &path, &entry) == CFDP_DONE; kept_count++) {
+    for (kept_count = 0; cfdp_next(engine, &path, &entry) == CFDP_ANSWER_DONE; kept_count++) {
         struct kept *line = &kept[kept_count];
         line->path = path;
         line->kind = entry.kind;
         line->length = 0;
-        if (entry.kind == CFDP_FILE)
-            expect(cfdp_read(engine, &path, 0, line->octets, sizeof line->octets, &line->length), CFDP_DONE);
+        if (entry.kind == CFDP_ENTRY_FILE)
+            expect(cfdp_read(engine, &path, 0, line->octets, sizeof line->octets, &line->length), CFDP_ANSWER_DONE);
     }
 }
 
 /* Puts it into a new engine. */
 static void put_back(struct cfdp_engine *engine) {
     for (size_t line = 0; line < kept_count; line++)
-        expect(cfdp_put(engine, &kept[line].path, kept[line].kind, kept[line].octets, kept[line].length), CFDP_DONE);
+        expect(cfdp_put(engine, &kept[line].path, kept[line].kind, kept[line].octets, kept[line].length),
+            CFDP_ANSWER_DONE);
 }
 
 int main(void) {
@@ -83,40 +84,40 @@ int main(void) {
     memset(large, 'x', sizeof large - 1);
     large[sizeof large - 1] = 0;
 
-    expect(put(&before, "boot", CFDP_DIRECTORY, ""), CFDP_NO_ENGINE);
-    expect(cfdp_new(&before, &config, &boot, 1), CFDP_DONE);
+    expect(put(&before, "boot", CFDP_ENTRY_DIRECTORY, ""), CFDP_ANSWER_NO_ENGINE);
+    expect(cfdp_new(&before, &config, &boot, 1), CFDP_ANSWER_DONE);
     /* What can't be put, by the first reason; the filestore stays empty. */
-    expect(put(&before, "boot/", CFDP_FILE, ""), CFDP_BAD_PATH);
-    expect(put(&before, "boot", 3, ""), CFDP_NOTHING);
-    expect(put(&before, "boot/image", CFDP_FILE, "1"), CFDP_NO_PARENT);
+    expect(put(&before, "boot/", CFDP_ENTRY_FILE, ""), CFDP_ANSWER_BAD_PATH);
+    expect(put(&before, "boot", 3, ""), CFDP_ANSWER_NOTHING);
+    expect(put(&before, "boot/image", CFDP_ENTRY_FILE, "1"), CFDP_ANSWER_NO_PARENT);
     show_all(&before);
 
-    expect(put(&before, "boot", CFDP_DIRECTORY, ""), CFDP_DONE);
-    expect(put(&before, "boot/image", CFDP_FILE, "Cezhutal flies today, v1"), CFDP_DONE);
-    expect(put(&before, "app", CFDP_DIRECTORY, ""), CFDP_DONE);
-    expect(put(&before, "app/prog", CFDP_FILE, large + 1000), CFDP_DONE);
-    expect(put(&before, "app/empty", CFDP_FILE, ""), CFDP_DONE);
-    expect(put(&before, "app", CFDP_FILE, "1"), CFDP_EXISTS);
-    expect(put(&before, "app/prog/part", CFDP_FILE, "1"), CFDP_NO_PARENT);
+    expect(put(&before, "boot", CFDP_ENTRY_DIRECTORY, ""), CFDP_ANSWER_DONE);
+    expect(put(&before, "boot/image", CFDP_ENTRY_FILE, "Cezhutal flies today, v1"), CFDP_ANSWER_DONE);
+    expect(put(&before, "app", CFDP_ENTRY_DIRECTORY, ""), CFDP_ANSWER_DONE);
+    expect(put(&before, "app/prog", CFDP_ENTRY_FILE, large + 1000), CFDP_ANSWER_DONE);
+    expect(put(&before, "app/empty", CFDP_ENTRY_FILE, ""), CFDP_ANSWER_DONE);
+    expect(put(&before, "app", CFDP_ENTRY_FILE, "1"), CFDP_ANSWER_EXISTS);
+    expect(put(&before, "app/prog/part", CFDP_ENTRY_FILE, "1"), CFDP_ANSWER_NO_PARENT);
     /* 10 blocks of octets and one for the file, where 8 are free. */
-    expect(put(&before, "large", CFDP_FILE, large), CFDP_FILESTORE_FULL);
+    expect(put(&before, "large", CFDP_ENTRY_FILE, large), CFDP_ANSWER_FILESTORE_FULL);
     show_all(&before);
 
     /* The restart. */
     keep(&before);
-    expect(cfdp_free(&before), CFDP_DONE);
-    expect(cfdp_new(&after, &config, &boot, 1), CFDP_DONE);
+    expect(cfdp_free(&before), CFDP_ANSWER_DONE);
+    expect(cfdp_new(&after, &config, &boot, 1), CFDP_ANSWER_DONE);
     put_back(&after);
     show_all(&after);
 
     /* It goes on. From its first transaction on nothing can be put. */
-    expect(cfdp_receive(&after, metadata, sizeof metadata, &reply), CFDP_DONE);
-    expect(reply.kind, CFDP_ADMITTED);
-    expect(put(&after, "late", CFDP_FILE, "1"), CFDP_HAS_TRANSACTIONS);
-    expect(cfdp_receive(&after, eof, sizeof eof, &reply), CFDP_DONE);
-    expect(cfdp_step(&after, 1, 1, &reply), CFDP_DONE);
-    expect(reply.kind, CFDP_PERFORMED);
+    expect(cfdp_receive(&after, metadata, sizeof metadata, &reply), CFDP_ANSWER_DONE);
+    expect(reply.kind, CFDP_REPLY_ADMITTED);
+    expect(put(&after, "late", CFDP_ENTRY_FILE, "1"), CFDP_ANSWER_HAS_TRANSACTIONS);
+    expect(cfdp_receive(&after, eof, sizeof eof, &reply), CFDP_ANSWER_DONE);
+    expect(cfdp_step(&after, 1, 1, &reply), CFDP_ANSWER_DONE);
+    expect(reply.kind, CFDP_REPLY_PERFORMED);
     show_all(&after);
-    expect(cfdp_free(&after), CFDP_DONE);
+    expect(cfdp_free(&after), CFDP_ANSWER_DONE);
     return failed;
 }

@@ -40,7 +40,7 @@ static void expect(uint32_t answer, uint32_t wanted) {
 static void show(const struct cfdp_reply *reply, const uint8_t *octets, size_t length) {
     uint8_t line[256];
     size_t count = 0;
-    expect(cfdp_reply_text(reply, octets, length, line, sizeof line, &count), CFDP_DONE);
+    expect(cfdp_reply_text(reply, octets, length, line, sizeof line, &count), CFDP_ANSWER_DONE);
     printf("%.*s", (int)count, (const char *)line);
 }
 
@@ -48,23 +48,23 @@ static void show(const struct cfdp_reply *reply, const uint8_t *octets, size_t l
 static void show_answer(uint32_t answer) {
     uint8_t line[32];
     size_t count = 0;
-    expect(cfdp_answer_text(answer, line, sizeof line, &count), CFDP_DONE);
+    expect(cfdp_answer_text(answer, line, sizeof line, &count), CFDP_ANSWER_DONE);
     printf("%.*s", (int)count, (const char *)line);
 }
 
 static void receive(const uint8_t *octets, size_t length) {
     struct cfdp_reply reply = {0};
-    expect(cfdp_receive(&engine, octets, length, &reply), CFDP_DONE);
+    expect(cfdp_receive(&engine, octets, length, &reply), CFDP_ANSWER_DONE);
     show(&reply, octets, 0);
 }
 #define RECEIVE(pdu) receive(pdu, sizeof pdu)
 
 static void run(void) {
     struct cfdp_transaction next;
-    while (cfdp_next_runnable(&engine, &next) == CFDP_DONE) {
+    while (cfdp_next_runnable(&engine, &next) == CFDP_ANSWER_DONE) {
         struct cfdp_reply reply = {0};
         uint8_t none[1] = {0};
-        expect(cfdp_step(&engine, next.source, next.number, &reply), CFDP_DONE);
+        expect(cfdp_step(&engine, next.source, next.number, &reply), CFDP_ANSWER_DONE);
         show(&reply, none, 0);
     }
 }
@@ -74,15 +74,15 @@ static void take(uint64_t source, uint64_t number) {
     uint8_t pdu[64];
     size_t count = 0;
     /* A buffer that is too short: the length that is needed, and nothing has changed. */
-    expect(cfdp_take(&engine, source, number, pdu, 1, &count, &reply), CFDP_TOO_SHORT);
+    expect(cfdp_take(&engine, source, number, pdu, 1, &count, &reply), CFDP_ANSWER_TOO_SHORT);
     printf("needs %zu octets\n", count);
-    expect(cfdp_take(&engine, source, number, pdu, sizeof pdu, &count, &reply), CFDP_DONE);
+    expect(cfdp_take(&engine, source, number, pdu, sizeof pdu, &count, &reply), CFDP_ANSWER_DONE);
     show(&reply, pdu, count);
 }
 
 static void show_gaps(uint64_t source, uint64_t number) {
     struct cfdp_gap gap;
-    for (size_t place = 0; cfdp_gap(&engine, source, number, place, &gap) == CFDP_DONE; place++)
+    for (size_t place = 0; cfdp_gap(&engine, source, number, place, &gap) == CFDP_ANSWER_DONE; place++)
         printf("missing %" PRIu64 " to %" PRIu64 "\n", gap.start, gap.end);
 }
 
@@ -91,15 +91,15 @@ static void show_metadata(uint64_t source, uint64_t number) {
     struct cfdp_metadata metadata = {0};
     uint8_t from[255], to[255];
     size_t from_count = 0, to_count = 0;
-    expect(cfdp_metadata(&engine, source, number, &metadata), CFDP_DONE);
-    expect(cfdp_source_name(&engine, source, number, from, sizeof from, &from_count), CFDP_DONE);
-    expect(cfdp_destination_name(&engine, source, number, to, sizeof to, &to_count), CFDP_DONE);
+    expect(cfdp_metadata(&engine, source, number, &metadata), CFDP_ANSWER_DONE);
+    expect(cfdp_source_name(&engine, source, number, from, sizeof from, &from_count), CFDP_ANSWER_DONE);
+    expect(cfdp_destination_name(&engine, source, number, to, sizeof to, &to_count), CFDP_ANSWER_DONE);
     printf("metadata: %" PRIu64 " octets, closure %" PRIu32 ", checksum type %" PRIu32 ", '%.*s' to '%.*s'\n",
         metadata.size, metadata.closure, metadata.checksum_type, (int)from_count, (const char *)from, (int)to_count,
         (const char *)to);
     /* A buffer that is too short: the length that is needed. */
     if (to_count == 0) return;
-    expect(cfdp_destination_name(&engine, source, number, from, to_count - 1, &from_count), CFDP_TOO_SHORT);
+    expect(cfdp_destination_name(&engine, source, number, from, to_count - 1, &from_count), CFDP_ANSWER_TOO_SHORT);
     expect((uint32_t)from_count, (uint32_t)to_count);
 }
 
@@ -107,29 +107,29 @@ static void show_metadata(uint64_t source, uint64_t number) {
 static void show_progress(uint64_t source, uint64_t number) {
     uint64_t progress = 0;
     uint64_t reach = 0;
-    expect(cfdp_progress(&engine, source, number, &progress), CFDP_DONE);
-    expect(cfdp_reach(&engine, source, number, &reach), CFDP_DONE);
+    expect(cfdp_progress(&engine, source, number, &progress), CFDP_ANSWER_DONE);
+    expect(cfdp_reach(&engine, source, number, &reach), CFDP_ANSWER_DONE);
     printf("progress %" PRIu64 ", gaps told up to %" PRIu64 "\n", progress, reach);
 }
 
 /* All transactions in order of admission, and the first one whose outcome can be taken. */
 static void show_order(void) {
     struct cfdp_transaction found;
-    for (size_t index = 0; cfdp_transaction_at(&engine, index, &found) == CFDP_DONE; index++)
+    for (size_t index = 0; cfdp_transaction_at(&engine, index, &found) == CFDP_ANSWER_DONE; index++)
         printf("transaction %" PRIu64 "/%" PRIu64 "\n", found.source, found.number);
-    if (cfdp_next_outcome(&engine, &found) == CFDP_DONE)
+    if (cfdp_next_outcome(&engine, &found) == CFDP_ANSWER_DONE)
         printf("next outcome %" PRIu64 "/%" PRIu64 "\n", found.source, found.number);
 }
 
 /* The file at a path, read in pieces of 10 octets. */
 static void show_file(const struct cfdp_path *path) {
     struct cfdp_entry entry;
-    expect(cfdp_look_up(&engine, path, &entry), CFDP_DONE);
+    expect(cfdp_look_up(&engine, path, &entry), CFDP_ANSWER_DONE);
     printf("file %.*s %" PRIu64 " %08" PRIx32 ": ", (int)path->length, (const char *)path->octets, entry.size,
         entry.checksum);
     uint8_t piece[10];
     size_t count = 0;
-    for (uint64_t at = 0; cfdp_read(&engine, path, at, piece, sizeof piece, &count) == CFDP_DONE && count > 0;
+    for (uint64_t at = 0; cfdp_read(&engine, path, at, piece, sizeof piece, &count) == CFDP_ANSWER_DONE && count > 0;
          at += count)
         printf("%.*s", (int)count, (const char *)piece);
     printf("\n");
@@ -139,13 +139,13 @@ static void show_file(const struct cfdp_path *path) {
 static void show_all(void) {
     struct cfdp_path path = {0};
     struct cfdp_entry entry;
-    while (cfdp_next(&engine, &path, &entry) == CFDP_DONE)
-        printf("%s %.*s %" PRIu64 "\n", entry.kind == CFDP_FILE ? "file" : "dir", (int)path.length,
+    while (cfdp_next(&engine, &path, &entry) == CFDP_ANSWER_DONE)
+        printf("%s %.*s %" PRIu64 "\n", entry.kind == CFDP_ENTRY_FILE ? "file" : "dir", (int)path.length,
             (const char *)path.octets, entry.size);
     /* After the last one the struct is as before; what spells no path is reported. */
-    expect(cfdp_next(&engine, &path, &entry), CFDP_NOTHING);
+    expect(cfdp_next(&engine, &path, &entry), CFDP_ANSWER_NOTHING);
     expect(path.length, 8);
-    expect(cfdp_next(&engine, &(struct cfdp_path){.length = 4, .octets = "app/"}, &entry), CFDP_BAD_PATH);
+    expect(cfdp_next(&engine, &(struct cfdp_path){.length = 4, .octets = "app/"}, &entry), CFDP_ANSWER_BAD_PATH);
 }
 
 int main(void) {
@@ -155,31 +155,32 @@ int main(void) {
 
     if (cfdp_engine_octets() != sizeof engine) return 1;
     /* Misuse that the handle can see is an answer. */
-    expect(cfdp_receive(&engine, list_eof, sizeof list_eof, &reply), CFDP_NO_ENGINE);
-    expect(cfdp_free(&engine), CFDP_NO_ENGINE);
+    expect(cfdp_receive(&engine, list_eof, sizeof list_eof, &reply), CFDP_ANSWER_NO_ENGINE);
+    expect(cfdp_free(&engine), CFDP_ANSWER_NO_ENGINE);
     expect(cfdp_new(&engine, &(struct cfdp_config){.entity = 2, .cap = 2400, .blocks = 15, .checks = 2}, &boot, 1),
-        CFDP_BAD_BLOCKS);
+        CFDP_ANSWER_BAD_BLOCKS);
     expect(cfdp_new(&engine, &(struct cfdp_config){.entity = 2, .cap = 7864321, .blocks = 16, .checks = 2}, &boot, 1),
-        CFDP_BAD_CAP);
+        CFDP_ANSWER_BAD_CAP);
     expect(cfdp_new(&engine, &(struct cfdp_config){.entity = 2, .cap = 7864320, .blocks = 16, .checks = 0}, &boot, 1),
-        CFDP_BAD_CHECKS);
-    expect(cfdp_new(&engine, &config, &(struct cfdp_path){.length = 2, .octets = ".."}, 1), CFDP_BAD_PATH);
-    expect(cfdp_new(&engine, &config, &boot, 1), CFDP_DONE);
-    expect(cfdp_new(&engine, &config, &boot, 1), CFDP_HAS_ENGINE);
+        CFDP_ANSWER_BAD_CHECKS);
+    expect(cfdp_new(&engine, &config, &(struct cfdp_path){.length = 2, .octets = ".."}, 1), CFDP_ANSWER_BAD_PATH);
+    expect(cfdp_new(&engine, &config, &boot, 1), CFDP_ANSWER_DONE);
+    expect(cfdp_new(&engine, &config, &boot, 1), CFDP_ANSWER_HAS_ENGINE);
 
     /* Octets that bring no event. */
-    expect(cfdp_receive(&engine, list_eof, 0, &reply), CFDP_TRUNCATED);
-    expect(cfdp_receive(&engine, list_eof, sizeof list_eof - 1, &reply), CFDP_TRUNCATED);
-    expect(cfdp_receive(&engine, (const uint8_t[]){0x44}, 1, &reply), CFDP_BAD_VERSION);
-    expect(cfdp_receive(&engine, (const uint8_t[]){0x26}, 1, &reply), CFDP_CRC_NOT_SUPPORTED);
-    show_answer(CFDP_CRC_NOT_SUPPORTED);
+    expect(cfdp_receive(&engine, list_eof, 0, &reply), CFDP_ANSWER_TRUNCATED);
+    expect(cfdp_receive(&engine, list_eof, sizeof list_eof - 1, &reply), CFDP_ANSWER_TRUNCATED);
+    expect(cfdp_receive(&engine, (const uint8_t[]){0x44}, 1, &reply), CFDP_ANSWER_BAD_VERSION);
+    expect(cfdp_receive(&engine, (const uint8_t[]){0x26}, 1, &reply), CFDP_ANSWER_CRC_NOT_SUPPORTED);
+    show_answer(CFDP_ANSWER_CRC_NOT_SUPPORTED);
     /* A text that does not fit, and one that there is not. */
     uint8_t line[24];
     size_t count = 0;
-    expect(cfdp_answer_text(CFDP_TRUNCATED, line, 21, &count), CFDP_TOO_SHORT);
+    expect(cfdp_answer_text(CFDP_ANSWER_TRUNCATED, line, 21, &count), CFDP_ANSWER_TOO_SHORT);
     expect((uint32_t)count, 22);
-    expect(cfdp_answer_text(CFDP_NO_ENGINE, line, sizeof line, &count), CFDP_NOTHING);
-    expect(cfdp_reply_text(&(struct cfdp_reply){.kind = 18}, list_eof, 0, line, sizeof line, &count), CFDP_NOTHING);
+    expect(cfdp_answer_text(CFDP_ANSWER_NO_ENGINE, line, sizeof line, &count), CFDP_ANSWER_NOTHING);
+    expect(cfdp_reply_text(&(struct cfdp_reply){.kind = 18}, list_eof, 0, line, sizeof line, &count),
+        CFDP_ANSWER_NOTHING);
 
     RECEIVE(list_metadata);
     show_metadata(1, 1);
@@ -197,47 +198,47 @@ int main(void) {
     show_progress(1, 2);
     RECEIVE(first_piece);
     RECEIVE(file_eof);
-    expect(cfdp_check(&engine, 1, 2, &reply), CFDP_DONE);
+    expect(cfdp_check(&engine, 1, 2, &reply), CFDP_ANSWER_DONE);
     show(&reply, file_eof, 0);
     show_gaps(1, 2);
     RECEIVE(second_piece);
     struct cfdp_phase phase;
     struct cfdp_grant grant;
     struct cfdp_gap gap;
-    expect(cfdp_gap(&engine, 1, 2, 0, &gap), CFDP_NOTHING);
-    expect(cfdp_phase(&engine, 1, 2, &phase), CFDP_DONE);
-    expect(cfdp_grant(&engine, 1, 2, &grant), CFDP_DONE);
+    expect(cfdp_gap(&engine, 1, 2, 0, &gap), CFDP_ANSWER_NOTHING);
+    expect(cfdp_phase(&engine, 1, 2, &phase), CFDP_ANSWER_DONE);
+    expect(cfdp_grant(&engine, 1, 2, &grant), CFDP_ANSWER_DONE);
     printf("phase %" PRIu32 " item %" PRIu32 ", granted blocks %" PRIu32 " steps %" PRIu32 "\n", phase.phase,
         phase.detail, grant.blocks, grant.steps);
     run();
     int64_t blocks_spent = 0;
     uint32_t steps_spent = 0;
-    expect(cfdp_blocks_spent(&engine, 1, 2, &blocks_spent), CFDP_DONE);
-    expect(cfdp_steps_spent(&engine, 1, 2, &steps_spent), CFDP_DONE);
+    expect(cfdp_blocks_spent(&engine, 1, 2, &blocks_spent), CFDP_ANSWER_DONE);
+    expect(cfdp_steps_spent(&engine, 1, 2, &steps_spent), CFDP_ANSWER_DONE);
     printf("spent blocks %" PRId64 " steps %" PRIu32 "\n", blocks_spent, steps_spent);
     take(1, 2);
-    expect(cfdp_phase(&engine, 1, 2, &phase), CFDP_NOTHING);
+    expect(cfdp_phase(&engine, 1, 2, &phase), CFDP_ANSWER_NOTHING);
     uint64_t progress = 0;
-    expect(cfdp_progress(&engine, 1, 2, &progress), CFDP_NOTHING);
-    expect(cfdp_reach(&engine, 1, 2, &progress), CFDP_NOTHING);
+    expect(cfdp_progress(&engine, 1, 2, &progress), CFDP_ANSWER_NOTHING);
+    expect(cfdp_reach(&engine, 1, 2, &progress), CFDP_ANSWER_NOTHING);
     struct cfdp_metadata metadata;
-    expect(cfdp_metadata(&engine, 1, 2, &metadata), CFDP_NOTHING);
-    expect(cfdp_source_name(&engine, 1, 2, line, sizeof line, &count), CFDP_NOTHING);
+    expect(cfdp_metadata(&engine, 1, 2, &metadata), CFDP_ANSWER_NOTHING);
+    expect(cfdp_source_name(&engine, 1, 2, line, sizeof line, &count), CFDP_ANSWER_NOTHING);
     show_order();
 
     show_file(&(struct cfdp_path){.length = 8, .octets = "app/prog"});
     struct cfdp_entry entry;
-    expect(cfdp_look_up(&engine, &(struct cfdp_path){.length = 7, .octets = "app/new"}, &entry), CFDP_NOTHING);
-    expect(cfdp_look_up(&engine, &(struct cfdp_path){.length = 777, .octets = "app"}, &entry), CFDP_BAD_PATH);
-    expect(cfdp_look_up(&engine, &(struct cfdp_path){.length = 3, .octets = "app"}, &entry), CFDP_DONE);
+    expect(cfdp_look_up(&engine, &(struct cfdp_path){.length = 7, .octets = "app/new"}, &entry), CFDP_ANSWER_NOTHING);
+    expect(cfdp_look_up(&engine, &(struct cfdp_path){.length = 777, .octets = "app"}, &entry), CFDP_ANSWER_BAD_PATH);
+    expect(cfdp_look_up(&engine, &(struct cfdp_path){.length = 3, .octets = "app"}, &entry), CFDP_ANSWER_DONE);
     printf("app is of kind %" PRIu32 "\n", entry.kind);
     show_all();
     struct cfdp_blocks blocks;
-    expect(cfdp_blocks(&engine, &blocks), CFDP_DONE);
+    expect(cfdp_blocks(&engine, &blocks), CFDP_ANSWER_DONE);
     printf("free %" PRIu32 " spare %" PRIu32 "\n", blocks.free, blocks.spare);
-    expect(cfdp_free(&engine), CFDP_DONE);
-    expect(cfdp_free(&engine), CFDP_NO_ENGINE);
-    expect(cfdp_metadata(&engine, 1, 2, &metadata), CFDP_NO_ENGINE);
-    expect(cfdp_destination_name(&engine, 1, 2, line, sizeof line, &count), CFDP_NO_ENGINE);
+    expect(cfdp_free(&engine), CFDP_ANSWER_DONE);
+    expect(cfdp_free(&engine), CFDP_ANSWER_NO_ENGINE);
+    expect(cfdp_metadata(&engine, 1, 2, &metadata), CFDP_ANSWER_NO_ENGINE);
+    expect(cfdp_destination_name(&engine, 1, 2, line, sizeof line, &count), CFDP_ANSWER_NO_ENGINE);
     return failed;
 }
