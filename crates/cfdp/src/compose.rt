@@ -4,6 +4,7 @@ use crate::end::End;
 use crate::plan::{Entity, Plan};
 use crate::show::print;
 use crate::shown::push_path;
+use crate::spent::{Progress, Spent};
 use crate::uploads::{plan_in, read_files, uploads_of};
 use cfdp_plans::{ScriptFault, push_config, push_list, push_protect, write_upload};
 use cfdp_streams::ToWrite;
@@ -11,7 +12,8 @@ use cfdp_texts::{encode, push_labelled};
 use cfdp_uploads::Upload;
 use std::alloc::Global;
 use std::io;
-use std::rt::Files;
+use std::rt::{Clock, Files};
+use std::time::Instant;
 
 /// The command that a script is written for.
 #[derive(Clone, Copy)]
@@ -90,41 +92,57 @@ fn write_pdus<R: AllocGlobal + Print>(rt: &R, upload: &Upload<'_>, from: u64) ->
     Ok(now)
 }
 
-/// Writes the uploads for `cfdp run`.
-fn write_timed<R: AllocGlobal + Print>(rt: &R, uploads: &[Upload<'_>]) -> Result<(), End> {
-    let mut now = 0;
-    for upload in uploads {
-        write_title(rt, upload)?;
-        now = write_pdus(rt, upload, now)?;
-    }
-    Ok(())
-}
-
-/// Writes the uploads for `cfdpsim replay`.
-fn write_untimed<R: AllocGlobal + Print>(rt: &R, uploads: &[Upload<'_>]) -> Result<(), End> {
+/// Writes an upload for `cfdpsim replay`.
+fn write_untimed<R: AllocGlobal + Print>(rt: &R, upload: &Upload<'_>) -> Result<(), End> {
     let mut writer = ToWrite::new(io::writer(rt));
-    for upload in uploads {
-        match write_upload(rt.alloc(), upload, &mut writer) {
-            Ok(()) => {}
-            Err(ScriptFault::Write) => return Err(End::Write),
-            Err(ScriptFault::Memory) => return Err(End::Memory),
-        }
+    match write_upload(rt.alloc(), upload, &mut writer) {
+        Ok(()) => Ok(()),
+        Err(ScriptFault::Write) => Err(End::Write),
+        Err(ScriptFault::Memory) => Err(End::Memory),
     }
-    Ok(())
 }
 
-/// Writes the script of a plan.
-fn write<R: AllocGlobal + Print>(
+/// Writes an upload for `cfdp run`, whose PDUs come from a time on. Returns the time after the last one.
+fn write_timed<R: AllocGlobal + Print>(rt: &R, upload: &Upload<'_>, now: u64) -> Result<u64, End> {
+    write_title(rt, upload)?;
+    write_pdus(rt, upload, now)
+}
+
+/// Writes the uploads of the plan with a name. Where that takes long, it says on standard error how far it is.
+fn write_uploads<R: AllocGlobal + Clock + Eprint + Print>(
     rt: &R,
     player: Player,
+    name: &str,
+    uploads: &[Upload<'_>],
+) -> Result<(), End> {
+    let mut now = 0;
+    let mut spent = Spent::new();
+    for (index, upload) in uploads.iter().enumerate() {
+        let begun = Instant::now(rt);
+        match player {
+            Player::Replay => write_untimed(rt, upload)?,
+            Player::Run => now = write_timed(rt, upload, now)?,
+        }
+        let progress = Progress {
+            done: index.saturating_add(1),
+            count: uploads.len(),
+            what: "transactions written",
+        };
+        spent.tell(rt, begun, name, progress);
+    }
+    Ok(())
+}
+
+/// Writes the script of the plan with a name.
+fn write<R: AllocGlobal + Clock + Eprint + Print>(
+    rt: &R,
+    player: Player,
+    name: &str,
     entity: &Entity,
     uploads: &[Upload<'_>],
 ) -> Result<(), End> {
     write_head(rt, player, entity)?;
-    match player {
-        Player::Replay => write_untimed(rt, uploads)?,
-        Player::Run => write_timed(rt, uploads)?,
-    }
+    write_uploads(rt, player, name, uploads)?;
     let mut last = Vec::new(rt.alloc());
     push_list(&mut last)?;
     print(rt, &last)
@@ -132,7 +150,7 @@ fn write<R: AllocGlobal + Print>(
 
 /// Writes the script of the plan in a file to standard output. Nothing is written where something is wrong in the plan,
 /// or a file of it cannot be read.
-pub fn run<R: AllocGlobal + Files + Input + Print>(
+pub fn run<R: AllocGlobal + Clock + Eprint + Files + Input + Print>(
     rt: &R,
     player: Player,
     path: &str,
@@ -145,5 +163,5 @@ pub fn run<R: AllocGlobal + Files + Input + Print>(
     } = plan;
     let files = read_files(rt, path, &text, &transactions)?;
     let uploads = uploads_of(alloc, path, &text, entity.id, transactions, &files)?;
-    write(rt, player, &entity, &uploads)
+    write(rt, player, path, &entity, &uploads)
 }

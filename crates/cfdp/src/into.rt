@@ -2,7 +2,7 @@
 
 use crate::end::End;
 use crate::shown::push_path;
-use crate::spent::Spent;
+use crate::spent::{Progress, Spent};
 use cfdp_actions::{Entry, Filestore, Kind};
 use cfdp_entity::Entity;
 use cfdp_paths::Path;
@@ -109,14 +109,12 @@ pub fn write<R: AllocGlobal + Clock + Eprint + Files>(
     for (index, entry) in entries.iter().enumerate() {
         let begun = Instant::now(rt);
         write_entry(rt, folder, entity, entry)?;
-        if let Ok(begun) = begun {
-            if let Some(seconds) = spent.add(rt, begun) {
-                // Where standard error cannot be written, nothing is said.
-                let _ = eprintln!(rt;
-                    "cfdp: {folder}: {index} of {count} written after {seconds} s"
-                );
-            }
-        }
+        let progress = Progress {
+            done: index.saturating_add(1),
+            count,
+            what: "written",
+        };
+        spent.tell(rt, begun, folder, progress);
     }
     Ok(())
 }

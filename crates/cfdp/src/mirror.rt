@@ -43,6 +43,14 @@ enum Region {
     Free,
 }
 
+/// Where a filestore differs from another one: the index of what it has, and that of what the other one has at the same
+/// path, or else after it.
+#[derive(Clone, Copy)]
+struct Differs {
+    index: usize,
+    other: usize,
+}
+
 impl Kept {
     /// What another filestore has at this path.
     fn difference(&self, other: Option<&Kept>) -> Difference {
@@ -109,20 +117,20 @@ fn at_path<'a>(others: &'a [Kept], index: usize, path: &Path) -> Option<&'a Kept
     }
 }
 
-/// The indices of those of these from which others have one of these differences at their paths.
+/// Where others have one of these differences from these at their paths.
 fn different(
     alloc: Global,
     these: &[Kept],
     others: &[Kept],
     wanted: &[Difference],
-) -> Result<Vec<usize>, AllocError> {
+) -> Result<Vec<Differs>, AllocError> {
     let mut found = Vec::new(alloc);
     let mut other = 0;
     for (index, kept) in these.iter().enumerate() {
         other = first_from(others, other, &kept.path);
         let difference = kept.difference(at_path(others, other, &kept.path));
         if wanted.contains(&difference) {
-            found.push(index)?;
+            found.push(Differs { index, other })?;
         }
     }
     Ok(found)
@@ -131,8 +139,8 @@ fn different(
 /// The paths at which these have something of another kind than others.
 fn turned_paths(alloc: Global, these: &[Kept], others: &[Kept]) -> Result<Vec<Path>, AllocError> {
     let mut found = Vec::new(alloc);
-    for index in &different(alloc, these, others, &[Difference::Turned])? {
-        if let Some(kept) = these.get(*index) {
+    for differs in &different(alloc, these, others, &[Difference::Turned])? {
+        if let Some(kept) = these.get(differs.index) {
             found.push(kept.path.copy(alloc)?)?;
         }
     }
@@ -249,8 +257,8 @@ impl<'a> Mirror<'a> {
     ) -> Result<(), End> {
         let gone = [Difference::Missing, Difference::Turned];
         let old = different(rt.alloc(), &self.all, now, &gone)?;
-        for index in old.iter().rev() {
-            if let Some(kept) = self.all.get(*index) {
+        for differs in old.iter().rev() {
+            if let Some(kept) = self.all.get(differs.index) {
                 if region_of(&kept.path, turned) == region {
                     remove(rt, self.folder, kept)?;
                 }
@@ -259,28 +267,7 @@ impl<'a> Mirror<'a> {
         Ok(())
     }
 
-    /// Makes and writes in a region what the filestore had with one of these differences: each after the directory that
-    /// it is in.
-    fn put_in<R: AllocGlobal + Files>(
-        &self,
-        rt: &R,
-        now: &[Kept],
-        turned: &[Path],
-        region: Region,
-        wanted: &[Difference],
-    ) -> Result<(), End> {
-        for index in &different(rt.alloc(), now, &self.all, wanted)? {
-            if let Some(kept) = now.get(*index) {
-                if region_of(&kept.path, turned) == region {
-                    put(rt, self.folder, kept)?;
-                }
-            }
-        }
-        Ok(())
-    }
-
-    /// Makes and writes what is new or changed in a region. Files that replace others come last: what such a file had
-    /// may have been renamed.
+    /// Makes and writes what is new in a region: each after the directory that it is in.
     fn put_new<R: AllocGlobal + Files>(
         &self,
         rt: &R,
@@ -289,8 +276,66 @@ impl<'a> Mirror<'a> {
         region: Region,
     ) -> Result<(), End> {
         let new = [Difference::Missing, Difference::Turned];
-        self.put_in(rt, now, turned, region, &new)?;
-        self.put_in(rt, now, turned, region, &[Difference::Changed])
+        for differs in &different(rt.alloc(), now, &self.all, &new)? {
+            if let Some(kept) = now.get(differs.index) {
+                if region_of(&kept.path, turned) == region {
+                    put(rt, self.folder, kept)?;
+                }
+            }
+        }
+        Ok(())
+    }
+
+    /// Whether a changed file that is not among those that are done is to have the octets that this one had.
+    fn is_needed(&self, now: &[Kept], changed: &[Differs], done: &[usize], file: Differs) -> bool {
+        let Some(old) = self.all.get(file.other) else {
+            return false;
+        };
+        for next in changed {
+            if next.index == file.index || done.contains(&next.index) {
+                continue;
+            }
+            if now
+                .get(next.index)
+                .is_some_and(|kept| kept.octets == old.octets)
+            {
+                return true;
+            }
+        }
+        false
+    }
+
+    /// Which changed file is replaced after those that are done: the first whose old octets no other one is to have, or
+    /// else the first.
+    fn next_changed(&self, now: &[Kept], changed: &[Differs], done: &[usize]) -> Option<usize> {
+        let mut first = None;
+        for file in changed {
+            if done.contains(&file.index) {
+                continue;
+            }
+            if !self.is_needed(now, changed, done, *file) {
+                return Some(file.index);
+            }
+            first = first.or(Some(file.index));
+        }
+        first
+    }
+
+    /// Replaces the files that have other octets now: each after the files that are to have its old octets, but for
+    /// files that take each other's.
+    fn replace_changed<R: AllocGlobal + Files>(&self, rt: &R, now: &[Kept]) -> Result<(), End> {
+        let alloc = rt.alloc();
+        let changed = different(alloc, now, &self.all, &[Difference::Changed])?;
+        let mut done = Vec::new(alloc);
+        for _ in &changed {
+            if let Some(index) = self.next_changed(now, &changed, &done) {
+                if let Some(kept) = now.get(index) {
+                    put(rt, self.folder, kept)?;
+                }
+                done.push(index)?;
+            }
+        }
+        Ok(())
     }
 
     /// The folder changes to what the filestore has now. What is new is written before a file is replaced, and before
@@ -299,6 +344,7 @@ impl<'a> Mirror<'a> {
     fn change<R: AllocGlobal + Files>(&self, rt: &R, now: &[Kept]) -> Result<(), End> {
         let turned = turned_paths(rt.alloc(), now, &self.all)?;
         self.put_new(rt, now, &turned, Region::Free)?;
+        self.replace_changed(rt, now)?;
         if !turned.is_empty() {
             self.remove_old(rt, now, &turned, Region::Turned)?;
             self.put_new(rt, now, &turned, Region::Turned)?;

@@ -20,6 +20,8 @@ pub enum Part {
     Octet(usize),
     /// A key of the plan itself.
     Top(String),
+    /// A table.
+    Table(Owner),
     /// A key of a table.
     Key(Owner, String),
     /// A value in the array at a key of a table.
@@ -29,14 +31,18 @@ pub enum Part {
 /// What can be open where a plan is cut off after a line.
 const CLOSINGS: [&[u8]; 6] = [b"", b"]", b"}", b"]}", b"}]", b"]}]"];
 
+/// A table of a plan.
+fn table(plan: &Table, owner: Owner) -> Option<&Value> {
+    match owner {
+        Owner::Entity => plan.get("entity"),
+        Owner::Mib => plan.get("mib"),
+        Owner::Transaction(number) => plan.get("transaction")?.as_array()?.get(number),
+    }
+}
+
 /// The value at a key of a table of a plan.
 fn value<'a>(plan: &'a Table, owner: Owner, key: &str) -> Option<&'a Value> {
-    let table = match owner {
-        Owner::Entity => plan.get("entity")?,
-        Owner::Mib => plan.get("mib")?,
-        Owner::Transaction(number) => plan.get("transaction")?.as_array()?.get(number)?,
-    };
-    table.get(key)
+    table(plan, owner)?.get(key)
 }
 
 /// Whether a plan has a part.
@@ -44,6 +50,7 @@ fn has(plan: &Table, part: &Part) -> bool {
     match part {
         Part::Octet(_) => false,
         Part::Top(key) => plan.get(key.as_str()).is_some(),
+        Part::Table(owner) => table(plan, *owner).is_some(),
         Part::Key(owner, key) => value(plan, *owner, key.as_str()).is_some(),
         Part::Item(owner, key, item) => value(plan, *owner, key.as_str())
             .and_then(|items| items.get(*item))

@@ -218,12 +218,39 @@ fn read_heading(section: &Section<'_>, number: usize) -> Result<Heading, PlanFau
     })
 }
 
-/// A transaction of a plan, counted from 0.
-fn read_transaction(alloc: Global, table: &Table, number: usize) -> Result<Transaction, PlanFault> {
+/// Refuses the name of a transaction that one before it has.
+fn check_name(
+    alloc: Global,
+    section: &Section<'_>,
+    heading: Heading,
+    earlier: &[Transaction],
+) -> Result<(), PlanFault> {
+    for other in earlier {
+        let other = other.heading;
+        if other.source == heading.source && other.number == heading.number {
+            let (source, number) = (heading.source, heading.number);
+            let what = format!(in alloc;
+                "number: another transaction of the plan is {source}/{number}"
+            )?;
+            return Err(section.wrong("number", what.as_str()));
+        }
+    }
+    Ok(())
+}
+
+/// The transaction of a plan after these.
+fn read_transaction(
+    alloc: Global,
+    table: &Table,
+    earlier: &[Transaction],
+) -> Result<Transaction, PlanFault> {
+    let number = earlier.len();
     let section = Section::transaction(alloc, table, number);
     section.check_keys(&KEYS)?;
+    let heading = read_heading(&section, number)?;
+    check_name(alloc, &section, heading, earlier)?;
     Ok(Transaction {
-        heading: read_heading(&section, number)?,
+        heading,
         closure: section.flag("closure")?,
         file: read_source(alloc, &section)?,
         segment: section.number("segment", 1..=65_531, 1_000)? as usize,
@@ -249,11 +276,12 @@ fn read_transactions(alloc: Global, plan: &Table) -> Result<Vec<Transaction>, Pl
     let Some(items) = value.as_array() else {
         return Err(wrong_top(alloc, "transaction", "expected [[transaction]]"));
     };
-    for (number, item) in items.iter().enumerate() {
+    for item in items {
         let Some(table) = item.as_table() else {
             return Err(wrong_top(alloc, "transaction", "expected [[transaction]]"));
         };
-        transactions.push(read_transaction(alloc, table, number)?)?;
+        let transaction = read_transaction(alloc, table, &transactions)?;
+        transactions.push(transaction)?;
     }
     Ok(transactions)
 }

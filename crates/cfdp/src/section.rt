@@ -99,6 +99,18 @@ impl<'a> Section<'a> {
         }
     }
 
+    /// That something is wrong with a key, or with the table where it lacks the key.
+    pub fn wrong(&self, key: &str, what: &str) -> PlanFault {
+        let part = match self.get(key) {
+            Some(_) => self.part(key),
+            None => Ok(Part::Table(self.owner)),
+        };
+        match (part, String::from_str(self.alloc, what)) {
+            (Ok(part), Ok(text)) => PlanFault::Wrong(part, text),
+            _ => PlanFault::Memory,
+        }
+    }
+
     /// That something else was expected in the array at a key.
     pub fn expected_item(&self, key: &str, item: usize, what: &str) -> PlanFault {
         let number = item.saturating_add(1);

@@ -3,11 +3,13 @@
 use crate::end::End;
 use crate::found::{Found, Place};
 use crate::input;
+use crate::spent::{Progress, Spent};
 use cfdp_words::{Style, show};
 use std::alloc::Global;
 use std::io;
 use std::io::Write;
-use std::rt::Files;
+use std::rt::{Clock, Files};
+use std::time::Instant;
 
 /// Prints octets to standard output.
 pub fn print<R: Print>(rt: &R, octets: &[u8]) -> Result<(), End> {
@@ -41,8 +43,30 @@ fn block(alloc: Global, style: Style, found: &mut Found) -> Result<Vec<u8>, End>
     Ok(text)
 }
 
+/// Prints what PDUs say. Where that takes long, it says on standard error how far it is.
+fn show_all<R: AllocGlobal + Clock + Eprint + Print>(
+    rt: &R,
+    style: Style,
+    name: &str,
+    all: &mut [Found],
+) -> Result<(), End> {
+    let count = all.len();
+    let mut spent = Spent::new();
+    for (index, found) in all.iter_mut().enumerate() {
+        let begun = Instant::now(rt);
+        print(rt, &block(rt.alloc(), style, found)?)?;
+        let progress = Progress {
+            done: index.saturating_add(1),
+            count,
+            what: "PDUs shown",
+        };
+        spent.tell(rt, begun, name, progress);
+    }
+    Ok(())
+}
+
 /// Prints what the PDUs of a file say, or of standard input without one.
-pub fn run<R: AllocGlobal + Eprint + Files + Input + Print>(
+pub fn run<R: AllocGlobal + Clock + Eprint + Files + Input + Print>(
     rt: &R,
     style: Style,
     path: Option<&str>,
@@ -54,9 +78,7 @@ pub fn run<R: AllocGlobal + Eprint + Files + Input + Print>(
         read => read?,
     };
     let mut contents = input::find(alloc, name, &octets)?;
-    for found in &mut contents.all {
-        print(rt, &block(alloc, style, found)?)?;
-    }
+    show_all(rt, style, name, &mut contents.all)?;
     contents.tell_left_out(rt, name);
     contents.end(alloc, name)
 }

@@ -1,5 +1,6 @@
 //! How long a work takes, so that one that takes long can say how far it is.
 
+use std::io;
 use std::rt::Clock;
 use std::time::{Duration, Instant};
 
@@ -12,6 +13,17 @@ pub struct Spent {
     total: Duration,
     /// When it says next how far it is.
     due: Duration,
+}
+
+/// How far a work is.
+#[derive(Clone, Copy)]
+pub struct Progress {
+    /// How many of its parts are done.
+    pub done: usize,
+    /// How many there are.
+    pub count: usize,
+    /// What the parts are, and what is done to them.
+    pub what: &'static str,
 }
 
 impl Spent {
@@ -34,5 +46,24 @@ impl Spent {
         let patience = Duration::from_secs(PATIENCE);
         self.due = self.total.checked_add(patience).unwrap_or(Duration::MAX);
         Some(self.total.as_secs())
+    }
+
+    /// Adds the time since a moment, and says on standard error how far the work on what has this name is, if it is
+    /// time to.
+    pub fn tell<R: Clock + Eprint>(
+        &mut self,
+        rt: &R,
+        since: io::Result<Instant>,
+        name: &str,
+        progress: Progress,
+    ) {
+        let Ok(since) = since else {
+            return;
+        };
+        if let Some(seconds) = self.add(rt, since) {
+            let Progress { done, count, what } = progress;
+            // Where standard error cannot be written, nothing is said.
+            let _ = eprintln!(rt; "cfdp: {name}: {done} of {count} {what} after {seconds} s");
+        }
     }
 }
