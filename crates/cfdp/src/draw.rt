@@ -69,22 +69,41 @@ fn write<R: AllocGlobal + Print>(rt: &R, drawing: &Drawing) -> Result<(), End> {
     }
 }
 
-/// Draws a script. Where it stops at a line, the picture shows what there was up to it, and says why.
+/// Writes the picture of a script that was played. Where it stopped at a line, the picture says why.
+fn finish<R: AllocGlobal + Print>(
+    rt: &R,
+    drawing: &mut Drawing,
+    played: Result<(), End>,
+) -> Result<(), End> {
+    let Err(end) = played else {
+        return write(rt, drawing);
+    };
+    if let Some(why) = end.stop_of_script() {
+        drawing.end_early(rt.alloc(), why)?;
+        write(rt, drawing)?;
+    }
+    Err(end)
+}
+
+/// Draws what is played. Where the script stops at a line, the picture shows what there was up to it.
+fn draw_played<R: AllocGlobal + Clock + Eprint + Files + Print, I: Read + Drop>(
+    rt: &R,
+    names: Names<'_>,
+    playing: &mut Playing<'_, R, I>,
+) -> Result<(), End> {
+    let mut drawing = Drawing::new(rt.alloc(), names.title, playing.script())?;
+    let played = play(rt, names.name, playing, &mut drawing);
+    finish(rt, &mut drawing, played)
+}
+
+/// Draws the script that an input has.
 fn draw<R: AllocGlobal + Clock + Eprint + Files + Print, I: Read + Drop>(
     rt: &R,
     names: Names<'_>,
     input: I,
 ) -> Result<(), End> {
     let mut playing = Playing::new(rt, names.name, input)?;
-    let mut drawing = Drawing::new(rt.alloc(), names.title, playing.script())?;
-    let Err(end) = play(rt, names.name, &mut playing, &mut drawing) else {
-        return write(rt, &drawing);
-    };
-    if let Some(why) = end.stop_of_script() {
-        drawing.end_early(rt.alloc(), why)?;
-        write(rt, &drawing)?;
-    }
-    Err(end)
+    draw_played(rt, names, &mut playing)
 }
 
 /// Draws the script of a file, or of standard input without one.

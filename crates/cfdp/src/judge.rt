@@ -238,6 +238,50 @@ fn judge<R: AllocGlobal + Print>(
     Ok(admitted)
 }
 
+/// The entity of a plan, whose filestore has what a folder has, or nothing without one.
+fn begin<R: AllocGlobal + Clone + Drop + Files + Input>(
+    rt: &R,
+    asked: &plan::Entity,
+    on: Option<&str>,
+) -> Result<Entity, End> {
+    let mut receiver = entity_of(rt.alloc(), asked)?;
+    if let Some(folder) = on {
+        folder::put(rt, folder, Names::Any, &mut receiver)?;
+    }
+    Ok(receiver)
+}
+
+/// Judges uploads with their files, each on the filestore after those before it. Returns how many are refused.
+fn judge_all<R: AllocGlobal + Print>(
+    rt: &R,
+    receiver: &mut Entity,
+    uploads: &[Upload<'_>],
+    files: &[Vec<u8>],
+) -> Result<usize, End> {
+    let mut refused = 0_usize;
+    for (upload, file) in uploads.iter().zip(files) {
+        if !judge(rt, receiver, &in_turn(rt.alloc(), upload, file)?)? {
+            refused = refused.saturating_add(1);
+        }
+    }
+    Ok(refused)
+}
+
+/// Judges the uploads of a plan with its entity, which begins over a folder, or over nothing without one.
+fn judge_on<R: AllocGlobal + Clone + Drop + Files + Input + Print>(
+    rt: &R,
+    asked: &plan::Entity,
+    on: Option<&str>,
+    uploads: &[Upload<'_>],
+    files: &[Vec<u8>],
+) -> Result<(), End> {
+    let mut receiver = begin(rt, asked, on)?;
+    match judge_all(rt, &mut receiver, uploads, files)? {
+        0 => Ok(()),
+        refused => Err(End::Refused(refused, uploads.len())),
+    }
+}
+
 /// Judges the uploads of the plan in a file, each on the filestore after those before it, which has what a folder has
 /// at first, or nothing without one.
 pub fn run<R: AllocGlobal + Clone + Drop + Files + Input + Print>(
@@ -245,26 +289,12 @@ pub fn run<R: AllocGlobal + Clone + Drop + Files + Input + Print>(
     path: &str,
     on: Option<&str>,
 ) -> Result<(), End> {
-    let alloc = rt.alloc();
     let (text, plan) = plan_in(rt, path)?;
     let Plan {
         entity,
         transactions,
     } = plan;
     let files = read_files(rt, path, &text, &transactions)?;
-    let uploads = uploads_of(alloc, path, &text, entity.id, transactions, &files)?;
-    let mut receiver = entity_of(alloc, &entity)?;
-    if let Some(folder) = on {
-        folder::put(rt, folder, Names::Any, &mut receiver)?;
-    }
-    let mut refused = 0_usize;
-    for (upload, file) in uploads.iter().zip(&files) {
-        if !judge(rt, &mut receiver, &in_turn(alloc, upload, file)?)? {
-            refused = refused.saturating_add(1);
-        }
-    }
-    if refused == 0 {
-        return Ok(());
-    }
-    Err(End::Refused(refused, uploads.len()))
+    let uploads = uploads_of(rt.alloc(), path, &text, entity.id, transactions, &files)?;
+    judge_on(rt, &entity, on, &uploads, &files)
 }

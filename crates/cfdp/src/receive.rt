@@ -214,6 +214,28 @@ fn serve<R: AllocGlobal + Clock + Eprint + Files + Print + Wait>(
     Ok(())
 }
 
+/// The live entity that a run begins with: its setup is read, and then the folder, which is made if there is none.
+fn begin<R: AllocGlobal + Clone + Drop + Files + Input>(
+    rt: &R,
+    options: LiveOptions<'_>,
+) -> Result<Live, End> {
+    let setup = setup::read(rt, options.mib)?;
+    mirror::open(rt, options.into)?;
+    live_of(rt, options.into, &setup)
+}
+
+/// Starts to read standard input, and receives until it ends.
+fn receive_all<R: AllocGlobal + Runtime + Send + Threads + Wait + 'static>(
+    rt: &R,
+    station: &mut Station<'_, R>,
+) -> Result<(), End>
+where
+    R::Reader: Send + 'static,
+{
+    let pieces = Pieces::start(rt, rt.reader())?;
+    serve(rt, &pieces, station)
+}
+
 /// Receives until standard input ends.
 pub fn run<R: AllocGlobal + Runtime + Send + Threads + Wait + 'static>(
     rt: &R,
@@ -222,10 +244,7 @@ pub fn run<R: AllocGlobal + Runtime + Send + Threads + Wait + 'static>(
 where
     R::Reader: Send + 'static,
 {
-    let setup = setup::read(rt, options.mib)?;
-    mirror::open(rt, options.into)?;
-    let live = live_of(rt, options.into, &setup)?;
+    let live = begin(rt, options)?;
     let mut station = Station::new(rt, options.into, live)?;
-    let pieces = Pieces::start(rt, rt.reader())?;
-    serve(rt, &pieces, &mut station)
+    receive_all(rt, &mut station)
 }
