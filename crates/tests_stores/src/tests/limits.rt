@@ -1,13 +1,14 @@
 //! A `TreeStore` of as many blocks as there may be: a staged list that takes all that is left, and a path of as many
 //! and as long names as there may be. `.ci/run_scripts` has a directory of 4,096 entries.
 
-use super::calls::Asked;
-use super::steps::{Script, Shown, Stands, Step, run};
-use cfdp_actions::{Kind, Protected};
+use super::calls::{Asked, deepest, parsed};
+use super::steps::{Script, Shown, Stands, Step, are_listed, are_standing, run, take};
+use cfdp_actions::{Filestore, Kind, Protected};
 use cfdp_paths::Memory;
 use cfdp_status::Action;
 use cfdp_tree::TreeStore;
 use std::alloc::Global;
+use std::process::Abort;
 
 /// As many blocks as there may be.
 const BLOCKS: u32 = 65_536;
@@ -60,6 +61,23 @@ fn a_list_takes_all_blocks(rt: HostRuntime) -> Result<(), Memory> {
     run(&rt, rt.alloc(), &mut store, &Protected::new(), &script)
 }
 
+/// Whether just these are listed, those at and below the directory are there, and the longest path has this many names.
+fn shows_rows<S: Filestore>(
+    alloc: Global,
+    store: &S,
+    listing: &[Stands<'_>],
+    directory: &[u8],
+    standing: &[Stands<'_>],
+    names: u8,
+) -> Result<bool, Memory> {
+    let top = parsed(alloc, directory)?;
+    Ok(
+        deepest(store, &top) == Some(names)
+            && are_listed(alloc, &store.listing(alloc)?, listing)?
+            && are_standing(alloc, &store.standing(alloc, &top)?, standing)?,
+    )
+}
+
 /// A path of as many and as long names as there may be: 96 equal letters each, the first name those of one letter, and
 /// the others `n`.
 fn long(alloc: Global, first: u8) -> Result<Vec<u8>, Memory> {
@@ -87,54 +105,112 @@ fn long_rows(alloc: Global, path: &[u8]) -> Result<Vec<Stands<'_>>, Memory> {
     Ok(rows)
 }
 
-/// The directories are made in one another, and a file in the last one. The first directory gets another name, of which
-/// only the letters differ, and all is removed. The rows are what exists before and after that.
-fn steps<'a>(
-    alloc: Global,
-    (old, old_rows): (&'a [u8], &'a [Stands<'a>]),
-    (new, new_rows): (&'a [u8], &'a [Stands<'a>]),
-) -> Result<Vec<Step<'a>>, Memory> {
-    let (first, other) = (beginning(old, 1), beginning(new, 1));
+/// Makes the directories in one another.
+fn made(alloc: Global, path: &[u8]) -> Result<Vec<Step<'_>>, Memory> {
     let mut steps = Vec::new(alloc);
     for names in 1..8u32 {
-        let directory = beginning(old, names);
+        let directory = beginning(path, names);
         let free = BLOCKS - names;
         steps.push(Step::Performs(Action::CreateDirectory, directory, b"", 0x50, 1, free))?;
     }
-    steps.extend_from_slice(&[
+    Ok(steps)
+}
+
+/// Makes the file.
+fn delivered(file: &[u8]) -> [Step<'_>; 4] {
+    [
         Step::Takes(Asked::Extend(0, 6), 1, 65_528),
         Step::Puts(0, 0, b"octets"),
-        Step::Takes(Asked::Install(0, old), 1, 65_527),
-        Step::Shows(Shown::Octets(old, 6, 0, b"octets")),
-        Step::Shows(Shown::Deepest(first, Some(8))),
-        Step::Shows(Shown::Listing(old_rows)),
-        Step::Shows(Shown::Standing(first, old_rows)),
-        Step::Performs(Action::RenameFile, first, other, 0x20, 0, 65_527),
-        Step::Shows(Shown::Deepest(first, None)),
-        Step::Shows(Shown::Deepest(other, Some(8))),
-        Step::Shows(Shown::Listing(new_rows)),
-        Step::Shows(Shown::Standing(other, new_rows)),
-        Step::Shows(Shown::Octets(new, 6, 0, b"octets")),
-        Step::Performs(Action::DeleteFile, new, b"", 0x10, 2, 65_529),
-    ])?;
+        Step::Takes(Asked::Install(0, file), 1, 65_527),
+        Step::Shows(Shown::Octets(file, 6, 0, b"octets")),
+    ]
+}
+
+/// The first directory gets another name.
+fn renamed<'a>(old: &'a [u8], new: &'a [u8]) -> [Step<'a>; 2] {
+    [
+        Step::Performs(Action::RenameFile, old, new, 0x20, 0, 65_527),
+        Step::Shows(Shown::Deepest(old, None)),
+    ]
+}
+
+/// The file has its octets, and is removed.
+fn deleted(file: &[u8]) -> [Step<'_>; 2] {
+    [
+        Step::Shows(Shown::Octets(file, 6, 0, b"octets")),
+        Step::Performs(Action::DeleteFile, file, b"", 0x10, 2, 65_529),
+    ]
+}
+
+/// Removes the directories, the deepest one first.
+fn unmade(alloc: Global, path: &[u8]) -> Result<Vec<Step<'_>>, Memory> {
+    let mut steps = Vec::new(alloc);
     for above in 0..7u32 {
-        let directory = beginning(new, 7 - above);
+        let directory = beginning(path, 7 - above);
         let free = 65_530 + above;
         steps.push(Step::Performs(Action::RemoveDirectory, directory, b"", 0x60, 1, free))?;
     }
     Ok(steps)
 }
 
+/// Just the directories and the file exist.
+fn stands_long<S: Filestore>(
+    rt: &impl Abort,
+    alloc: Global,
+    store: &S,
+    path: &[u8],
+) -> Result<(), Memory> {
+    let rows = long_rows(alloc, path)?;
+    let holds = shows_rows(alloc, store, &rows, beginning(path, 1), &rows, 8)?;
+    assert!(rt; holds);
+    Ok(())
+}
+
+/// Makes all at the path.
+fn make_long<S: Filestore>(
+    rt: &impl Abort,
+    alloc: Global,
+    store: &mut S,
+    path: &[u8],
+) -> Result<(), Memory> {
+    let none = Protected::new();
+    take(rt, alloc, store, &none, "makes", &made(alloc, path)?)?;
+    take(rt, alloc, store, &none, "delivers", &delivered(path))?;
+    stands_long(rt, alloc, store, path)
+}
+
+/// Moves it to another one.
+fn move_long<S: Filestore>(
+    rt: &impl Abort,
+    alloc: Global,
+    store: &mut S,
+    old: &[u8],
+    new: &[u8],
+) -> Result<(), Memory> {
+    let moves = renamed(beginning(old, 1), beginning(new, 1));
+    take(rt, alloc, store, &Protected::new(), "renames", &moves)?;
+    stands_long(rt, alloc, store, new)
+}
+
+/// Removes it.
+fn remove_long<S: Filestore>(
+    rt: &impl Abort,
+    alloc: Global,
+    store: &mut S,
+    path: &[u8],
+) -> Result<(), Memory> {
+    let none = Protected::new();
+    take(rt, alloc, store, &none, "deletes", &deleted(path))?;
+    take(rt, alloc, store, &none, "removes", &unmade(alloc, path)?)
+}
+
+/// The first directory gets another name, of which only the letters differ.
 #[test]
 fn a_path_has_eight_names_of_96_octets(rt: HostRuntime) -> Result<(), Memory> {
-    let alloc = rt.alloc();
-    let (old, new) = (long(alloc, b'n')?, long(alloc, b'm')?);
-    let (old_rows, new_rows) = (long_rows(alloc, &old)?, long_rows(alloc, &new)?);
-    let steps = steps(alloc, (&old, &old_rows), (&new, &new_rows))?;
-    let script = Script {
-        name: "a long path",
-        parts: &[&steps],
-    };
-    let mut store = TreeStore::new(alloc, BLOCKS)?;
-    run(&rt, alloc, &mut store, &Protected::new(), &script)
+    let old = long(rt.alloc(), b'n')?;
+    let new = long(rt.alloc(), b'm')?;
+    let mut store = TreeStore::new(rt.alloc(), BLOCKS)?;
+    make_long(&rt, rt.alloc(), &mut store, &old)?;
+    move_long(&rt, rt.alloc(), &mut store, &old, &new)?;
+    remove_long(&rt, rt.alloc(), &mut store, &new)
 }

@@ -162,7 +162,7 @@ fn has_staged_checksum<S: Filestore>(store: &S, slot: u8, sum: u32) -> bool {
 }
 
 /// Whether just these are listed.
-fn are_listed(alloc: Global, listing: &[Entry], rows: &[Stands<'_>]) -> Result<bool, Memory> {
+pub fn are_listed(alloc: Global, listing: &[Entry], rows: &[Stands<'_>]) -> Result<bool, Memory> {
     for (entry, (path, kind, size, sum)) in listing.iter().zip(rows) {
         let is_same = entry.kind == *kind && entry.size == *size && entry.checksum == *sum;
         if !is_same || entry.path != parsed(alloc, path)? {
@@ -173,7 +173,11 @@ fn are_listed(alloc: Global, listing: &[Entry], rows: &[Stands<'_>]) -> Result<b
 }
 
 /// Whether just these exist. Nothing is said of checksums.
-fn are_standing(alloc: Global, standing: &[Standing], rows: &[Stands<'_>]) -> Result<bool, Memory> {
+pub fn are_standing(
+    alloc: Global,
+    standing: &[Standing],
+    rows: &[Stands<'_>],
+) -> Result<bool, Memory> {
     for (found, (path, kind, size, _)) in standing.iter().zip(rows) {
         let is_same = found.kind == *kind && found.size == *size;
         if !is_same || found.path != parsed(alloc, path)? {
