@@ -72,13 +72,11 @@ fn capture<'a, R: AllocGlobal + Files>(
 /// Plays the script while it is watched, and writes the filestore into the folder, if there is one, which was made.
 fn play_watched<R: AllocGlobal + Clock + Eprint + Files + Print, I: Read + Drop, F: Write + Drop>(
     rt: &R,
-    name: &str,
-    input: I,
+    playing: &mut Playing<'_, R, I>,
     into: Option<&str>,
     watch: &mut Watch<'_, F>,
 ) -> Result<(), End> {
-    let mut playing = Playing::new(rt, name, input)?;
-    play(rt, &mut playing, watch)?;
+    play(rt, playing, watch)?;
     if let Some(capture) = watch.capture() {
         capture.tell_left_out(rt);
     }
@@ -86,6 +84,18 @@ fn play_watched<R: AllocGlobal + Clock + Eprint + Files + Print, I: Read + Drop,
         None => Ok(()),
         Some(folder) => into::write(rt, folder, playing.script().entity()),
     }
+}
+
+/// Plays the script that an input has, while it is watched.
+fn play_named<R: AllocGlobal + Clock + Eprint + Files + Print, I: Read + Drop, F: Write + Drop>(
+    rt: &R,
+    name: &str,
+    input: I,
+    into: Option<&str>,
+    watch: &mut Watch<'_, F>,
+) -> Result<(), End> {
+    let mut playing = Playing::new(rt, name, input)?;
+    play_watched(rt, &mut playing, into, watch)
 }
 
 /// Plays the script, with what its options ask for.
@@ -96,7 +106,7 @@ fn play_into<R: AllocGlobal + Clock + Eprint + Files + Print, I: Read + Drop>(
     options: Options<'_>,
 ) -> Result<(), End> {
     let mut watch = Watch::new(options.tells, capture(rt, options.capture)?);
-    play_watched(rt, name, input, options.into, &mut watch)
+    play_named(rt, name, input, options.into, &mut watch)
 }
 
 /// Plays the script with this name in messages. Nothing is left of the folder where the script does not end well.
