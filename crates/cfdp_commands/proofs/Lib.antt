@@ -1,12 +1,7 @@
 pub mod Answering
 pub mod Copying
 pub mod Handing
-pub mod Hearing
-pub mod Numbering
 pub mod PathLengths
-pub mod Preparing
-pub mod Reconciling
-pub mod SameConfig
 pub mod Statuses
 pub mod Steps
 pub mod Verdicts

@@ -9,8 +9,7 @@ use Rattle.cfdp_paths.proofs.Faulty.{fault_exactly}
 use Rattle.cfdp_transactions.specs.Config.{Config}
 use Rattle.cfdp_lines.specs.declared.script.LineFault.{LineFault}
 use Rattle.cfdp_lines.specs.declared.script.LineFault.TheVariants.{Bad, Memory}
-use Rattle.cfdp_commands.specs.Commands.{Command, Protect, protect_by}
-use Rattle.cfdp_commands.specs.code.Commands.{SaysPdu}
+use Rattle.cfdp_commands.specs.Commands.{Command, Protect, SaysPdu, protect_by}
 use Rattle.cfdp_commands.specs.Commands as command
 use Rattle.cfdp_commands.specs.Replay.{Stage, answered, protected, with_prefix}
 use Rattle.cfdp_commands.specs.Stages.{stage_by}

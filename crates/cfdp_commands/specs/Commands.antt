@@ -2,18 +2,22 @@
 --
 --   Command        what a line says: a configuration, a path that is protected, a PDU that came, an event of the
 --                  entity's own, a run of steps, or a listing
+--   command_of     the same of a value of the program
 --   keyword_of     what the first word of a line says, if it says something
 --   local_event    the event of a transaction
 --   alone          what a line says that has no other word than its first
 --   command_by     what a line says, by its first word and the words after it; nothing where it is bad
 --   command_in     what a line says, if it has a word; nothing where it is bad
-use Rattle.std.specs.Prelude.{ℕ, if◌then◌else◌, List, [], ◌∷◌, Option, Some, None, option_map, option_and_then, codes, bytes_eq}
+--   IsPdu          it is a PDU that came;  SaysPdu: a line says so. Only the octets of a PDU take memory
+use Rattle.std.specs.Prelude.{⊤, ℕ, if◌then◌else◌, List, [], ◌∷◌, Option, Some, None, option_map, option_and_then, codes, bytes_eq}
 use Rattle.cfdp_status.specs.declared.transaction.TransactionId.{TransactionId}
 use Rattle.cfdp_paths.specs.Paths.{path_of}
 use Rattle.cfdp_transactions.specs.declared.event.Event.{Event}
 use Rattle.cfdp_transactions.specs.declared.event.Event.TheVariants as events
 use Rattle.cfdp_lines.specs.Hexadecimal.{octets_of_words}
 use Rattle.cfdp_lines.specs.Words.{id_by, numbers_of, words_of}
+use Rattle.cfdp_commands.specs.declared.commands.Command.{Command as CommandValue}
+use Rattle.cfdp_commands.specs.declared.commands.Command.TheVariants as command
 use Rattle.cfdp_commands.specs.declared.commands.Keyword.{Keyword}
 use Rattle.cfdp_commands.specs.declared.commands.Keyword.TheVariants as keyword
 use Rattle.cfdp_commands.specs.declared.commands.Local.{Local as LocalEvent}
@@ -32,6 +36,14 @@ local_event Step id = events.Step id
 local_event Cancel id = events.Cancel id
 local_event Check id = events.Check id
 local_event Take id = events.Take id
+
+abbrev pub command_of : CommandValue → Command
+command_of (command.Config entity blocks cap checks journal) = Config entity blocks cap checks journal
+command_of (command.Protect octets) = Protect octets.now
+command_of (command.Pdu octets) = Pdu octets.now
+command_of (command.Local which id) = Local which id
+command_of command.Run = Run
+command_of command.List = ListAll
 
 abbrev pub keyword_of : List ℕ → Option Keyword
 keyword_of word =
@@ -84,3 +96,11 @@ words_say (word ∷ words) = option_map Some (option_and_then (λ known. command
 
 abbrev pub command_in : List ℕ → Option (Option Command)
 command_in line = words_say (words_of line)
+
+abbrev pub IsPdu : Option Command → Type 0
+IsPdu (Some (Pdu octets)) = ⊤
+IsPdu others = ⊥
+
+abbrev pub SaysPdu : Option (Option Command) → Type 0
+SaysPdu (Some said) = IsPdu said
+SaysPdu None = ⊥

@@ -1,7 +1,4 @@
 pub mod Commands
-pub mod JournalTexts
-pub mod Linked
-pub mod Links
 pub mod Plain
 pub mod Replay
 pub mod RequestLines

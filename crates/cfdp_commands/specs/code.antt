@@ -1,5 +1,2 @@
 -- What only the proofs of the code need: no clause of a public function cites it.
-pub mod Commands
-pub mod Linked
-pub mod Links
 pub mod Stages

@@ -1,7 +1,6 @@
 //! What a line of `replay` and of `links` says.
 ghost use Rattle.std.specs.Prelude.{◌≡◌, ◌↔◌, Some, None, Err, IfOk, OnErr, option_map};
-ghost use Rattle.cfdp_commands.specs.Commands.{alone, command_by, command_in, config_by, keyword_of, local_by, local_event, pdu_by, protect_by};
-ghost use Rattle.cfdp_commands.specs.code.Commands.{IsPdu, SaysPdu, command_of};
+ghost use Rattle.cfdp_commands.specs.Commands.{IsPdu, SaysPdu, alone, command_by, command_in, command_of, config_by, keyword_of, local_by, local_event, pdu_by, protect_by};
 ghost use Rattle.cfdp_lines.specs.Hexadecimal.{octets_of_words};
 ghost use Rattle.cfdp_lines.specs.Words.{id_by, numbers_of, words_of};
 ghost use Rattle.cfdp_lines.specs.declared.script.LineFault.TheVariants.{Bad};
@@ -17,7 +16,7 @@ const LONGEST_PATH: usize = 8 * 97;
 
 /// What happens at the receiving entity itself: an event of one transaction.
 #[derive(Clone, Copy)]
-pub(crate) enum Local {
+pub enum Local {
     /// The next item is performed.
     Step,
     /// The transaction is cancelled.
@@ -29,8 +28,8 @@ pub(crate) enum Local {
 }
 
 impl Local {
-    /// The event of this transaction.
-    pub(crate) fn event(self, id: TransactionId) -> Event
+    /// The event of this transaction. Costs nothing.
+    pub fn event(self, id: TransactionId) -> Event
         ensures { result ≡ local_event self id }
     {
         match self {
@@ -61,8 +60,9 @@ enum Keyword {
 
 /// What a line says.
 #[derive(Clone, Copy)]
-pub(crate) enum Command<'a> {
-    /// The configuration is given, by its five numbers.
+pub enum Command<'a> {
+    /// The configuration is given, by its five numbers: the entity's ID, the blocks of the filestore, the cap in
+    /// octets, the check limit, and the entries of the journal. Any number may be outside its limits.
     Config {
         entity: u64,
         blocks: u64,
@@ -84,7 +84,7 @@ pub(crate) enum Command<'a> {
 
 /// Room for the octets that lines spell. It is used again for each line.
 #[derive(Drop)]
-pub(crate) struct Room {
+pub struct Room {
     /// Those of a path. They take no memory, so that a bad line is reported even where memory is refused.
     path: [u8; LONGEST_PATH],
     /// Those of a PDU.
@@ -92,8 +92,8 @@ pub(crate) struct Room {
 }
 
 impl Room {
-    /// Room that takes no memory yet.
-    pub(crate) fn new(alloc: Global) -> Self {
+    /// Room that takes no memory yet. A path has its room in it; the room for a PDU grows with the longest one.
+    pub fn new(alloc: Global) -> Self {
         Room {
             path: [0; LONGEST_PATH],
             pdu: Vec::new(alloc),
@@ -236,12 +236,14 @@ fn read_words<'a>(
     }
 }
 
-/// What a line says that is neither too long nor a comment: nothing, where it has no word. Only the octets of a PDU
-/// take memory.
-pub(crate) fn read_command<'a>(
-    line: &[u8],
-    room: &'a mut Room,
-) -> Result<Option<Command<'a>>, LineFault>
+/// What a line says that is neither too long nor a comment: nothing, where it has no word. The octets that it spells
+/// are put into the room. Cost: one pass over the line.
+///
+/// # Errors
+///
+/// [`LineFault::Bad`] exactly if the line says none of these, even where memory is refused; [`LineFault::Memory`] out
+/// of memory, which only the octets of a PDU take.
+pub fn read_command<'a>(line: &[u8], room: &'a mut Room) -> Result<Option<Command<'a>>, LineFault>
     ensures ok { IfOk result (λ command. command_in line.now ≡ Some (option_map command_of command)) }
     ensures bad { (result ≡ Err Bad) ↔ (command_in line.now ≡ None) }
     ensures memory { result ≡ Err LineFault.Memory → SaysPdu (command_in line.now) }

@@ -121,7 +121,7 @@ pub(crate) enum Progress {
 
 /// What a script sets up before its first event: the configuration, and the paths that are protected.
 #[derive(Drop)]
-pub(crate) struct Setup {
+pub struct Setup {
     progress: Progress,
     /// The configuration but for the paths that are protected.
     config: Config,
@@ -129,8 +129,8 @@ pub(crate) struct Setup {
 }
 
 impl Setup {
-    /// Before the first line.
-    pub(crate) fn new() -> Self
+    /// Before the first line. Takes no memory.
+    pub fn new() -> Self
         ensures { setup_of result ≡ at_first }
     {
         Setup {
@@ -140,8 +140,13 @@ impl Setup {
         }
     }
 
-    /// The configuration is given by its five numbers.
-    pub(crate) fn configure(
+    /// The configuration is given by its five numbers: the entity's ID, the blocks of the filestore, the cap in octets,
+    /// the check limit, and the entries of the journal. Takes no memory.
+    ///
+    /// # Errors
+    ///
+    /// [`LineFault::Bad`] exactly if a line came before that is not passed over, or a number is outside its limits.
+    pub fn configure(
         &mut self,
         entity: u64,
         blocks: u64,
@@ -168,7 +173,12 @@ impl Setup {
 
     /// A path is protected, by the octets that spell it. A line that is bad is reported even where memory is
     /// refused: so whether one more path may be protected is tested first.
-    pub(crate) fn protect(&mut self, alloc: Global, octets: &[u8]) -> Result<(), LineFault>
+    ///
+    /// # Errors
+    ///
+    /// [`LineFault::Bad`] exactly if an event came before, eight paths are protected, or the octets spell no path;
+    /// [`LineFault::Memory`] out of memory.
+    pub fn protect(&mut self, alloc: Global, octets: &[u8]) -> Result<(), LineFault>
         ensures ok { OnOk result (protected (setup_of self.old) octets.now ≡ Some (setup_of self.new)) }
         ensures bad { (result ≡ Err Bad) ↔ (protected (setup_of self.old) octets.now ≡ None) }
     {
@@ -190,15 +200,16 @@ impl Setup {
         Ok(())
     }
 
-    /// The first event comes: nothing more is set up.
-    pub(crate) fn close(&mut self)
+    /// The first event comes: nothing more is set up. Costs nothing.
+    pub fn close(&mut self)
         ensures { setup_of self.new ≡ Running (stage_world (setup_of self.old)) }
     {
         self.progress = Progress::Closed;
     }
 
-    /// The configuration that was set up. It is moved out: nothing is protected any more in what is left.
-    pub(crate) fn take_config(&mut self) -> Config
+    /// The configuration that was set up. It is moved out: nothing is protected any more in what is left. Takes no
+    /// memory.
+    pub fn take_config(&mut self) -> Config
         ensures { stage_world (setup_of self.old) ≡ start result }
     {
         with_prefixes(

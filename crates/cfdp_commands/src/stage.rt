@@ -2,7 +2,7 @@
 ghost use Rattle.std.specs.Prelude.{◌≡◌, ◌↔◌, ◌++◌, ℕ, List, [], ◌∷◌, None, Some, OnOk, Err};
 ghost use Rattle.cfdp_transactions.specs.Writable.{IsReadable};
 ghost use Rattle.cfdp_transactions.specs.Events.{event_at};
-ghost use Rattle.cfdp_commands.specs.code.Commands.{command_of};
+ghost use Rattle.cfdp_commands.specs.Commands.{command_of};
 ghost use Rattle.cfdp_commands.specs.Replay.{Running as IsRunning, at_first, configured, most_runs, obeyed, protected, read_told, steps_from, told_events, stage_world};
 ghost use Rattle.cfdp_texts.specs.Replies.{listing_text};
 ghost use Rattle.cfdp_commands.specs.Stages.{stage_of};

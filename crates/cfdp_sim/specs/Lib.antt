@@ -1,8 +1,8 @@
 pub use Rattle.cfdp_commands.specs.Commands
 pub use Rattle.cfdp_lines.specs.Hexadecimal
-pub use Rattle.cfdp_commands.specs.JournalTexts
-pub use Rattle.cfdp_commands.specs.Linked
-pub use Rattle.cfdp_commands.specs.Links
+pub use Rattle.cfdp_links.specs.JournalTexts
+pub use Rattle.cfdp_links.specs.Linked
+pub use Rattle.cfdp_links.specs.Links
 pub use Rattle.cfdp_commands.specs.Plain
 pub use Rattle.cfdp_commands.specs.Replay
 pub use Rattle.cfdp_commands.specs.RequestLines

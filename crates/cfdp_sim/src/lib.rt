@@ -4,7 +4,8 @@
 //! script: of [`plain`], filestore requests as hexadecimal TLVs (CCSDS 727.0-B-5 §5.4), performed on one filestore
 //! (filestore procedures); and of [`replay`], PDUs (§5.1 to §5.3) and local events of one receiving entity (copy file
 //! procedures). [`links`] runs several of the second kind at once. What they use: streams of octets
-//! (`cfdp_streams`), lines (`cfdp_lines`), and what each line says and does (`cfdp_commands`).
+//! (`cfdp_streams`), lines (`cfdp_lines`), what each line says and does (`cfdp_commands`), and the files and workers of
+//! `links` (`cfdp_links`).
 #![tactic(auto)]
 
 mod link_scripts;

@@ -5,17 +5,17 @@ ghost use Rattle.cfdp_transactions.specs.World.{start};
 ghost use Rattle.cfdp_engine.specs.Sharing.{receipt_events};
 ghost use Rattle.cfdp_engine.specs.Working.{BringAll, passed_over};
 ghost use Rattle.cfdp_lines.specs.Lines.{input_limit};
-ghost use Rattle.cfdp_commands.specs.Linked.{AllNumbered, AreHanded, Handed, HasReadable, IsHeard, IsLinkLost, IsLinkRun, IsLinked, IsLinkedBy, IsWork, Stops};
-ghost use Rattle.cfdp_commands.specs.code.Linked.{Agree, link_fault_of, first_stop, IsRunFault, IsWorkFault, took_of};
-ghost use Rattle.cfdp_commands.specs.Links.{link_files, said_of};
+ghost use Rattle.cfdp_links.specs.Linked.{AllNumbered, AreHanded, Handed, HasReadable, IsHeard, IsLinkLost, IsLinkRun, IsLinked, IsLinkedBy, IsWork, Stops};
+ghost use Rattle.cfdp_links.specs.code.Linked.{Agree, link_fault_of, first_stop, IsRunFault, IsWorkFault, took_of};
+ghost use Rattle.cfdp_links.specs.Links.{link_files, said_of};
 ghost use Rattle.cfdp_lines.specs.declared.faults.LinkFault.TheVariants.{BadLine, ReceiptsDiffer, Write};
 
-use cfdp_commands::{
-    Prepared, are_same, copy_config, messages_are_readable, read_files, reconcile, run_all,
-    text_of_closed,
-};
+use cfdp_commands::copy_config;
 use cfdp_engine::{Gate, Journaled, Message, Seat, Shared, Stop, Worked};
 use cfdp_lines::LinkFault;
+use cfdp_links::{
+    Prepared, are_same, messages_are_readable, read_files, reconcile, run_all, text_of_closed,
+};
 use cfdp_streams::{ScriptOut, write_all};
 use cfdp_transactions::Config;
 use cfdp_tree::TreeStore;

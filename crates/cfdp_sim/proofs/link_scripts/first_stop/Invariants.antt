@@ -1,6 +1,6 @@
 use Rattle.std.proofs.Common.{◌≡◌, drop, None}
 use Rattle.std.specs.List.{AllByRecursion}
-use Rattle.cfdp_commands.specs.code.Linked.{first_stop}
+use Rattle.cfdp_links.specs.code.Linked.{first_stop}
 use Rattle.cfdp_sim.proofs.link_scripts.first_stop.Given as goal
 
 abbrev pub invariant-loop-worked : goal.invariant-loop-worked

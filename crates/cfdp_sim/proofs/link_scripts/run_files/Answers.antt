@@ -1,6 +1,6 @@
 use Rattle.std.proofs.Common.{map, IfOk, ◌∙◌, subst}
-use Rattle.cfdp_commands.specs.Linked.{IsLinked}
-use Rattle.cfdp_commands.specs.Links.{said_of}
+use Rattle.cfdp_links.specs.Linked.{IsLinked}
+use Rattle.cfdp_links.specs.Links.{said_of}
 use Rattle.cfdp_sim.proofs.link_scripts.run_files.Goals as goal
 
 -- the configuration that was copied is the core's

@@ -1,5 +1,5 @@
 use Rattle.std.proofs.Common.{rules, ◌≡◌, length}
-use Rattle.cfdp_commands.proofs.Numbering.{handed_all}
+use Rattle.cfdp_links.proofs.Numbering.{handed_all}
 use Rattle.cfdp_sim.proofs.link_scripts.settle_all.Goals as goal
 
 pub returns-clause-handed : goal.returns-clause-handed

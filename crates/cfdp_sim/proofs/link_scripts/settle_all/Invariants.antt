@@ -3,9 +3,9 @@ use Rattle.std.specs.List.{AllByRecursion}
 use Rattle.std.specs.Vec.Iter.{into_iter_items}
 use Rattle.cfdp_engine.specs.Seats.{Seated}
 use Rattle.cfdp_engine.specs.Sharing.{receipt_events}
-use Rattle.cfdp_commands.specs.Linked.{AllNumbered, AreHanded, HasReadable, IsHeard, IsWork}
-use Rattle.cfdp_commands.specs.code.Linked.{took_of}
-use Rattle.cfdp_commands.specs.Links.{said_of}
+use Rattle.cfdp_links.specs.Linked.{AllNumbered, AreHanded, HasReadable, IsHeard, IsWork}
+use Rattle.cfdp_links.specs.code.Linked.{took_of}
+use Rattle.cfdp_links.specs.Links.{said_of}
 use Rattle.cfdp_sim.proofs.link_scripts.settle_all.Given as goal
 
 abbrev pub invariant-loop-worked : goal.invariant-loop-worked

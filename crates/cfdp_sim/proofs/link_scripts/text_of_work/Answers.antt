@@ -1,7 +1,7 @@
 use Rattle.std.proofs.Common.{rules, ◌≡◌, ◌∙◌, ap}
 use Rattle.std.specs.Prelude.{ℕ, List}
-use Rattle.cfdp_commands.specs.JournalTexts.{journal_text}
-use Rattle.cfdp_commands.proofs.Reconciling.{handed_by_same, if_ok}
+use Rattle.cfdp_links.specs.JournalTexts.{journal_text}
+use Rattle.cfdp_links.proofs.Reconciling.{handed_by_same, if_ok}
 use Rattle.cfdp_sim.proofs.link_scripts.text_of_work.Goals as goal
 
 pub returns-in-Ok-reconcile-clause-ok : goal.returns-in-Ok-reconcile-clause-ok

@@ -1,0 +1,5 @@
+pub mod Hearing
+pub mod Numbering
+pub mod Preparing
+pub mod Reconciling
+pub mod SameConfig

@@ -1,0 +1,9 @@
+use Rattle.std.proofs.Common.{◌≡◌, length}
+use Rattle.cfdp_links.specs.Linked.{AllNumbered}
+use Rattle.cfdp_links.proofs.workers.fn.run_all.scope.Given as goal
+
+abbrev pub invariant-loop-place : goal.invariant-loop-place
+invariant-loop-place g l = record {
+  numbered : AllNumbered (λ number worker. worker.promise.0 ≡ number) 0 l.workers.items;
+  many : length l.workers.items ≡ l.place;
+}

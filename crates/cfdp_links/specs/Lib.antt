@@ -1,0 +1,4 @@
+pub mod JournalTexts
+pub mod Linked
+pub mod Links
+pub mod code
