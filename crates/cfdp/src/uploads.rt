@@ -5,6 +5,7 @@ use crate::input;
 use crate::part::{Owner, Part, line_of};
 use crate::plan::{Heading, Order, Plan, Source, Transaction, read_plan};
 use crate::section::PlanFault;
+use cfdp_pdus::checksum_type::MODULAR_CHECKSUM;
 use cfdp_pdus::{Header, Metadata};
 use cfdp_uploads::{Upload, UploadFault, in_order, piece_count, reversed, shortest_len, swapped};
 use std::alloc::{AllocError, Global};
@@ -95,7 +96,7 @@ fn upload_of<'a>(
     let (source_name, destination_name) = names_of(alloc, file);
     let metadata = Metadata {
         closure,
-        checksum_type: 0,
+        checksum_type: MODULAR_CHECKSUM,
         size: 0,
         source_name,
         destination_name,

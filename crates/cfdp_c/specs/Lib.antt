@@ -1,4 +1,5 @@
 pub mod Answers
+pub mod Numbers
 pub mod Told
 pub mod Making
 pub mod Calls

@@ -11,11 +11,13 @@ use Rattle.cfdp_transactions.specs.declared.putting.NotPut.{NotPut}
 use Rattle.cfdp_transactions.specs.World.{World}
 use Rattle.cfdp_c.specs.Answers.{answer_code, put_answer}
 use Rattle.cfdp_c.specs.Making.{path_in_fields}
+use Rattle.cfdp_c.specs.Numbers.{entry_file, entry_directory}
 use Rattle.cfdp_c.specs.declared.answer.Answer.TheVariants as answer
 use Rattle.cfdp_c.specs.declared.fields.PathFields.{PathFields}
 
 abbrev pub node_in : ℕ → List ℕ → Option Node
-node_in kind octets = if kind == 1 then Some (File octets) else if kind == 2 then Some Directory else None
+node_in kind octets =
+    if kind == entry_file then Some (File octets) else if kind == entry_directory then Some Directory else None
 
 abbrev pub PutsBy : Option NotPut → World → Path → Node → World → ℕ → Type 0
 PutsBy None W p node after code = (after ≡ with_node W p node) × (code ≡ answer_code answer.Done)

@@ -16,6 +16,7 @@ use Rattle.cfdp_receiver.specs.declared.answer.Word.TheVariants as words
 use Rattle.cfdp_receiver.specs.Machine.{AnswerParts}
 use Rattle.cfdp_reception.specs.Reception.{ReceptionFields, pdus_in}
 use Rattle.cfdp_c.specs.Calls.{transaction_named}
+use Rattle.cfdp_c.specs.Numbers.{reply_none}
 use Rattle.cfdp_c.specs.Reads.{name_fields}
 use Rattle.cfdp_c.specs.Told.{bare, told}
 use Rattle.cfdp_c.specs.declared.reply.ReplyFields.{ReplyFields}
@@ -55,10 +56,10 @@ transaction_by (Replied id reply) = id
 transaction_by (Said id word) = id
 
 abbrev pub reply_by : Became → ReplyFields
-reply_by Nothing = bare no_one 0
-reply_by NotOurs = bare no_one 0
+reply_by Nothing = bare no_one reply_none
+reply_by NotOurs = bare no_one reply_none
 reply_by (Replied id reply) = told id reply
-reply_by (Said id word) = bare id 0
+reply_by (Said id word) = bare id reply_none
 
 abbrev pub blank : ℕ → TransactionId → IndicationFields
 blank kind id = record {
@@ -100,7 +101,7 @@ report_in pdus None = record {
   pdus = pdus;
   became = 0;
   transaction = name_fields no_one;
-  reply = bare no_one 0;
+  reply = bare no_one reply_none;
   indication = blank 0 no_one;
 }
 report_in pdus (Some a) = record {

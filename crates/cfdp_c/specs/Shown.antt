@@ -28,8 +28,9 @@ use Rattle.cfdp_texts.specs.Replies.{fault_line, line, not_ours, reply_line, tak
 use Rattle.cfdp_entity.specs.Sending.{sent}
 use Rattle.cfdp_c.specs.Answers.{answer_code}
 use Rattle.cfdp_c.specs.Calls.{transaction_named}
+use Rattle.cfdp_c.specs.Numbers.{reply_admitted, reply_refused, reply_stored, reply_dropped, reply_complete, reply_waiting, reply_faulted, reply_performed, reply_installed, reply_finished, reply_cancelled, reply_taken, reply_duplicate, reply_unknown, reply_idle, reply_not_for_us, reply_table_full, refusal_too_many_requests, refusal_bad_destination, refusal_bad_request_path, refusal_conflict, refusal_destination_not_allowed, refusal_would_fail, refusal_too_long, refusal_no_room}
 use Rattle.cfdp_c.specs.Told.{told}
-use Rattle.cfdp_c.specs.declared.answer.Answer.TheVariants.{Done, Memory, Nothing, TooShort}
+use Rattle.cfdp_c.specs.declared.answer.Answer.TheVariants.{Done, Memory, Nothing, TooShort, NotOurs, Truncated, BadVersion, CrcNotSupported, LengthMismatch, BadDirective, BadTlv, RequestTooLong}
 use Rattle.cfdp_c.specs.declared.reply.ReplyFields.{ReplyFields}
 
 abbrev pub small : ℕ → Option ℕ
@@ -44,14 +45,14 @@ failure_in fields = option_and_then (λ request. option_map (λ status. refusal.
 
 abbrev pub refusals : ReplyFields → List (ℕ × Option Refusal)
 refusals fields =
-    (1, Some refusal.TooManyRequests)
-    ∷ (2, Some (refusal.BadPath place.Destination))
-    ∷ (3, option_map (λ request. refusal.BadPath (place.Request request)) (small fields.request))
-    ∷ (4, Some (refusal.Conflict (transaction_named fields.other_source fields.other_number)))
-    ∷ (5, Some refusal.DestinationNotAllowed)
-    ∷ (6, failure_in fields)
-    ∷ (7, Some (refusal.TooLong fields.steps))
-    ∷ (8, Some (refusal.NoRoom fields.blocks fields.spare))
+    (refusal_too_many_requests, Some refusal.TooManyRequests)
+    ∷ (refusal_bad_destination, Some (refusal.BadPath place.Destination))
+    ∷ (refusal_bad_request_path, option_map (λ request. refusal.BadPath (place.Request request)) (small fields.request))
+    ∷ (refusal_conflict, Some (refusal.Conflict (transaction_named fields.other_source fields.other_number)))
+    ∷ (refusal_destination_not_allowed, Some refusal.DestinationNotAllowed)
+    ∷ (refusal_would_fail, failure_in fields)
+    ∷ (refusal_too_long, Some (refusal.TooLong fields.steps))
+    ∷ (refusal_no_room, Some (refusal.NoRoom fields.blocks fields.spare))
     ∷ []
 
 abbrev pub refusal_in : ReplyFields → Option Refusal
@@ -59,22 +60,22 @@ refusal_in fields = option_flatten (beside (refusals fields) fields.refusal)
 
 abbrev pub reply_table : ReplyFields → List (ℕ × Option Reply)
 reply_table fields =
-    (1, Some (reply.Admitted fields.blocks fields.steps))
-    ∷ (2, option_map (λ why. reply.Refused why) (refusal_in fields))
-    ∷ (3, Some reply.Stored)
-    ∷ (4, Some reply.Dropped)
-    ∷ (5, Some reply.Complete)
-    ∷ (6, Some reply.Waiting)
-    ∷ (7, option_map (λ condition. reply.Faulted condition) (small fields.condition))
-    ∷ (8, option_map (λ status. reply.Performed status) (status_numbered fields.status))
-    ∷ (9, Some reply.Installed)
-    ∷ (10, Some reply.Done)
-    ∷ (11, Some reply.Cancelled)
-    ∷ (13, Some reply.Duplicate)
-    ∷ (14, Some reply.Unknown)
-    ∷ (15, Some reply.Idle)
-    ∷ (16, Some reply.NotForUs)
-    ∷ (17, Some reply.TableFull)
+    (reply_admitted, Some (reply.Admitted fields.blocks fields.steps))
+    ∷ (reply_refused, option_map (λ why. reply.Refused why) (refusal_in fields))
+    ∷ (reply_stored, Some reply.Stored)
+    ∷ (reply_dropped, Some reply.Dropped)
+    ∷ (reply_complete, Some reply.Complete)
+    ∷ (reply_waiting, Some reply.Waiting)
+    ∷ (reply_faulted, option_map (λ condition. reply.Faulted condition) (small fields.condition))
+    ∷ (reply_performed, option_map (λ status. reply.Performed status) (status_numbered fields.status))
+    ∷ (reply_installed, Some reply.Installed)
+    ∷ (reply_finished, Some reply.Done)
+    ∷ (reply_cancelled, Some reply.Cancelled)
+    ∷ (reply_duplicate, Some reply.Duplicate)
+    ∷ (reply_unknown, Some reply.Unknown)
+    ∷ (reply_idle, Some reply.Idle)
+    ∷ (reply_not_for_us, Some reply.NotForUs)
+    ∷ (reply_table_full, Some reply.TableFull)
     ∷ []
 
 abbrev pub reply_in : ReplyFields → Option Reply
@@ -82,7 +83,7 @@ reply_in fields = option_flatten (beside (reply_table fields) fields.kind)
 
 abbrev pub reply_shown : ReplyFields → List ℕ → Option (List ℕ)
 reply_shown fields octets =
-    if fields.kind == 12 then Some (line (transaction_name (transaction_named fields.source fields.number)
+    if fields.kind == reply_taken then Some (line (transaction_name (transaction_named fields.source fields.number)
     ++ word (taken_text octets fields.condition)))
     else option_map (reply_line (transaction_named fields.source fields.number)) (reply_in fields)
 
@@ -103,14 +104,14 @@ pub record HasWidths (fields : ReplyFields) : Type 0 where
 
 abbrev pub answer_lines : List (ℕ × List ℕ)
 answer_lines =
-    (32, not_ours)
-    ∷ (33, fault_line fault.Truncated)
-    ∷ (34, fault_line fault.BadVersion)
-    ∷ (35, fault_line fault.CrcNotSupported)
-    ∷ (36, fault_line fault.LengthMismatch)
-    ∷ (37, fault_line fault.BadDirective)
-    ∷ (38, fault_line fault.BadTlv)
-    ∷ (39, fault_line fault.RequestTooLong)
+    (answer_code NotOurs, not_ours)
+    ∷ (answer_code Truncated, fault_line fault.Truncated)
+    ∷ (answer_code BadVersion, fault_line fault.BadVersion)
+    ∷ (answer_code CrcNotSupported, fault_line fault.CrcNotSupported)
+    ∷ (answer_code LengthMismatch, fault_line fault.LengthMismatch)
+    ∷ (answer_code BadDirective, fault_line fault.BadDirective)
+    ∷ (answer_code BadTlv, fault_line fault.BadTlv)
+    ∷ (answer_code RequestTooLong, fault_line fault.RequestTooLong)
     ∷ []
 
 abbrev pub answer_line : ℕ → Option (List ℕ)

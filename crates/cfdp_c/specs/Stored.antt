@@ -12,14 +12,15 @@ use Rattle.cfdp_tree.specs.Found.{fitting, with_octets}
 use Rattle.cfdp_transactions.specs.World.{World}
 use Rattle.cfdp_c.specs.Answers.{answer_code}
 use Rattle.cfdp_c.specs.Making.{path_in_fields}
+use Rattle.cfdp_c.specs.Numbers.{entry_file, entry_directory}
 use Rattle.cfdp_c.specs.Reads.{Found}
 use Rattle.cfdp_c.specs.declared.answer.Answer.TheVariants.{Done, NoEngine, Nothing, BadPath}
 use Rattle.cfdp_c.specs.declared.fields.EntryFields.{EntryFields}
 use Rattle.cfdp_c.specs.declared.fields.PathFields.{PathFields}
 
 abbrev pub node_fields : Node → EntryFields
-node_fields Directory = record { kind = 2; checksum = 0; size = 0 }
-node_fields (File octets) = record { kind = 1; checksum = checksum octets; size = length octets }
+node_fields Directory = record { kind = entry_directory; checksum = 0; size = 0 }
+node_fields (File octets) = record { kind = entry_file; checksum = checksum octets; size = length octets }
 
 abbrev pub looked : Filestore → Path → Option EntryFields
 looked F p = option_map node_fields (node_at F p)

@@ -11,12 +11,13 @@ use Rattle.cfdp_verifier.specs.declared.refusal.Refusal.{Refusal}
 use Rattle.cfdp_verifier.specs.declared.refusal.Refusal.TheVariants as refusal
 use Rattle.cfdp_transactions.specs.declared.reply.Reply.{Reply}
 use Rattle.cfdp_transactions.specs.declared.reply.Reply.TheVariants as reply
+use Rattle.cfdp_c.specs.Numbers.{reply_none, reply_admitted, reply_refused, reply_stored, reply_dropped, reply_complete, reply_waiting, reply_faulted, reply_performed, reply_installed, reply_finished, reply_cancelled, reply_taken, reply_duplicate, reply_unknown, reply_idle, reply_not_for_us, reply_table_full, refusal_none, refusal_too_many_requests, refusal_bad_destination, refusal_bad_request_path, refusal_conflict, refusal_destination_not_allowed, refusal_would_fail, refusal_too_long, refusal_no_room}
 use Rattle.cfdp_c.specs.declared.reply.ReplyFields.{ReplyFields}
 
 abbrev pub bare : TransactionId → ℕ → ReplyFields
 bare id kind = record {
   kind = kind;
-  refusal = 0;
+  refusal = refusal_none;
   blocks = 0;
   steps = 0;
   spare = 0;
@@ -30,40 +31,46 @@ bare id kind = record {
 }
 
 abbrev pub refusal_fields : TransactionId → Refusal → ReplyFields
-refusal_fields id refusal.TooManyRequests = record (bare id 2) { refusal = 1 }
-refusal_fields id (refusal.BadPath place.Destination) = record (bare id 2) { refusal = 2 }
-refusal_fields id (refusal.BadPath (place.Request request)) = record (bare id 2) { refusal = 3; request = request }
-refusal_fields id (refusal.Conflict other) = record (bare id 2) {
-  refusal = 4;
+refusal_fields id refusal.TooManyRequests =
+    record (bare id reply_refused) { refusal = refusal_too_many_requests }
+refusal_fields id (refusal.BadPath place.Destination) =
+    record (bare id reply_refused) { refusal = refusal_bad_destination }
+refusal_fields id (refusal.BadPath (place.Request request)) =
+    record (bare id reply_refused) { refusal = refusal_bad_request_path; request = request }
+refusal_fields id (refusal.Conflict other) = record (bare id reply_refused) {
+  refusal = refusal_conflict;
   other_source = other.source;
   other_number = other.number;
 }
-refusal_fields id refusal.DestinationNotAllowed = record (bare id 2) { refusal = 5 }
-refusal_fields id (refusal.WouldFail request status) = record (bare id 2) {
-  refusal = 6;
+refusal_fields id refusal.DestinationNotAllowed =
+    record (bare id reply_refused) { refusal = refusal_destination_not_allowed }
+refusal_fields id (refusal.WouldFail request status) = record (bare id reply_refused) {
+  refusal = refusal_would_fail;
   request = request;
   status = octet_of status;
 }
-refusal_fields id (refusal.TooLong steps) = record (bare id 2) { refusal = 7; steps = steps }
-refusal_fields id (refusal.NoRoom blocks spare) = record (bare id 2) { refusal = 8; blocks = blocks; spare = spare }
+refusal_fields id (refusal.TooLong steps) =
+    record (bare id reply_refused) { refusal = refusal_too_long; steps = steps }
+refusal_fields id (refusal.NoRoom blocks spare) =
+    record (bare id reply_refused) { refusal = refusal_no_room; blocks = blocks; spare = spare }
 
 abbrev pub told : TransactionId → Reply → ReplyFields
-told id (reply.Admitted blocks steps) = record (bare id 1) { blocks = blocks; steps = steps }
+told id (reply.Admitted blocks steps) = record (bare id reply_admitted) { blocks = blocks; steps = steps }
 told id (reply.Refused why) = refusal_fields id why
-told id reply.Stored = bare id 3
-told id reply.Dropped = bare id 4
-told id reply.Complete = bare id 5
-told id reply.Waiting = bare id 6
-told id (reply.Faulted condition) = record (bare id 7) { condition = condition }
-told id (reply.Performed status) = record (bare id 8) { status = octet_of status }
-told id reply.Installed = bare id 9
-told id reply.Done = bare id 10
-told id reply.Cancelled = bare id 11
-told id (reply.Taken outcome) = record (bare id 12) { condition = outcome.finished.condition }
-told id reply.Duplicate = bare id 13
-told id reply.Unknown = bare id 14
-told id reply.Idle = bare id 15
-told id reply.NotForUs = bare id 16
-told id reply.TableFull = bare id 17
-told id reply.Memory = bare id 0
-told id reply.JournalFull = bare id 0
+told id reply.Stored = bare id reply_stored
+told id reply.Dropped = bare id reply_dropped
+told id reply.Complete = bare id reply_complete
+told id reply.Waiting = bare id reply_waiting
+told id (reply.Faulted condition) = record (bare id reply_faulted) { condition = condition }
+told id (reply.Performed status) = record (bare id reply_performed) { status = octet_of status }
+told id reply.Installed = bare id reply_installed
+told id reply.Done = bare id reply_finished
+told id reply.Cancelled = bare id reply_cancelled
+told id (reply.Taken outcome) = record (bare id reply_taken) { condition = outcome.finished.condition }
+told id reply.Duplicate = bare id reply_duplicate
+told id reply.Unknown = bare id reply_unknown
+told id reply.Idle = bare id reply_idle
+told id reply.NotForUs = bare id reply_not_for_us
+told id reply.TableFull = bare id reply_table_full
+told id reply.Memory = bare id reply_none
+told id reply.JournalFull = bare id reply_none

@@ -2,6 +2,7 @@
 ghost use Rattle.std.specs.Prelude.{◌≡◌};
 ghost use Rattle.cfdp_c.specs.Answers.{answer_code, config_answer, fault_answer, put_answer, unheard_answer};
 
+use crate::numbers;
 use cfdp_entity::NotHeard;
 use cfdp_pdus::PduFault;
 use cfdp_transactions::{ConfigFault, NotPut};
@@ -75,35 +76,35 @@ impl Answer {
         ensures { result ≡ answer_code self }
     {
         match self {
-            Answer::Done => 0,
-            Answer::NoEngine => 1,
-            Answer::HasEngine => 2,
-            Answer::Memory => 3,
-            Answer::TooShort => 4,
-            Answer::Nothing => 5,
-            Answer::BadBlocks => 16,
-            Answer::BadCap => 17,
-            Answer::BadChecks => 18,
-            Answer::BadPath => 6,
-            Answer::HasTransactions => 7,
-            Answer::Exists => 8,
-            Answer::NoParent => 9,
-            Answer::FilestoreFull => 10,
-            Answer::TooManyPrefixes => 20,
-            Answer::BadHandler => 21,
-            Answer::BadNakMode => 22,
-            Answer::BadInterval => 23,
-            Answer::BadLimit => 24,
-            Answer::BadLongestNak => 25,
-            Answer::NotOurs => 32,
-            Answer::Truncated => 33,
-            Answer::BadVersion => 34,
-            Answer::CrcNotSupported => 35,
-            Answer::LengthMismatch => 36,
-            Answer::BadDirective => 37,
-            Answer::BadTlv => 38,
-            Answer::RequestTooLong => 39,
-            Answer::BadCrc => 40,
+            Answer::Done => numbers::ANSWER_DONE,
+            Answer::NoEngine => numbers::ANSWER_NO_ENGINE,
+            Answer::HasEngine => numbers::ANSWER_HAS_ENGINE,
+            Answer::Memory => numbers::ANSWER_NO_MEMORY,
+            Answer::TooShort => numbers::ANSWER_TOO_SHORT,
+            Answer::Nothing => numbers::ANSWER_NOTHING,
+            Answer::BadBlocks => numbers::ANSWER_BAD_BLOCKS,
+            Answer::BadCap => numbers::ANSWER_BAD_CAP,
+            Answer::BadChecks => numbers::ANSWER_BAD_CHECKS,
+            Answer::BadPath => numbers::ANSWER_BAD_PATH,
+            Answer::HasTransactions => numbers::ANSWER_HAS_TRANSACTIONS,
+            Answer::Exists => numbers::ANSWER_EXISTS,
+            Answer::NoParent => numbers::ANSWER_NO_PARENT,
+            Answer::FilestoreFull => numbers::ANSWER_FILESTORE_FULL,
+            Answer::TooManyPrefixes => numbers::ANSWER_TOO_MANY_PREFIXES,
+            Answer::BadHandler => numbers::ANSWER_BAD_HANDLER,
+            Answer::BadNakMode => numbers::ANSWER_BAD_NAK_MODE,
+            Answer::BadInterval => numbers::ANSWER_BAD_INTERVAL,
+            Answer::BadLimit => numbers::ANSWER_BAD_LIMIT,
+            Answer::BadLongestNak => numbers::ANSWER_BAD_LONGEST_NAK,
+            Answer::NotOurs => numbers::ANSWER_NOT_OURS,
+            Answer::Truncated => numbers::ANSWER_TRUNCATED,
+            Answer::BadVersion => numbers::ANSWER_BAD_VERSION,
+            Answer::CrcNotSupported => numbers::ANSWER_CRC_NOT_SUPPORTED,
+            Answer::LengthMismatch => numbers::ANSWER_LENGTH_MISMATCH,
+            Answer::BadDirective => numbers::ANSWER_BAD_DIRECTIVE,
+            Answer::BadTlv => numbers::ANSWER_BAD_TLV,
+            Answer::RequestTooLong => numbers::ANSWER_REQUEST_TOO_LONG,
+            Answer::BadCrc => numbers::ANSWER_BAD_CRC,
         }
     }
 

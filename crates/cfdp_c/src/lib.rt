@@ -16,6 +16,7 @@ mod handle;
 mod making;
 mod mib;
 mod next;
+mod numbers;
 mod paths;
 mod puts;
 mod raw_box;

@@ -3,6 +3,7 @@ ghost use Rattle.std.specs.Prelude.{◌≡◌, Err, Ok};
 ghost use Rattle.cfdp_c.specs.Mibs.{handler_in, interval_in, mib_answer, mib_in, nak_mode_in};
 
 use crate::answer::Answer;
+use crate::numbers;
 use cfdp_receiver::{Handler, Mib, MibFault, NakMode, Retries, Watch};
 
 /// A C `struct cfdp_mib`. Times are in ticks of the caller's clock.
@@ -44,9 +45,9 @@ fn handler_of(number: u32) -> Result<Handler, Answer>
     ensures { result ≡ handler_in number }
 {
     match number {
-        1 => Ok(Handler::Cancel),
-        2 => Ok(Handler::Ignore),
-        3 => Ok(Handler::Abandon),
+        numbers::HANDLER_CANCEL => Ok(Handler::Cancel),
+        numbers::HANDLER_IGNORE => Ok(Handler::Ignore),
+        numbers::HANDLER_ABANDON => Ok(Handler::Abandon),
         _ => Err(Answer::BadHandler),
     }
 }
@@ -56,8 +57,8 @@ fn nak_mode_of(number: u32) -> Result<NakMode, Answer>
     ensures { result ≡ nak_mode_in number }
 {
     match number {
-        1 => Ok(NakMode::Deferred),
-        2 => Ok(NakMode::Immediate),
+        numbers::NAK_DEFERRED => Ok(NakMode::Deferred),
+        numbers::NAK_IMMEDIATE => Ok(NakMode::Immediate),
         _ => Err(Answer::BadNakMode),
     }
 }

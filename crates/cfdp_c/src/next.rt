@@ -9,6 +9,7 @@ ghost use Rattle.cfdp_c.specs.declared.answer.Answer.TheVariants.{BadPath};
 use crate::answer::Answer;
 use crate::fields::{EntryFields, PATH_OCTETS, PathFields};
 use crate::handle::Handle;
+use crate::numbers;
 use crate::paths::names_of;
 use cfdp_actions::Kind;
 use cfdp_paths::Names;
@@ -34,8 +35,8 @@ fn kind_number(kind: Kind) -> u32
     ensures { result ≡ kind_number kind }
 {
     match kind {
-        Kind::File => 1,
-        Kind::Directory => 2,
+        Kind::File => numbers::ENTRY_FILE,
+        Kind::Directory => numbers::ENTRY_DIRECTORY,
     }
 }
 

@@ -5,6 +5,7 @@ ghost use Rattle.cfdp_c.specs.Puts.{Puts, PutsNode, node_in};
 use crate::answer::Answer;
 use crate::fields::PathFields;
 use crate::handle::Handle;
+use crate::numbers;
 use crate::paths::path_of;
 use cfdp_entity::Entity;
 use cfdp_paths::Path;
@@ -15,8 +16,8 @@ fn put_at(entity: &mut Entity, path: &Path, kind: u32, octets: &[u8]) -> Answer
     ensures { PutsNode (node_in kind octets.now) entity.old path.now entity.new (answer_code result) }
 {
     let put = match kind {
-        1 => entity.put_file(path, octets),
-        2 => entity.put_directory(path),
+        numbers::ENTRY_FILE => entity.put_file(path, octets),
+        numbers::ENTRY_DIRECTORY => entity.put_directory(path),
         _ => return Answer::Nothing,
     };
     match put {

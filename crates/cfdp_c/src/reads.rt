@@ -10,6 +10,7 @@ ghost use Rattle.cfdp_c.specs.Reads.{Reads, blocks_fields, gap_fields, gap_of, g
 use crate::answer::Answer;
 use crate::fields::{BlocksFields, GapFields, GrantFields, NameFields, PhaseFields};
 use crate::handle::Handle;
+use crate::numbers;
 use cfdp_actions::Filestore;
 use cfdp_status::TransactionId;
 use cfdp_transactions::{Core, Phase};
@@ -21,12 +22,12 @@ fn phase_fields(phase: Phase) -> PhaseFields
     ensures { result ≡ phase_fields phase }
 {
     let (phase, detail) = match phase {
-        Phase::Receiving => (1, 0),
-        Phase::Awaiting(checks) => (2, checks),
-        Phase::Executing(item) => (3, u32::from(item)),
-        Phase::Refused => (4, 0),
-        Phase::Done => (5, 0),
-        Phase::Ended(condition) => (6, u32::from(condition)),
+        Phase::Receiving => (numbers::PHASE_RECEIVING, 0),
+        Phase::Awaiting(checks) => (numbers::PHASE_AWAITING, checks),
+        Phase::Executing(item) => (numbers::PHASE_EXECUTING, u32::from(item)),
+        Phase::Refused => (numbers::PHASE_REFUSED, 0),
+        Phase::Done => (numbers::PHASE_DONE, 0),
+        Phase::Ended(condition) => (numbers::PHASE_ENDED, u32::from(condition)),
     };
     PhaseFields { phase, detail }
 }

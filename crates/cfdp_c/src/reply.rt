@@ -1,7 +1,9 @@
 //! A reply as a struct of numbers.
 ghost use Rattle.std.specs.Prelude.{◌≡◌};
 ghost use Rattle.cfdp_c.specs.Told.{bare, refusal_fields, told};
+ghost use Rattle.cfdp_c.specs.Numbers.{reply_none, reply_refused, reply_taken};
 
+use crate::numbers;
 use cfdp_status::TransactionId;
 use cfdp_transactions::Reply;
 use cfdp_verifier::{Place, Refusal};
@@ -44,7 +46,7 @@ impl ReplyFields {
     {
         ReplyFields {
             kind,
-            refusal: 0,
+            refusal: numbers::REFUSAL_NONE,
             blocks: 0,
             steps: 0,
             spare: 0,
@@ -60,18 +62,18 @@ impl ReplyFields {
 
     /// No reply, about a transaction.
     pub(crate) fn none(id: TransactionId) -> ReplyFields
-        ensures { result ≡ bare id 0 }
+        ensures { result ≡ bare id reply_none }
     {
-        ReplyFields::bare(id, 0)
+        ReplyFields::bare(id, numbers::REPLY_NONE)
     }
 
     /// A refusal for a reason that brings no numbers.
     fn refused(id: TransactionId, refusal: u32) -> ReplyFields
-        ensures { result ≡ record (bare id 2) { refusal = refusal } }
+        ensures { result ≡ record (bare id reply_refused) { refusal = refusal } }
     {
         ReplyFields {
             refusal,
-            ..ReplyFields::bare(id, 2)
+            ..ReplyFields::bare(id, numbers::REPLY_REFUSED)
         }
     }
 
@@ -80,42 +82,42 @@ impl ReplyFields {
         ensures { result ≡ refusal_fields id refusal }
     {
         match refusal {
-            Refusal::TooManyRequests => ReplyFields::refused(id, 1),
-            Refusal::BadPath(Place::Destination) => ReplyFields::refused(id, 2),
+            Refusal::TooManyRequests => ReplyFields::refused(id, numbers::REFUSAL_TOO_MANY_REQUESTS),
+            Refusal::BadPath(Place::Destination) => ReplyFields::refused(id, numbers::REFUSAL_BAD_DESTINATION),
             Refusal::BadPath(Place::Request(number)) => ReplyFields {
                 request: u32::from(number),
-                ..ReplyFields::refused(id, 3)
+                ..ReplyFields::refused(id, numbers::REFUSAL_BAD_REQUEST_PATH)
             },
             Refusal::Conflict(other) => ReplyFields {
                 other_source: other.source,
                 other_number: other.number,
-                ..ReplyFields::refused(id, 4)
+                ..ReplyFields::refused(id, numbers::REFUSAL_CONFLICT)
             },
-            Refusal::DestinationNotAllowed => ReplyFields::refused(id, 5),
+            Refusal::DestinationNotAllowed => ReplyFields::refused(id, numbers::REFUSAL_DESTINATION_NOT_ALLOWED),
             Refusal::WouldFail(number, status) => ReplyFields {
                 request: u32::from(number),
                 status: u32::from(status.octet()),
-                ..ReplyFields::refused(id, 6)
+                ..ReplyFields::refused(id, numbers::REFUSAL_WOULD_FAIL)
             },
             Refusal::TooLong(steps) => ReplyFields {
                 steps,
-                ..ReplyFields::refused(id, 7)
+                ..ReplyFields::refused(id, numbers::REFUSAL_TOO_LONG)
             },
             Refusal::NoRoom(blocks, spare) => ReplyFields {
                 blocks,
                 spare,
-                ..ReplyFields::refused(id, 8)
+                ..ReplyFields::refused(id, numbers::REFUSAL_NO_ROOM)
             },
         }
     }
 
     /// That an outcome with this condition code was taken.
     pub(crate) fn taken(id: TransactionId, condition: u8) -> ReplyFields
-        ensures { result ≡ record (bare id 12) { condition = condition } }
+        ensures { result ≡ record (bare id reply_taken) { condition = condition } }
     {
         ReplyFields {
             condition: u32::from(condition),
-            ..ReplyFields::bare(id, 12)
+            ..ReplyFields::bare(id, numbers::REPLY_TAKEN)
         }
     }
 
@@ -127,31 +129,31 @@ impl ReplyFields {
             Reply::Admitted(blocks, steps) => ReplyFields {
                 blocks: *blocks,
                 steps: *steps,
-                ..ReplyFields::bare(id, 1)
+                ..ReplyFields::bare(id, numbers::REPLY_ADMITTED)
             },
             Reply::Refused(refusal) => ReplyFields::of_refusal(id, *refusal),
-            Reply::Stored => ReplyFields::bare(id, 3),
-            Reply::Dropped => ReplyFields::bare(id, 4),
-            Reply::Complete => ReplyFields::bare(id, 5),
-            Reply::Waiting => ReplyFields::bare(id, 6),
+            Reply::Stored => ReplyFields::bare(id, numbers::REPLY_STORED),
+            Reply::Dropped => ReplyFields::bare(id, numbers::REPLY_DROPPED),
+            Reply::Complete => ReplyFields::bare(id, numbers::REPLY_COMPLETE),
+            Reply::Waiting => ReplyFields::bare(id, numbers::REPLY_WAITING),
             Reply::Faulted(condition) => ReplyFields {
                 condition: u32::from(*condition),
-                ..ReplyFields::bare(id, 7)
+                ..ReplyFields::bare(id, numbers::REPLY_FAULTED)
             },
             Reply::Performed(status) => ReplyFields {
                 status: u32::from(status.octet()),
-                ..ReplyFields::bare(id, 8)
+                ..ReplyFields::bare(id, numbers::REPLY_PERFORMED)
             },
-            Reply::Installed => ReplyFields::bare(id, 9),
-            Reply::Done => ReplyFields::bare(id, 10),
-            Reply::Cancelled => ReplyFields::bare(id, 11),
+            Reply::Installed => ReplyFields::bare(id, numbers::REPLY_INSTALLED),
+            Reply::Done => ReplyFields::bare(id, numbers::REPLY_FINISHED),
+            Reply::Cancelled => ReplyFields::bare(id, numbers::REPLY_CANCELLED),
             Reply::Taken(outcome) => ReplyFields::taken(id, outcome.outcome().finished.condition),
-            Reply::Duplicate => ReplyFields::bare(id, 13),
-            Reply::Unknown => ReplyFields::bare(id, 14),
-            Reply::Idle => ReplyFields::bare(id, 15),
-            Reply::NotForUs => ReplyFields::bare(id, 16),
-            Reply::TableFull => ReplyFields::bare(id, 17),
-            Reply::Memory | Reply::JournalFull => ReplyFields::bare(id, 0),
+            Reply::Duplicate => ReplyFields::bare(id, numbers::REPLY_DUPLICATE),
+            Reply::Unknown => ReplyFields::bare(id, numbers::REPLY_UNKNOWN),
+            Reply::Idle => ReplyFields::bare(id, numbers::REPLY_IDLE),
+            Reply::NotForUs => ReplyFields::bare(id, numbers::REPLY_NOT_FOR_US),
+            Reply::TableFull => ReplyFields::bare(id, numbers::REPLY_TABLE_FULL),
+            Reply::Memory | Reply::JournalFull => ReplyFields::bare(id, numbers::REPLY_NONE),
         }
     }
 }

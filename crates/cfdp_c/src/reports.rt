@@ -4,6 +4,7 @@ ghost use Rattle.cfdp_c.specs.Reads.{name_fields};
 ghost use Rattle.cfdp_c.specs.Reports.{became_number, blank, indicated, reply_by, report_of, indication_fields_of, transaction_by, word_number};
 
 use crate::fields::NameFields;
+use crate::numbers;
 use crate::reply::ReplyFields;
 use cfdp_receiver::{Answer, Became, Indication, Word};
 use cfdp_reception::Reception;
@@ -71,21 +72,21 @@ fn word_number(word: Word) -> u32
     ensures { result ≡ word_number word }
 {
     match word {
-        Word::NotForUs => 3,
-        Word::TableFull => 4,
-        Word::Duplicate => 5,
-        Word::Idle => 6,
-        Word::Unknown => 7,
-        Word::Held => 8,
-        Word::Faulted => 9,
-        Word::Acknowledged => 10,
-        Word::Answered => 11,
-        Word::Cancelled => 12,
-        Word::Expired => 13,
-        Word::KeptAlive => 14,
-        Word::Ignored => 15,
-        Word::Finished => 16,
-        Word::Closed => 17,
+        Word::NotForUs => numbers::BECAME_NOT_FOR_US,
+        Word::TableFull => numbers::BECAME_TABLE_FULL,
+        Word::Duplicate => numbers::BECAME_DUPLICATE,
+        Word::Idle => numbers::BECAME_IDLE,
+        Word::Unknown => numbers::BECAME_UNKNOWN,
+        Word::Held => numbers::BECAME_HELD,
+        Word::Faulted => numbers::BECAME_FAULTED,
+        Word::Acknowledged => numbers::BECAME_ACKNOWLEDGED,
+        Word::Answered => numbers::BECAME_ANSWERED,
+        Word::Cancelled => numbers::BECAME_CANCELLED,
+        Word::Expired => numbers::BECAME_EXPIRED,
+        Word::KeptAlive => numbers::BECAME_KEPT_ALIVE,
+        Word::Ignored => numbers::BECAME_IGNORED,
+        Word::Finished => numbers::BECAME_FINISHED,
+        Word::Closed => numbers::BECAME_CLOSED,
     }
 }
 
@@ -94,9 +95,9 @@ fn became_number(became: &Became) -> u32
     ensures { result ≡ became_number became.now }
 {
     match became {
-        Became::Nothing => 0,
-        Became::NotOurs => 1,
-        Became::Replied(_, _) => 2,
+        Became::Nothing => numbers::BECAME_NOTHING,
+        Became::NotOurs => numbers::BECAME_NOT_OURS,
+        Became::Replied(_, _) => numbers::BECAME_REPLIED,
         Became::Said(_, word) => word_number(*word),
     }
 }
@@ -149,27 +150,27 @@ impl IndicationFields {
                 closure: u32::from(described.closure),
                 checksum_type: u32::from(described.checksum_type),
                 length: described.size,
-                ..IndicationFields::blank(1, id)
+                ..IndicationFields::blank(numbers::INDICATION_METADATA_RECV, id)
             },
             Indication::FileSegmentRecv(id, offset, length) => IndicationFields {
                 offset,
                 length,
-                ..IndicationFields::blank(2, id)
+                ..IndicationFields::blank(numbers::INDICATION_FILE_SEGMENT_RECV, id)
             },
-            Indication::EofRecv(id) => IndicationFields::blank(3, id),
+            Indication::EofRecv(id) => IndicationFields::blank(numbers::INDICATION_EOF_RECV, id),
             Indication::TransactionFinished(id, end) => IndicationFields {
                 condition: u32::from(end.condition),
                 incomplete: u32::from(end.incomplete),
                 file_status: u32::from(end.file_status),
-                ..IndicationFields::blank(4, id)
+                ..IndicationFields::blank(numbers::INDICATION_TRANSACTION_FINISHED, id)
             },
             Indication::Fault(id, condition) => IndicationFields {
                 condition: u32::from(condition),
-                ..IndicationFields::blank(5, id)
+                ..IndicationFields::blank(numbers::INDICATION_FAULT, id)
             },
             Indication::Abandoned(id, condition) => IndicationFields {
                 condition: u32::from(condition),
-                ..IndicationFields::blank(6, id)
+                ..IndicationFields::blank(numbers::INDICATION_ABANDONED, id)
             },
         }
     }
@@ -179,7 +180,7 @@ impl IndicationFields {
         ensures { result ≡ indicated answer.now.indications }
     {
         match answer.indication() {
-            None => IndicationFields::blank(0, NO_ONE),
+            None => IndicationFields::blank(numbers::INDICATION_NONE, NO_ONE),
             Some(indication) => IndicationFields::of(indication),
         }
     }
@@ -194,10 +195,10 @@ impl ReportFields {
         match reception.answer() {
             None => ReportFields {
                 pdus,
-                became: 0,
+                became: numbers::BECAME_NOTHING,
                 transaction: name_fields(NO_ONE),
                 reply: ReplyFields::none(NO_ONE),
-                indication: IndicationFields::blank(0, NO_ONE),
+                indication: IndicationFields::blank(numbers::INDICATION_NONE, NO_ONE),
             },
             Some(answer) => ReportFields {
                 pdus,

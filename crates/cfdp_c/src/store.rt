@@ -9,6 +9,7 @@ ghost use Rattle.cfdp_c.specs.Stored.{CopiesFile, CopiesPath, Looks, LooksUp, Re
 use crate::answer::Answer;
 use crate::fields::{EntryFields, PathFields};
 use crate::handle::Handle;
+use crate::numbers;
 use crate::paths::names_of;
 use cfdp_actions::Kind;
 use cfdp_paths::Names;
@@ -23,8 +24,8 @@ fn look_up(core: &Core<TreeStore>, names: Names<'_>) -> Option<EntryFields>
 {
     let found = core.store().find(names)?;
     let kind = match found.kind {
-        Kind::File => 1,
-        Kind::Directory => 2,
+        Kind::File => numbers::ENTRY_FILE,
+        Kind::Directory => numbers::ENTRY_DIRECTORY,
     };
     Some(EntryFields {
         kind,

@@ -6,6 +6,7 @@ ghost use Rattle.cfdp_c.specs.Answers.{answer_code};
 ghost use Rattle.cfdp_c.specs.Shown.{HasWidths, PutsText, PutsAny, ShownAsReplayed, Writes, answer_line, failure_in, longest_line, refusal_in, reply_in, reply_shown, small, status_numbered, with_end};
 
 use crate::answer::Answer;
+use crate::numbers;
 use crate::reply::ReplyFields;
 use cfdp_pdus::PduFault;
 use cfdp_status::{Status, TransactionId};
@@ -13,9 +14,6 @@ use cfdp_texts::{fault_line, not_ours_line, write_reply, write_taken};
 use cfdp_transactions::Reply;
 use cfdp_verifier::{Place, Refusal};
 use std::alloc::{AllocError, Global};
-
-/// The kind of a reply that hands out an outcome.
-const TAKEN: u32 = 12;
 
 /// A number that is an octet.
 fn small(number: u32) -> Option<u8>
@@ -45,17 +43,17 @@ fn refusal_of(fields: &ReplyFields) -> Option<Refusal>
     ensures { result ≡ refusal_in fields.now }
 {
     match fields.refusal {
-        1 => Some(Refusal::TooManyRequests),
-        2 => Some(Refusal::BadPath(Place::Destination)),
-        3 => Some(Refusal::BadPath(Place::Request(small(fields.request)?))),
-        4 => Some(Refusal::Conflict(TransactionId {
+        numbers::REFUSAL_TOO_MANY_REQUESTS => Some(Refusal::TooManyRequests),
+        numbers::REFUSAL_BAD_DESTINATION => Some(Refusal::BadPath(Place::Destination)),
+        numbers::REFUSAL_BAD_REQUEST_PATH => Some(Refusal::BadPath(Place::Request(small(fields.request)?))),
+        numbers::REFUSAL_CONFLICT => Some(Refusal::Conflict(TransactionId {
             source: fields.other_source,
             number: fields.other_number,
         })),
-        5 => Some(Refusal::DestinationNotAllowed),
-        6 => failure_of(fields),
-        7 => Some(Refusal::TooLong(fields.steps)),
-        8 => Some(Refusal::NoRoom(fields.blocks, fields.spare)),
+        numbers::REFUSAL_DESTINATION_NOT_ALLOWED => Some(Refusal::DestinationNotAllowed),
+        numbers::REFUSAL_WOULD_FAIL => failure_of(fields),
+        numbers::REFUSAL_TOO_LONG => Some(Refusal::TooLong(fields.steps)),
+        numbers::REFUSAL_NO_ROOM => Some(Refusal::NoRoom(fields.blocks, fields.spare)),
         _ => None,
     }
 }
@@ -65,22 +63,22 @@ fn reply_of(fields: &ReplyFields) -> Option<Reply>
     ensures { result ≡ reply_in fields.now }
 {
     match fields.kind {
-        1 => Some(Reply::Admitted(fields.blocks, fields.steps)),
-        2 => Some(Reply::Refused(refusal_of(fields)?)),
-        3 => Some(Reply::Stored),
-        4 => Some(Reply::Dropped),
-        5 => Some(Reply::Complete),
-        6 => Some(Reply::Waiting),
-        7 => Some(Reply::Faulted(small(fields.condition)?)),
-        8 => Some(Reply::Performed(status_of(fields.status)?)),
-        9 => Some(Reply::Installed),
-        10 => Some(Reply::Done),
-        11 => Some(Reply::Cancelled),
-        13 => Some(Reply::Duplicate),
-        14 => Some(Reply::Unknown),
-        15 => Some(Reply::Idle),
-        16 => Some(Reply::NotForUs),
-        17 => Some(Reply::TableFull),
+        numbers::REPLY_ADMITTED => Some(Reply::Admitted(fields.blocks, fields.steps)),
+        numbers::REPLY_REFUSED => Some(Reply::Refused(refusal_of(fields)?)),
+        numbers::REPLY_STORED => Some(Reply::Stored),
+        numbers::REPLY_DROPPED => Some(Reply::Dropped),
+        numbers::REPLY_COMPLETE => Some(Reply::Complete),
+        numbers::REPLY_WAITING => Some(Reply::Waiting),
+        numbers::REPLY_FAULTED => Some(Reply::Faulted(small(fields.condition)?)),
+        numbers::REPLY_PERFORMED => Some(Reply::Performed(status_of(fields.status)?)),
+        numbers::REPLY_INSTALLED => Some(Reply::Installed),
+        numbers::REPLY_FINISHED => Some(Reply::Done),
+        numbers::REPLY_CANCELLED => Some(Reply::Cancelled),
+        numbers::REPLY_DUPLICATE => Some(Reply::Duplicate),
+        numbers::REPLY_UNKNOWN => Some(Reply::Unknown),
+        numbers::REPLY_IDLE => Some(Reply::Idle),
+        numbers::REPLY_NOT_FOR_US => Some(Reply::NotForUs),
+        numbers::REPLY_TABLE_FULL => Some(Reply::TableFull),
         _ => None,
     }
 }
@@ -99,7 +97,7 @@ fn line_of(
         number: fields.number,
     };
     let mut line = Vec::new(alloc);
-    if fields.kind == TAKEN {
+    if fields.kind == numbers::REPLY_TAKEN {
         write_taken(id, octets, u64::from(fields.condition), &mut line)?;
         return Ok(Some(line));
     }
@@ -160,14 +158,14 @@ fn answer_line(answer: u32) -> Option<&'static [u8]>
     ensures { option_copied result ≡ answer_line answer }
 {
     match answer {
-        32 => Some(not_ours_line()),
-        33 => Some(fault_line(PduFault::Truncated)),
-        34 => Some(fault_line(PduFault::BadVersion)),
-        35 => Some(fault_line(PduFault::CrcNotSupported)),
-        36 => Some(fault_line(PduFault::LengthMismatch)),
-        37 => Some(fault_line(PduFault::BadDirective)),
-        38 => Some(fault_line(PduFault::BadTlv)),
-        39 => Some(fault_line(PduFault::RequestTooLong)),
+        numbers::ANSWER_NOT_OURS => Some(not_ours_line()),
+        numbers::ANSWER_TRUNCATED => Some(fault_line(PduFault::Truncated)),
+        numbers::ANSWER_BAD_VERSION => Some(fault_line(PduFault::BadVersion)),
+        numbers::ANSWER_CRC_NOT_SUPPORTED => Some(fault_line(PduFault::CrcNotSupported)),
+        numbers::ANSWER_LENGTH_MISMATCH => Some(fault_line(PduFault::LengthMismatch)),
+        numbers::ANSWER_BAD_DIRECTIVE => Some(fault_line(PduFault::BadDirective)),
+        numbers::ANSWER_BAD_TLV => Some(fault_line(PduFault::BadTlv)),
+        numbers::ANSWER_REQUEST_TOO_LONG => Some(fault_line(PduFault::RequestTooLong)),
         _ => None,
     }
 }

@@ -1,8 +1,10 @@
 //! The PDUs of the sender.
 ghost use Rattle.std.specs.Prelude.{◌≡◌, ◌<◌, ◌^◌, false, IfOk};
 ghost use Rattle.cfdp_pdus.specs.Canonical.{IsHeader};
+ghost use Rattle.cfdp_pdus.specs.Codes.{modular_checksum_type};
 
 use crate::fault::Fault;
+use cfdp_pdus::checksum_type::MODULAR_CHECKSUM;
 use cfdp_pdus::{FileData, Header, Metadata, write_file_data, write_metadata};
 use std::alloc::{AllocError, Global};
 
@@ -45,13 +47,13 @@ pub fn unacknowledged(number: u32) -> Header
 
 /// What a Metadata PDU says of a file of this size, at a path of its transaction's own.
 fn metadata(alloc: Global, number: u64, size: u32) -> Result<Metadata, AllocError>
-    ensures checksum_type { IfOk result (λ metadata. metadata.checksum_type ≡ 0) }
+    ensures checksum_type { IfOk result (λ metadata. metadata.checksum_type ≡ modular_checksum_type) }
     ensures size { IfOk result (λ metadata. metadata.size < 2 ^ 32) }
 {
     let name = format!(in alloc; "file-{number}")?;
     Ok(Metadata {
         closure: true,
-        checksum_type: 0,
+        checksum_type: MODULAR_CHECKSUM,
         size: u64::from(size),
         source_name: Vec::from_slice(alloc, b"file")?,
         destination_name: name.into_bytes(),

@@ -12,6 +12,7 @@ use Rattle.std.specs.Prelude.{ℕ, zero, suc, ◌-◌, ◌*◌, ◌/◌, ◌%◌
 use Rattle.byteorder.specs.Endian.{big_number}
 use Rattle.cfdp_tlv.specs.Reading.{◌>>=◌}
 use Rattle.cfdp_pdus.specs.Bits.{flag, fss}
+use Rattle.cfdp_pdus.specs.Codes.{ack_code, nak_code, prompt_code, keep_alive_code}
 use Rattle.cfdp_pdus.specs.First.{Start, start_at, number_at}
 use Rattle.cfdp_pdus.specs.declared.header.Header.{Header}
 use Rattle.cfdp_pdus.specs.declared.fault.PduFault.{PduFault}
@@ -61,9 +62,9 @@ keep_alive_at large octets = do
 unfoldable pub directive_in : Header → List ℕ → Result Directive PduFault
 directive_in header [] = Err LengthMismatch
 directive_in header (code ∷ octets) =
-    if code == 6 then (ack_at octets >>= λ ack. Ok (directives.Ack header ack))
-    else if code == 9 then (prompt_at octets >>= λ prompt. Ok (directives.Prompt header prompt))
-    else if code == 12
+    if code == ack_code then (ack_at octets >>= λ ack. Ok (directives.Ack header ack))
+    else if code == prompt_code then (prompt_at octets >>= λ prompt. Ok (directives.Prompt header prompt))
+    else if code == keep_alive_code
     then (keep_alive_at header.large octets >>= λ keep_alive. Ok (directives.KeepAlive header keep_alive))
     else Err BadDirective
 
@@ -99,7 +100,7 @@ are_pairs large len = nat_le (pair_len large) len && (len % pair_len large == 0)
 unfoldable pub pairs_in : Header → List ℕ → Result (Header × List ℕ) PduFault
 pairs_in header [] = Err LengthMismatch
 pairs_in header (code ∷ octets) =
-    if code == 8
+    if code == nak_code
     then (if are_pairs header.large (length octets) then Ok (header, octets) else Err LengthMismatch)
     else Err BadDirective
 

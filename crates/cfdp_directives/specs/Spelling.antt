@@ -7,6 +7,7 @@ use Rattle.std.specs.Prelude.{ℕ, ◌+◌, ◌*◌, ◌^◌, ◌<◌, ◌==◌,
 use Rattle.std.specs.List.{flat_map}
 use Rattle.byteorder.specs.Endian.{big_bytes}
 use Rattle.cfdp_pdus.specs.Bits.{digit, fss}
+use Rattle.cfdp_pdus.specs.Codes.{finished_code, ack_code, nak_code, prompt_code, keep_alive_code}
 use Rattle.cfdp_pdus.specs.Canonical.{pdu_octets}
 use Rattle.cfdp_pdus.specs.declared.header.Header.{Header}
 use Rattle.cfdp_directives.specs.declared.ack.Ack.{Ack}
@@ -24,7 +25,8 @@ pub record IsSizedAck (ack : Ack) : Type 0 where
 -- the directive subtype code is 1 for a Finished PDU, else 0
 unfoldable pub ack_field : Ack → List ℕ
 ack_field ack =
-    6 ∷ (16 * ack.directive + digit (ack.directive == 5)) ∷ (16 * ack.condition + status_code ack.status) ∷ []
+    ack_code ∷ (16 * ack.directive + digit (ack.directive == finished_code))
+    ∷ (16 * ack.condition + status_code ack.status) ∷ []
 
 abbrev pub ack_pdu : Header → Ack → List ℕ
 ack_pdu header ack = pdu_octets false header (ack_field ack)
@@ -39,7 +41,8 @@ abbrev pub range_octets : Bool → ℕ × ℕ → List ℕ
 range_octets large range = big_bytes (fss large) range.0 ++ big_bytes (fss large) range.1
 
 unfoldable pub nak_field : Bool → ℕ × ℕ → List (ℕ × ℕ) → List ℕ
-nak_field large scope requests = 8 ∷ (range_octets large scope ++ flat_map (range_octets large) requests)
+nak_field large scope requests =
+    nak_code ∷ (range_octets large scope ++ flat_map (range_octets large) requests)
 
 -- a data field has 65,535 octets at most: the directive code, and 16 octets for the scope and for each request of a
 -- large file, else 8
@@ -56,7 +59,7 @@ prompt_flags prompts.Nak = 0
 prompt_flags prompts.KeepAlive = 128
 
 unfoldable pub prompt_field : Prompt → List ℕ
-prompt_field prompt = 9 ∷ prompt_flags prompt ∷ []
+prompt_field prompt = prompt_code ∷ prompt_flags prompt ∷ []
 
 abbrev pub prompt_pdu : Header → Prompt → List ℕ
 prompt_pdu header prompt = pdu_octets false header (prompt_field prompt)
@@ -67,7 +70,7 @@ pub record IsSizedKeepAlive (large : Bool) (keep_alive : KeepAlive) : Type 0 whe
   pub progress : keep_alive.progress < 256 ^ fss large
 
 unfoldable pub keep_alive_field : Bool → KeepAlive → List ℕ
-keep_alive_field large keep_alive = 12 ∷ big_bytes (fss large) keep_alive.progress
+keep_alive_field large keep_alive = keep_alive_code ∷ big_bytes (fss large) keep_alive.progress
 
 abbrev pub keep_alive_pdu : Header → KeepAlive → List ℕ
 keep_alive_pdu header keep_alive = pdu_octets false header (keep_alive_field header.large keep_alive)

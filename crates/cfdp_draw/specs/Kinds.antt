@@ -7,6 +7,7 @@
 --     way_opening           the beginning of a mark, with its class
 --     phase_words, phase_letter      a phase in a word, and its first letter
 use Rattle.std.specs.Prelude.{ℕ, ◌==◌, if◌then◌else◌, List, [], codes}
+use Rattle.cfdp_pdus.specs.Codes.{eof_code, finished_code, ack_code, metadata_code, nak_code, prompt_code, keep_alive_code}
 use Rattle.cfdp_draw.specs.declared.kinds.Kind.{Kind}
 use Rattle.cfdp_draw.specs.declared.kinds.Kind.TheVariants.{Metadata, FileData, Eof, Nak, Ack, Finished, KeepAlive, Prompt, NoPdu, Timer, Cancel}
 use Rattle.cfdp_draw.specs.declared.kinds.Way.{Way}
@@ -16,13 +17,13 @@ use Rattle.cfdp_draw.specs.declared.kinds.Phase.TheVariants.{Held, Receiving, Aw
 
 abbrev pub kind_of_directive : ℕ → Kind
 kind_of_directive code =
-    if code == 4 then Eof
-    else if code == 5 then Finished
-    else if code == 6 then Ack
-    else if code == 7 then Metadata
-    else if code == 8 then Nak
-    else if code == 9 then Prompt
-    else if code == 12 then KeepAlive
+    if code == eof_code then Eof
+    else if code == finished_code then Finished
+    else if code == ack_code then Ack
+    else if code == metadata_code then Metadata
+    else if code == nak_code then Nak
+    else if code == prompt_code then Prompt
+    else if code == keep_alive_code then KeepAlive
     else NoPdu
 
 unfoldable pub kind_in_words : Kind → List ℕ

@@ -3,6 +3,8 @@
 ghost use Rattle.std.specs.Prelude.{◌≡◌};
 ghost use Rattle.cfdp_draw.specs.Kinds.{kind_of_directive, letter_of, outline_of, kind_in_words, phase_letter, phase_words, way_opening};
 
+use cfdp_pdus::directive;
+
 /// What a mark shows.
 #[derive(Clone, Copy, Debug, PartialEq, Eq)]
 pub enum Kind {
@@ -55,13 +57,13 @@ impl Kind {
         ensures { result ≡ kind_of_directive code }
     {
         match code {
-            4 => Kind::Eof,
-            5 => Kind::Finished,
-            6 => Kind::Ack,
-            7 => Kind::Metadata,
-            8 => Kind::Nak,
-            9 => Kind::Prompt,
-            12 => Kind::KeepAlive,
+            directive::EOF => Kind::Eof,
+            directive::FINISHED => Kind::Finished,
+            directive::ACK => Kind::Ack,
+            directive::METADATA => Kind::Metadata,
+            directive::NAK => Kind::Nak,
+            directive::PROMPT => Kind::Prompt,
+            directive::KEEP_ALIVE => Kind::KeepAlive,
             _ => Kind::NoPdu,
         }
     }

@@ -3,6 +3,7 @@
 //! acknowledged, and acknowledges each Finished PDU.
 ghost use Rattle.std.specs.Prelude.{◌≡◌, ◌<◌, ◌^◌, IfOk};
 ghost use Rattle.cfdp_pdus.specs.Canonical.{IsHeader};
+ghost use Rattle.cfdp_pdus.specs.Codes.{modular_checksum_type};
 
 use crate::fault::{Fault, Wrong};
 use crate::random::Random;
@@ -10,6 +11,8 @@ use cfdp_crc::{seal, unseal};
 use cfdp_directives::{
     Ack, Directive, Range, TransactionStatus, read_directive, read_nak, write_ack,
 };
+use cfdp_pdus::checksum_type::MODULAR_CHECKSUM;
+use cfdp_pdus::condition::NO_ERROR;
 use cfdp_pdus::{
     Eof, FileData, Header, Metadata, Pdu, directive, modular_checksum, read_pdu, read_start,
     write_eof, write_file_data, write_metadata,
@@ -121,7 +124,7 @@ impl Plan {
     /// The Metadata PDU's data field: the file is installed and appended to the log, which may be begun anew before
     /// that.
     fn metadata(&self, alloc: Global) -> Result<Metadata, AllocError>
-        ensures checksum_type { IfOk result (λ metadata. metadata.checksum_type ≡ 0) }
+        ensures checksum_type { IfOk result (λ metadata. metadata.checksum_type ≡ modular_checksum_type) }
         ensures size { IfOk result (λ metadata. metadata.size < 2 ^ 32) }
     {
         let mut requests = Vec::new(alloc);
@@ -132,7 +135,7 @@ impl Plan {
         requests.push(request(alloc, Action::AppendFile)?)?;
         Ok(Metadata {
             closure: true,
-            checksum_type: 0,
+            checksum_type: MODULAR_CHECKSUM,
             size: u64::from(self.size),
             source_name: Vec::from_slice(alloc, FILE)?,
             destination_name: Vec::from_slice(alloc, FILE)?,
@@ -259,7 +262,7 @@ impl Sender {
     /// Sends the EOF PDU.
     fn send_eof(&mut self, alloc: Global, now: u64, out: &mut Pdus) -> Result<(), Fault> {
         let eof = Eof {
-            condition: 0,
+            condition: NO_ERROR,
             checksum: modular_checksum(&self.file),
             size: u64::from(self.plan.size),
         };

@@ -6,6 +6,8 @@ use crate::random::Random;
 use crate::sender::{Pdus, Plan, Sender};
 use crate::station::{Context, Station};
 use crate::tally::{Tally, count};
+use cfdp_pdus::condition::NO_ERROR;
+use cfdp_pdus::file_status::RETAINED;
 use std::alloc::Global;
 
 /// How many transfers a receiver takes before the next one is made.
@@ -103,7 +105,7 @@ impl Transfers {
             .saturating_add(u64::from(seen.was_crowded));
         let is_well = seen
             .end
-            .is_some_and(|end| end.condition == 0 && end.file_status == 2);
+            .is_some_and(|end| end.condition == NO_ERROR && end.file_status == RETAINED);
         if rounds > most {
             Err(Fault::Wrong(Wrong::TooManyInAll))
         } else if !is_well {

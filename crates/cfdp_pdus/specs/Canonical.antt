@@ -18,6 +18,7 @@ use Rattle.cfdp_pdus.specs.declared.header.Header.{Header}
 use Rattle.cfdp_pdus.specs.declared.eof.Eof.{Eof}
 use Rattle.cfdp_pdus.specs.Values.{MetadataFields, FileDataFields, FinishedFields}
 use Rattle.cfdp_pdus.specs.Bits.{digit, fss}
+use Rattle.cfdp_pdus.specs.Codes.{no_error, eof_code, finished_code, metadata_code}
 
 -- ---- the header
 
@@ -58,7 +59,7 @@ request_field request = tlv 0 (request_octets request)
 
 unfoldable pub metadata_field : Bool → MetadataFields → List ℕ
 metadata_field large metadata =
-    7 ∷ (64 * digit metadata.closure + metadata.checksum_type)
+    metadata_code ∷ (64 * digit metadata.closure + metadata.checksum_type)
     ∷ (big_bytes (fss large) metadata.size ++ (lv metadata.source_name
     ++ (lv metadata.destination_name ++ flat_map request_field metadata.requests)))
 
@@ -98,11 +99,11 @@ location id_len entity = tlv 6 (big_bytes id_len entity)
 
 -- the source entity, where the condition is not 'no error'
 abbrev pub eof_location : Header → Eof → List ℕ
-eof_location header eof = if eof.condition == 0 then [] else location header.id_len header.source
+eof_location header eof = if eof.condition == no_error then [] else location header.id_len header.source
 
 unfoldable pub eof_field : Header → Eof → List ℕ
 eof_field header eof =
-    4 ∷ (16 * eof.condition) ∷ (big_bytes 4 eof.checksum
+    eof_code ∷ (16 * eof.condition) ∷ (big_bytes 4 eof.checksum
     ++ (big_bytes (fss header.large) eof.size ++ eof_location header eof))
 
 pub record IsSizedEof (large : Bool) (eof : Eof) : Type 0 where
@@ -120,7 +121,7 @@ fault_location id_len (Some entity) = location id_len entity
 
 unfoldable pub finished_field : Header → FinishedFields → List ℕ
 finished_field header finished =
-    5 ∷ (16 * finished.condition + 4 * digit finished.incomplete + finished.file_status)
+    finished_code ∷ (16 * finished.condition + 4 * digit finished.incomplete + finished.file_status)
     ∷ (flat_map response_field finished.responses ++ fault_location header.id_len finished.fault)
 
 pub record IsSizedFinished (header : Header) (finished : FinishedFields) : Type 0 where

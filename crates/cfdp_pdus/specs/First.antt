@@ -20,6 +20,7 @@ use Rattle.cfdp_pdus.specs.declared.pdu.Pdu.{Pdu}
 use Rattle.cfdp_pdus.specs.declared.pdu.Pdu.TheVariants as pdus
 use Rattle.cfdp_pdus.specs.Values.{MetadataFields, FileDataFields, FinishedFields}
 use Rattle.cfdp_pdus.specs.Bits.{flag, fss}
+use Rattle.cfdp_pdus.specs.Codes.{eof_code, finished_code, ack_code, metadata_code, nak_code, prompt_code, keep_alive_code}
 use Rattle.cfdp_tlv.specs.Reading.{◌>>=◌}
 use Rattle.cfdp_pdus.specs.Reading.{mend}
 use Rattle.cfdp_pdus.specs.Grammar.{Field}
@@ -185,13 +186,13 @@ start_at (first ∷ octets) =
 unfoldable pub directive_at : Header → List ℕ → Result Pdu PduFault
 directive_at header [] = Err LengthMismatch
 directive_at header (code ∷ octets) =
-    if code == 7 then (metadata_at header.large octets >>= λ metadata. Ok (pdus.Metadata header metadata))
-    else if code == 4 then (eof_at header.large octets >>= λ eof. Ok (pdus.Eof header eof))
-    else if code == 5 then (finished_at octets >>= λ finished. Ok (pdus.Finished header finished))
-    else if code == 6 then Ok (pdus.NotOurs header 6)
-    else if code == 8 then Ok (pdus.NotOurs header 8)
-    else if code == 9 then Ok (pdus.NotOurs header 9)
-    else if code == 12 then Ok (pdus.NotOurs header 12)
+    if code == metadata_code then (metadata_at header.large octets >>= λ metadata. Ok (pdus.Metadata header metadata))
+    else if code == eof_code then (eof_at header.large octets >>= λ eof. Ok (pdus.Eof header eof))
+    else if code == finished_code then (finished_at octets >>= λ finished. Ok (pdus.Finished header finished))
+    else if code == ack_code then Ok (pdus.NotOurs header ack_code)
+    else if code == nak_code then Ok (pdus.NotOurs header nak_code)
+    else if code == prompt_code then Ok (pdus.NotOurs header prompt_code)
+    else if code == keep_alive_code then Ok (pdus.NotOurs header keep_alive_code)
     else Err BadDirective
 
 unfoldable pub field_at : Start → Result Pdu PduFault

@@ -24,6 +24,7 @@ use Rattle.cfdp_pdus.specs.declared.pdu.Pdu.{Pdu}
 use Rattle.cfdp_pdus.specs.declared.pdu.Pdu.TheVariants as pdus
 use Rattle.cfdp_pdus.specs.Values.{MetadataFields, FileDataFields, FinishedFields}
 use Rattle.cfdp_pdus.specs.Bits.{flag, IsNumber, fss}
+use Rattle.cfdp_pdus.specs.Codes.{eof_code, finished_code, ack_code, metadata_code, nak_code, prompt_code, keep_alive_code}
 
 -- ---- TLV fields
 
@@ -129,7 +130,7 @@ pub record SpellsFinished (octets : List ℕ) (finished : FinishedFields) : Type
   pub fault : finished.fault ≡ last_entity (values_of 6 fields)
 
 abbrev pub IsOther : ℕ → Type 0
-IsOther code = (code ≡ 6) ⊎ (code ≡ 8) ⊎ (code ≡ 9) ⊎ (code ≡ 12)
+IsOther code = (code ≡ ack_code) ⊎ (code ≡ nak_code) ⊎ (code ≡ prompt_code) ⊎ (code ≡ keep_alive_code)
 
 -- ---- whole PDUs
 
@@ -142,10 +143,11 @@ header_of (pdus.NotOurs header code) = header
 
 -- after a directive code
 abbrev pub SpellsDirective : ℕ → List ℕ → Pdu → Type 0
-SpellsDirective code octets (pdus.Metadata header metadata) = (code ≡ 7) × SpellsMetadata header.large octets metadata
+SpellsDirective code octets (pdus.Metadata header metadata) =
+    (code ≡ metadata_code) × SpellsMetadata header.large octets metadata
 SpellsDirective code octets (pdus.FileData header file_data) = ⊥
-SpellsDirective code octets (pdus.Eof header eof) = (code ≡ 4) × SpellsEof header.large octets eof
-SpellsDirective code octets (pdus.Finished header finished) = (code ≡ 5) × SpellsFinished octets finished
+SpellsDirective code octets (pdus.Eof header eof) = (code ≡ eof_code) × SpellsEof header.large octets eof
+SpellsDirective code octets (pdus.Finished header finished) = (code ≡ finished_code) × SpellsFinished octets finished
 SpellsDirective code octets (pdus.NotOurs header other) = (code ≡ other) × IsOther code
 
 -- file data, with segment metadata or not, or a directive

@@ -1,5 +1,6 @@
 pub mod Values
 pub mod Bits
+pub mod Codes
 pub mod Reading
 pub mod Grammar
 pub mod First

@@ -8,6 +8,7 @@ ghost use Rattle.cfdp_pdus.specs.Canonical.{IsHeader, IsSizedEof, pdu_octets, eo
 ghost use Rattle.std.specs.Option.{ForSome};
 ghost use Rattle.cfdp_pdus.specs.declared.fault.WriteFault.TheVariants.{Memory};
 
+use crate::condition::NO_ERROR;
 use crate::directive::EOF;
 use crate::field::check_fields;
 use crate::number::{read_number, size_len};
@@ -49,7 +50,7 @@ fn fault_in(header: &Header, eof: &Eof) -> Option<u64>
     ensures location { fault_location header.now.id_len result ≡ eof_location header.now eof.now }
     ensures sized { ForSome result (λ entity. entity < 256 ^ header.now.id_len) }
 {
-    if eof.condition == 0 {
+    if eof.condition == NO_ERROR {
         return None;
     }
     Some(header.source)

@@ -27,7 +27,7 @@ pub struct Finished {
     pub condition: u8,
     /// The delivery code: data incomplete, and not complete.
     pub incomplete: bool,
-    /// The file status: 0 discarded on purpose, 1 rejected by the filestore, 2 retained, 3 unreported.
+    /// The file status, 0 to 3: one of [`crate::file_status`].
     pub file_status: u8,
     /// The filestore responses, in order.
     pub responses: Vec<FilestoreResponse>,

@@ -9,15 +9,19 @@
 //!
 //! What every PDU has in common is public too, for crates that read and write further PDUs: [`read_start`] reads a
 //! header, [`push_header`] appends one and [`put_header`] writes one into a buffer, [`read_number`], [`push_number`]
-//! and [`put_number`] do so with numbers, and [`directive`] has the directive codes.
+//! and [`put_number`] do so with numbers. [`checksum_type`], [`condition`], [`directive`] and [`file_status`] name the
+//! codes.
 #![tactic(auto)]
 
 mod buffer;
+pub mod checksum_type;
+pub mod condition;
 pub mod directive;
 mod eof;
 mod fault;
 mod field;
 mod file_data;
+pub mod file_status;
 mod finished;
 mod header;
 pub mod laws;

@@ -17,6 +17,7 @@ use Rattle.std.specs.List.{AllByRecursion}
 use Rattle.cfdp_status.specs.declared.transaction.TransactionId.{TransactionId}
 use Rattle.cfdp_leases.specs.Leases.{is_same}
 use Rattle.cfdp_pdus.specs.declared.eof.Eof.{Eof}
+use Rattle.cfdp_pdus.specs.Codes.{no_error, file_checksum_failure}
 use Rattle.cfdp_retransmission.specs.Coming.{Piece, AreAllKept, BringsMissing}
 use Rattle.cfdp_sessions.specs.Sessions.{SessionFields, session_id, AreDistinct}
 use Rattle.cfdp_sessions.specs.declared.session.Stage.TheVariants.{Known}
@@ -68,7 +69,7 @@ is_given_up mib id (Stage_due s true) = is_same (session_id s) id && not (is_ign
 is_given_up mib id due = false
 
 abbrev pub breaks_off : State → TransactionId → Input → Bool
-breaks_off R id (EofPdu now h eof) = is_same (id_of h) id && not (eof.condition == 0)
+breaks_off R id (EofPdu now h eof) = is_same (id_of h) id && not (eof.condition == no_error)
 breaks_off R id (CancelAsked now other) = is_same other id
 breaks_off R id (Expire now) = is_given_up R.mib id (first_due (later now R) R.sessions)
 breaks_off R id i = false
@@ -88,11 +89,11 @@ pieces_in R id (i ∷ is) = piece_in R id i ++ pieces_in (after_input R i) id is
 
 -- ---- what becomes of it
 
--- all octets are there, and its items are next;  condition 5: file checksum failure
+-- all octets are there, and its items are next; or they have another checksum
 pub record IsDelivered (W : World) (id : TransactionId) : Type 0 where
   pub entry : Entry
   pub here : entry_of W id ≡ Some entry
-  pub phase : (entry.phase ≡ Executing 0) ⊎ (entry.phase ≡ Ended 5)
+  pub phase : (entry.phase ≡ Executing 0) ⊎ (entry.phase ≡ Ended file_checksum_failure)
 
 pub record WasDelivered (R : State) (inputs : List Input) (id : TransactionId) : Type 0 where
   pub front : List Input

@@ -12,6 +12,7 @@ use Rattle.std.specs.Prelude.{◌≡◌, ⊤, ◌⊎◌, ℕ, ◌+◌, ◌<◌, 
 use Rattle.std.specs.List.{AllByRecursion, flat_map}
 use Rattle.cfdp_status.specs.declared.transaction.TransactionId.{TransactionId}
 use Rattle.cfdp_leases.specs.Leases.{is_same}
+use Rattle.cfdp_pdus.specs.Codes.{finished_code}
 use Rattle.cfdp_retransmission.specs.Coming.{one_if}
 use Rattle.cfdp_sessions.specs.Sessions.{SessionFields, session_id, AreDistinct}
 use Rattle.cfdp_sessions.specs.declared.session.Stage.TheVariants.{Waiting}
@@ -23,9 +24,8 @@ use Rattle.cfdp_receiver.specs.Turning.{after_input, after_all}
 use Rattle.cfdp_receiver.specs.Laws.{waits_in}
 use Rattle.cfdp_progress.specs.NakRounds.{IsServed}
 
--- directive code 5: Finished
 abbrev pub acknowledges : State → TransactionId → Input → Bool
-acknowledges R id (AckPdu now h ack) = is_ours R h && (is_same (id_of h) id && (ack.directive == 5))
+acknowledges R id (AckPdu now h ack) = is_ours R h && (is_same (id_of h) id && (ack.directive == finished_code))
 acknowledges R id i = false
 
 abbrev pub is_acknowledged : State → TransactionId → List Input → Bool

@@ -23,6 +23,7 @@ use Rattle.cfdp_status.specs.declared.transaction.TransactionId.{TransactionId}
 use Rattle.cfdp_leases.specs.Leases.{is_same}
 use Rattle.cfdp_pdus.specs.Values.{MetadataFields}
 use Rattle.cfdp_pdus.specs.declared.eof.Eof.{Eof}
+use Rattle.cfdp_pdus.specs.Codes.{no_error}
 use Rattle.cfdp_pdus.specs.declared.header.Header.{Header}
 use Rattle.cfdp_directives.specs.Reading.{NakFields}
 use Rattle.cfdp_retransmission.specs.Coming.{one_if}
@@ -57,7 +58,7 @@ pub record EofHolds (R : State) (id : TransactionId) (header : Header) (eof : Eo
   pub ours : is_ours R header ≡ true
   pub named : id_of header ≡ id
   pub mode : header.acknowledged ≡ true
-  pub no_error : eof.condition ≡ 0
+  pub no_error : eof.condition ≡ no_error
   pub none : session_of R id ≡ None
   pub not_closed : is_closed R id ≡ false
   pub not_full : is_full R ≡ false

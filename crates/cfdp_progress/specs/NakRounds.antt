@@ -21,6 +21,7 @@ use Rattle.std.specs.List.{AllByRecursion, flat_map}
 use Rattle.cfdp_status.specs.declared.transaction.TransactionId.{TransactionId}
 use Rattle.cfdp_leases.specs.Leases.{is_same}
 use Rattle.cfdp_pdus.specs.declared.eof.Eof.{Eof}
+use Rattle.cfdp_pdus.specs.Codes.{no_error}
 use Rattle.cfdp_pdus.specs.declared.header.Header.{Header}
 use Rattle.cfdp_directives.specs.Reading.{NakFields}
 use Rattle.cfdp_retransmission.specs.Naks.{SegmentRequest}
@@ -112,7 +113,7 @@ DeliveredAfterRounds =
 pub record EofOpens (R : State) (id : TransactionId) (header : Header) (eof : Eof) : Type 0 where
   pub ours : is_ours R header ≡ true
   pub named : id_of header ≡ id
-  pub no_error : eof.condition ≡ 0
+  pub no_error : eof.condition ≡ no_error
   pub session : SessionFields
   pub here : session_of R id ≡ Some session
   pub known : session.stage ≡ Known

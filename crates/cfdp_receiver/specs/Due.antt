@@ -8,6 +8,7 @@
 --     IsSet mib                 each interval is at least one tick
 --     fault_at, handler_at      the condition code of a stage's timer at its limit (§5.2.2), and what is done then
 use Rattle.std.specs.Prelude.{◌≡◌, ℕ, ◌+◌, ◌≤◌, Bool, true, false, ◌&&◌, if◌then◌else◌, nat_le, List, [], ◌∷◌, Option, Some, None}
+use Rattle.cfdp_pdus.specs.Codes.{positive_ack_limit_reached, nak_limit_reached, inactivity_detected, check_limit_reached}
 use Rattle.cfdp_retransmission.specs.declared.timer.Timer.{Timer}
 use Rattle.cfdp_retransmission.specs.declared.timer.Expiry.{Expiry}
 use Rattle.cfdp_retransmission.specs.declared.timer.Expiry.TheVariants.{NotDue, Again, Limit}
@@ -82,12 +83,11 @@ abbrev pub first_over : World → List SessionFields → Option SessionFields
 first_over W [] = None
 first_over W (s ∷ ss) = if is_over (at_of W s) then Some s else first_over W ss
 
--- 8 inactivity, 1 ACK limit, 10 check limit, 7 NAK limit
 abbrev pub fault_at : Bool → At → ℕ
-fault_at acknowledged At_receiving = 8
-fault_at acknowledged At_waiting = 1
-fault_at false (At_awaiting made) = 10
-fault_at acknowledged at = 7
+fault_at acknowledged At_receiving = inactivity_detected
+fault_at acknowledged At_waiting = positive_ack_limit_reached
+fault_at false (At_awaiting made) = check_limit_reached
+fault_at acknowledged at = nak_limit_reached
 
 abbrev pub handler_at : Mib → Bool → At → Handler
 handler_at mib acknowledged At_receiving = mib.inactivity.at_limit

@@ -7,6 +7,7 @@ use Rattle.std.specs.Prelude.{◌≡◌, ◌⊎◌, ⊤, ℕ, ◌==◌, if◌the
 use Rattle.cfdp_crc.specs.Seal.{unsealed}
 use Rattle.cfdp_crc.specs.declared.sealing.CrcFault.{CrcFault}
 use Rattle.cfdp_pdus.specs.First.{pdu_at}
+use Rattle.cfdp_pdus.specs.Codes.{nak_code}
 use Rattle.cfdp_pdus.specs.declared.header.Header.{Header}
 use Rattle.cfdp_pdus.specs.declared.pdu.Pdu.{Pdu}
 use Rattle.cfdp_pdus.specs.declared.pdu.Pdu.TheVariants as pdus
@@ -30,9 +31,9 @@ directive_input now (Ok (directives.Prompt h prompt)) = Ok (PromptPdu now h prom
 directive_input now (Ok (directives.KeepAlive h keep_alive)) = Ok (OtherPdu now h)
 directive_input now (Err fault) = Err (dropped.Pdu fault)
 
--- those of code 8, NAK, and of the codes 6, 9 and 12: ACK, Prompt and Keep Alive
+-- a NAK PDU, or an ACK, Prompt or Keep Alive PDU
 abbrev pub other_input : ℕ → Header → ℕ → List ℕ → Result Input Dropped
-other_input now h code octets = if code == 8 then nak_input now h (nak_at octets)
+other_input now h code octets = if code == nak_code then nak_input now h (nak_at octets)
     else directive_input now (directive_spelled octets)
 
 abbrev pub pdu_input : ℕ → List ℕ → Result Pdu PduFault → Result Input Dropped

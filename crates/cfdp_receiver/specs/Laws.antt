@@ -54,6 +54,7 @@ use Rattle.cfdp_retransmission.specs.declared.timer.Expiry.TheVariants.{NotDue, 
 use Rattle.cfdp_pdus.specs.Values.{MetadataFields}
 use Rattle.cfdp_pdus.specs.declared.header.Header.{Header}
 use Rattle.cfdp_pdus.specs.declared.eof.Eof.{Eof}
+use Rattle.cfdp_pdus.specs.Codes.{no_error, file_checksum_failure, finished_code}
 use Rattle.cfdp_sessions.specs.Sessions.{SessionFields, session_id, AreDistinct}
 use Rattle.cfdp_sessions.specs.declared.session.Ending.{Ending}
 use Rattle.cfdp_sessions.specs.declared.session.Stage.{Stage}
@@ -94,7 +95,7 @@ FewPdus = (R : State) (i : Input) → (length (parts R i).answer.acks ≤ 1)
 pub record FindsNoRoom (R : State) (h : Header) (eof : Eof) : Type 0 where
   pub none : session_of R (id_of h) ≡ None
   pub unclosed : is_closed R (id_of h) ≡ false
-  pub faultless : eof.condition ≡ 0
+  pub faultless : eof.condition ≡ no_error
   pub full : is_full R ≡ true
 
 -- or it finds no room, and is not taken
@@ -365,7 +366,7 @@ AnsweredIsDelivered =
     AllByRecursion (λ p. p.0 + length p.1 ≤ min (bound W.config e.metadata) eof.size) ps → AreAllKept e.received ps →
     BringsMissing eof.size e.received ps →
     (now : Entry) × (entry_of (run W (piece_events h ps)) (id_of h) ≡ Some now)
-    × ((now.phase ≡ Executing 0) ⊎ (now.phase ≡ Ended 5))
+    × ((now.phase ≡ Executing 0) ⊎ (now.phase ≡ Ended file_checksum_failure))
 
 abbrev pub SessionsAreDistinct : Type 0
 SessionsAreDistinct = (mib : Mib) (W : World) (inputs : List Input) → AreDistinct
@@ -421,11 +422,11 @@ abbrev pub sent_closed : State → List Input → TransactionId → ℕ
 sent_closed R [] id = 0
 sent_closed R (i ∷ is) id = if is_closed R id then sent_for R i id + sent_closed (after_input R i) is id else 0
 
--- the ACK PDU of a Finished PDU has directive code 5
+-- the ACK PDU of a Finished PDU
 abbrev pub NoneAfterAck : Type 0
 NoneAfterAck =
     (R : State) (now : ℕ) (h : Header) (ack : Ack) (s : SessionFields) (inputs : List Input) → AreDistinct R.sessions →
-    is_ours R h ≡ true → ack.directive ≡ 5 →
+    is_ours R h ≡ true → ack.directive ≡ finished_code →
     session_of R (id_of h) ≡ Some s → s.stage ≡ Waiting →
     (session_of (after_input R (AckPdu now h ack)) (id_of h) ≡ None)
     × (is_closed (after_input R (AckPdu now h ack)) (id_of h) ≡ true)

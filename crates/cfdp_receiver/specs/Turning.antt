@@ -15,6 +15,7 @@ use Rattle.cfdp_status.specs.declared.transaction.TransactionId.{TransactionId}
 use Rattle.cfdp_pdus.specs.Values.{MetadataFields, FileDataFields, FinishedFields}
 use Rattle.cfdp_pdus.specs.declared.header.Header.{Header}
 use Rattle.cfdp_pdus.specs.declared.eof.Eof.{Eof}
+use Rattle.cfdp_pdus.specs.Codes.{no_error, filestore_rejection, cancel_request_received, eof_code, finished_code, file_unreported}
 use Rattle.cfdp_directives.specs.Reading.{NakFields}
 use Rattle.cfdp_directives.specs.declared.ack.Ack.{Ack}
 use Rattle.cfdp_directives.specs.declared.ack.TransactionStatus.{TransactionStatus}
@@ -169,9 +170,10 @@ begun_session R h stage =
       finished = [];
     }
 
--- of a list with too many requests the core keeps no entry (§5.2.2: 4, filestore rejection)
+-- of a list with too many requests the core keeps no entry
 abbrev pub stage_in : Option Entry → Bool → ℕ → Stage
-stage_in None is_sent at_fault = Over (record { condition = 4; is_sent = is_sent; at_fault = at_fault })
+stage_in None is_sent at_fault = Over
+    (record { condition = filestore_rejection; is_sent = is_sent; at_fault = at_fault })
 stage_in (Some e) is_sent at_fault = Known
 
 abbrev pub described : TransactionId → MetadataFields → Indication
@@ -258,11 +260,11 @@ data_parts R V replies h piece (Some s) = if is_known s.stage then takes_piece R
 
 -- ---- EOF
 
--- an EOF PDU of directive code 4, in acknowledged mode
+-- an EOF PDU in acknowledged mode
 abbrev pub acked : Header → ℕ → TransactionStatus → List (Header × Ack)
 acked h condition status = if h.acknowledged then (
   turned_header h,
-  record { directive = 4; condition = condition; status = status },
+  record { directive = eof_code; condition = condition; status = status },
 ) ∷ [] else []
 
 -- it is acknowledged, and no more
@@ -278,13 +280,13 @@ ended_by h eof s = record s { stage = Over (record { condition = eof.condition; 
 
 abbrev pub eof_stage : State → World → List Reply → Header → Eof → SessionFields → Stage → Parts
 eof_stage R V replies h eof s (Held kept) =
-    if eof.condition == 0 then keeps R (acks_only h eof Active words.Duplicate)
+    if eof.condition == no_error then keeps R (acks_only h eof Active words.Duplicate)
     else replaces_one R (ended_by h eof s) (acks_only h eof Active words.Faulted)
 eof_stage R V replies h eof s Known =
     replaces_one R (heard_session R V s) (record (quiet (became_reply (id_of h) replies)) {
       acks = acked h eof.condition Active;
-      naks = if left_receiving R V s && (eof.condition == 0) then asks_where_awaiting R.mib V s else [];
-      indications = if left_receiving R V s && (eof.condition == 0) then tells.EofRecv (id_of h) ∷ [] else [];
+      naks = if left_receiving R V s && (eof.condition == no_error) then asks_where_awaiting R.mib V s else [];
+      indications = if left_receiving R V s && (eof.condition == no_error) then tells.EofRecv (id_of h) ∷ [] else [];
     })
 eof_stage R V replies h eof s stage = keeps R (acks_only h eof Active words.Idle)
 
@@ -298,7 +300,7 @@ held_first R h eof = adds R (begun_session R h (Held eof)) (record (said_of_head
 
 abbrev pub eof_parts : State → World → List Reply → Header → Eof → Option SessionFields → Parts
 eof_parts R V replies h eof None =
-    if is_closed R (id_of h) || not (eof.condition == 0) || not h.acknowledged
+    if is_closed R (id_of h) || not (eof.condition == no_error) || not h.acknowledged
     then keeps R (acks_only h eof (status_of R (id_of h)) (word_without_session R (id_of h)))
     else if is_full R then keeps R (said_of_header h words.TableFull)
     else held_first R h eof
@@ -307,7 +309,8 @@ eof_parts R V replies h eof (Some s) = eof_stage R V replies h eof s s.stage
 -- ---- ACK and Prompt
 
 abbrev pub ack_stage : State → Header → Ack → SessionFields → Stage → Parts
-ack_stage R h ack s Waiting = if ack.directive == 5 then closes R (session_id s) (said_of_header h words.Acknowledged)
+ack_stage R h ack s Waiting =
+    if ack.directive == finished_code then closes R (session_id s) (said_of_header h words.Acknowledged)
     else keeps R (said_of_header h words.Idle)
 ack_stage R h ack s stage = keeps R (said_of_header h words.Idle)
 
@@ -407,7 +410,7 @@ abbrev pub ending_finished : Ending → FinishedFields
 ending_finished e = record {
   condition = e.condition;
   incomplete = true;
-  file_status = 3;
+  file_status = file_unreported;
   responses = [];
   fault = Some e.at_fault;
 }
@@ -422,7 +425,7 @@ stage_outcome s stage =
     record {
       header = turned_header s.header;
       finished = ending_finished
-          (record { condition = 15; is_sent = false; at_fault = s.header.destination });
+          (record { condition = cancel_request_received; is_sent = false; at_fault = s.header.destination });
       send = false;
     }
 
@@ -460,10 +463,11 @@ abbrev pub finish_parts : State → Option SessionFields → Parts
 finish_parts R None = keeps R (quiet Nothing)
 finish_parts R (Some s) = finish_session R s (outcome_for s (entry_of R.world (session_id s)))
 
--- ---- the user's request to cancel (condition code 15)
+-- ---- the user's request to cancel
 
 abbrev pub cancel_stage : State → List Reply → SessionFields → Stage → Parts
-cancel_stage R replies s (Held eof) = replaces_one R (over_here R s 15) (said_word s words.Cancelled)
+cancel_stage R replies s (Held eof) =
+    replaces_one R (over_here R s cancel_request_received) (said_word s words.Cancelled)
 cancel_stage R replies s Known = keeps R (quiet (became_reply (session_id s) replies))
 cancel_stage R replies s stage = keeps R (said_word s words.Idle)
 

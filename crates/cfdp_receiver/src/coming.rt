@@ -24,6 +24,7 @@ use crate::answering::{Answer, NakSequence, Unsent, turned};
 use crate::machine::Machine;
 use crate::{At, Became, Described, Indication, Word};
 use cfdp_directives::{Ack, Prompt, TransactionStatus};
+use cfdp_pdus::condition::{FILESTORE_REJECTION, NO_ERROR};
 use cfdp_pdus::{Eof, Header, Metadata, Piece, directive};
 use cfdp_retransmission::Timer;
 use cfdp_sessions::{Ending, Session, Stage};
@@ -164,7 +165,7 @@ impl Machine {
         match self.entity.core().phase(id) {
             Some(_) => Stage::Known,
             None => Stage::Over(Ending {
-                condition: 4,
+                condition: FILESTORE_REJECTION,
                 is_sent,
                 at_fault,
             }),
@@ -443,7 +444,7 @@ impl Machine {
         let active = TransactionStatus::Active;
         match self.session(index).stage {
             Stage::Known => self.takes_eof(index, header, eof),
-            Stage::Held(_) if eof.condition == 0 => {
+            Stage::Held(_) if eof.condition == NO_ERROR => {
                 acks_only(header, eof, active, Word::Duplicate)
             }
             Stage::Held(_) => {
@@ -475,7 +476,7 @@ impl Machine {
         let has_left = was_receiving && self.at(self.session(index)) != At::Receiving;
         let ack = acked(header, eof.condition, TransactionStatus::Active);
         let answer = Answer::replied(id, reply).with_ack(ack);
-        if !has_left || eof.condition != 0 {
+        if !has_left || eof.condition != NO_ERROR {
             self.hear(index, before);
             return answer;
         }
@@ -495,7 +496,7 @@ impl Machine {
         ensures { Turns self.old self.new result (EofPdu self.old.state.now header.now eof) }
     {
         let id = transaction_of(header);
-        if self.closed.remembers(id) || eof.condition != 0 || !header.acknowledged {
+        if self.closed.remembers(id) || eof.condition != NO_ERROR || !header.acknowledged {
             return acks_only(header, eof, self.past_status(id), self.absent(id));
         }
         if self.sessions.is_full() {

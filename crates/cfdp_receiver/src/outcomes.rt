@@ -16,6 +16,8 @@ use crate::concluded::Concluded;
 use crate::machine::Machine;
 use crate::{At, Conclusion, Indication, Word};
 use cfdp_pdus::Finished;
+use cfdp_pdus::condition::CANCEL_REQUEST_RECEIVED;
+use cfdp_pdus::file_status::UNREPORTED;
 use cfdp_retransmission::Timer;
 use cfdp_sessions::{Ending, Session, Stage};
 use cfdp_status::TransactionId;
@@ -33,7 +35,7 @@ fn outcome_of_ending(alloc: Global, session: &Session, ending: Ending) -> Outcom
         finished: Finished {
             condition: ending.condition,
             incomplete: true,
-            file_status: 3,
+            file_status: UNREPORTED,
             responses: Vec::new(alloc),
             fault: Some(ending.at_fault),
         },
@@ -201,7 +203,7 @@ impl Machine {
                 Answer::replied(id, reply)
             }
             Stage::Held(_) => {
-                self.ends_here(index, 15);
+                self.ends_here(index, CANCEL_REQUEST_RECEIVED);
                 Answer::said(id, Word::Cancelled)
             }
             Stage::Over(_) | Stage::Waiting => Answer::said(id, Word::Idle),

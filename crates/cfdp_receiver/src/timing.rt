@@ -16,6 +16,9 @@ ghost use Rattle.cfdp_receiver.specs.Turning.{over_here};
 use crate::answering::{Answer, turned};
 use crate::machine::Machine;
 use crate::{At, Handler, Indication, Word};
+use cfdp_pdus::condition::{
+    CHECK_LIMIT_REACHED, INACTIVITY_DETECTED, NAK_LIMIT_REACHED, POSITIVE_ACK_LIMIT_REACHED,
+};
 use cfdp_retransmission::{Expiry, Timer};
 use cfdp_sessions::{Ending, Session, Stage};
 
@@ -253,10 +256,10 @@ impl Machine {
         ensures handler { result.1 ≡ handler_at self.now.state.mib acknowledged at }
     {
         match at {
-            At::Receiving => (8, self.mib.inactivity.at_limit),
-            At::Waiting => (1, self.mib.ack.at_limit),
-            At::Awaiting(_) if !acknowledged => (10, self.mib.check.at_limit),
-            _ => (7, self.mib.nak.at_limit),
+            At::Receiving => (INACTIVITY_DETECTED, self.mib.inactivity.at_limit),
+            At::Waiting => (POSITIVE_ACK_LIMIT_REACHED, self.mib.ack.at_limit),
+            At::Awaiting(_) if !acknowledged => (CHECK_LIMIT_REACHED, self.mib.check.at_limit),
+            _ => (NAK_LIMIT_REACHED, self.mib.nak.at_limit),
         }
     }
 

@@ -3,6 +3,8 @@
 use crate::random::Random;
 use cfdp_actions::{Filestore, Kind, ListStore, Request, refusal};
 use cfdp_paths::{Memory, Path};
+use cfdp_pdus::checksum_type::{MODULAR_CHECKSUM, NULL_CHECKSUM};
+use cfdp_pdus::condition::{CANCEL_REQUEST_RECEIVED, NO_ERROR};
 use cfdp_pdus::{Eof, FileData, Header, Metadata, modular_checksum};
 use cfdp_status::{Action, TransactionId};
 use cfdp_tlv::FilestoreRequest;
@@ -210,7 +212,11 @@ impl Random {
         };
         let metadata = Metadata {
             closure: true,
-            checksum_type: if self.is_one_in(16) { 15 } else { 0 },
+            checksum_type: if self.is_one_in(16) {
+                NULL_CHECKSUM
+            } else {
+                MODULAR_CHECKSUM
+            },
             size: if self.is_one_in(8) {
                 0
             } else {
@@ -235,7 +241,11 @@ impl Random {
         let size = files.size(number);
         let checksum = modular_checksum(&files.octets(alloc, number, 0, size)?);
         let eof = Eof {
-            condition: if self.is_one_in(16) { 15 } else { 0 },
+            condition: if self.is_one_in(16) {
+                CANCEL_REQUEST_RECEIVED
+            } else {
+                NO_ERROR
+            },
             checksum: if self.is_one_in(16) { 0 } else { checksum },
             size,
         };

@@ -15,6 +15,7 @@ use crate::words::Words;
 use cfdp_actions::ListStore;
 use cfdp_directives::{Ack, Prompt, TransactionStatus, write_ack, write_prompt};
 use cfdp_entity::Entity;
+use cfdp_pdus::condition::NO_ERROR;
 use cfdp_pdus::{
     Eof, FileData, Header, Metadata, directive, write_eof, write_file_data, write_metadata,
 };
@@ -171,7 +172,7 @@ fn directive_octets(
         Directed::Acknowledgement => {
             let ack = Ack {
                 directive: directive::FINISHED,
-                condition: 0,
+                condition: NO_ERROR,
                 status: TransactionStatus::Terminated,
             };
             write_ack(&toward_us, ack, &mut octets)?;

@@ -7,6 +7,7 @@ use Rattle.cfdp_actions.specs.Actions.{Item}
 use Rattle.cfdp_transactions.specs.Config.{Config}
 use Rattle.cfdp_pdus.specs.Values.{MetadataFields}
 use Rattle.cfdp_pdus.specs.declared.header.Header.{Header}
+use Rattle.cfdp_pdus.specs.Codes.{unsupported_checksum_type, modular_checksum_type, null_checksum_type}
 use Rattle.cfdp_verifier.specs.declared.refusal.Refusal.TheVariants.{TooManyRequests}
 use Rattle.cfdp_verifier.specs.Verdict.{Proposal, Verdict, Refuse, Grant, verdict}
 use Rattle.cfdp_transactions.specs.Entry.{Phase, Receiving, Refused, Ended, Entry, has_file}
@@ -55,15 +56,14 @@ judged W h m (Grant items blocks steps) = (
 
 -- the modular checksum, and the null checksum
 abbrev pub is_known_checksum : ℕ → Bool
-is_known_checksum type = (type == 0) || (type == 15)
+is_known_checksum type = (type == modular_checksum_type) || (type == null_checksum_type)
 
--- condition 11: unsupported checksum type
 abbrev pub metadata_came : World → Header → MetadataFields → Option Entry → World × Reply
 metadata_came W h m (Some e) = (W, Reply.Duplicate)
 metadata_came W h m None =
     if nat_le 64 (length W.table) then (W, Reply.TableFull)
     else if nat_lt 64 (length m.requests) then (W, Reply.Refused TooManyRequests)
     else if has_file m && not (is_known_checksum m.checksum_type)
-    then (with_new W (refused_entry h m (Ended 11)), Reply.Faulted 11)
+    then (with_new W (refused_entry h m (Ended unsupported_checksum_type)), Reply.Faulted unsupported_checksum_type)
     else judged W h m (verdict W.config.prefixes W.filestore (leases_of W.table) (spare_blocks W)
     (proposal_of W.config m))

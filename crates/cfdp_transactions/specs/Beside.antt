@@ -10,6 +10,7 @@
 --     FirstIsInstalled          just these events have that reply
 use Rattle.std.specs.Prelude.{◌≡◌, Bool, true, false, ◌&&◌, ◌==◌, if◌then◌else◌, IsFalse, List, Option, Some, None}
 use Rattle.cfdp_leases.specs.Laws.{KeysArePaths}
+use Rattle.cfdp_pdus.specs.Codes.{file_retained, file_unreported}
 use Rattle.cfdp_transactions.specs.Config.{Config}
 use Rattle.cfdp_transactions.specs.Entry.{Phase, Executing, Done, Entry, has_file}
 use Rattle.cfdp_transactions.specs.Events.{Event, Step, Reply}
@@ -32,10 +33,10 @@ OnlyStepsChange = (W : World) (event : Event) → IsFalse (is_step event) → (n
 abbrev pub EachKeyIsAPath : Type 0
 EachKeyIsAPath = (c : Config) (events : List Event) → KeysArePaths (run (start c) events).filestore
 
--- the install was performed exactly where there is a file;  file status 2: retained;  3: unreported, as there is none
+-- the install was performed exactly where there is a file, which is retained
 pub record HasItsFile (e : Entry) : Type 0 where
   pub installed : e.installed ≡ has_file e.metadata
-  pub file_status : (finished e).file_status ≡ (if has_file e.metadata then 2 else 3)
+  pub file_status : (finished e).file_status ≡ (if has_file e.metadata then file_retained else file_unreported)
 
 -- in each world of each run
 abbrev pub DoneIsInstalled : Type 0

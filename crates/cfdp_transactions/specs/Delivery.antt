@@ -17,6 +17,7 @@ use Rattle.cfdp_transactions.specs.Config.{Config}
 use Rattle.cfdp_checksum.specs.Checksum.{checksum}
 use Rattle.cfdp_pdus.specs.Values.{FileDataFields}
 use Rattle.cfdp_pdus.specs.declared.eof.Eof.{Eof}
+use Rattle.cfdp_pdus.specs.Codes.{no_error, file_checksum_failure, file_size_error, check_limit_reached, null_checksum_type}
 use Rattle.cfdp_transactions.specs.Received.{Received, kept_with, staged_of, pieces, is_whole}
 use Rattle.cfdp_transactions.specs.Entry.{Phase, Awaiting, Executing, Done, is_live, is_receiving, takes_data, Entry, has_file, spend, awaited}
 use Rattle.cfdp_transactions.specs.Events.{Reply}
@@ -29,15 +30,14 @@ turned e phase eof complete = record e { phase = phase; eof = eof; complete = co
 abbrev pub turns : World → ℕ → Entry → Phase → Option Eof → Bool → World
 turns W k e phase eof complete = change_at W k [] (turned e phase eof complete)
 
--- type 15 is the null checksum, which is not looked at
+-- the null checksum is not looked at
 abbrev pub is_right_checksum : Entry → ℕ → Bool
-is_right_checksum e sum = (e.metadata.checksum_type == 15) || (checksum (staged_of e.received) == sum)
+is_right_checksum e sum = (e.metadata.checksum_type == null_checksum_type) || (checksum (staged_of e.received) == sum)
 
--- condition 5: file checksum failure
 abbrev pub whole : World → ℕ → Entry → ℕ → World × Reply
 whole W k e sum =
     if is_right_checksum e sum then (turns W k e (Executing 0) e.eof true, Reply.Complete)
-    else (ends W k e 5, Reply.Faulted 5)
+    else (ends W k e file_checksum_failure, Reply.Faulted file_checksum_failure)
 
 -- file data ----------------------------------------------------------------------
 
@@ -64,12 +64,12 @@ abbrev pub stored : Phase → World → ℕ → Entry → World × Reply
 stored (Awaiting checks) W k e = after_eof e.eof W k e
 stored phase W k e = (W, Reply.Stored)
 
--- condition 6: file size error
 abbrev pub data_at : World → ℕ → Entry → FileDataFields → World × Reply
 data_at W k e piece =
     let received = kept_with e.received piece.offset piece.octets in
     if length piece.octets == 0 then (W, Reply.Stored)
-    else if nat_lt (limit e.phase W.config e) (piece.offset + length piece.octets) then (ends W k e 6, Reply.Faulted 6)
+    else if nat_lt (limit e.phase W.config e) (piece.offset + length piece.octets)
+    then (ends W k e file_size_error, Reply.Faulted file_size_error)
     else if nat_lt 32 (pieces received) then (W, Reply.Dropped)
     else stored e.phase (stores W k e received) k (storing W.filestore e received)
 
@@ -79,13 +79,13 @@ data_came W k piece (Some e) = if takes_data e.phase then data_at W k e piece el
 
 -- the EOF ------------------------------------------------------------------------
 
--- of an entry in Receiving, with condition 0, no error
+-- of an entry in Receiving
 abbrev pub eof_without_error : World → ℕ → Entry → Eof → World × Reply
 eof_without_error W k e eof =
     if length e.items == 0 then (turns W k e Done e.eof true, Reply.Done)
     else if not (has_file e.metadata) then (turns W k e (Executing 0) e.eof true, Reply.Complete)
     else if nat_lt (bound W.config e.metadata) eof.size || nat_lt eof.size (length e.received)
-    then (ends W k e 6, Reply.Faulted 6)
+    then (ends W k e file_size_error, Reply.Faulted file_size_error)
     else if not (is_whole eof.size e.received) then (turns W k e (Awaiting 0) (Some eof) e.complete, Reply.Waiting)
     else whole W k e eof.checksum
 
@@ -93,7 +93,7 @@ abbrev pub eof_came : World → ℕ → Eof → Option Entry → World × Reply
 eof_came W k eof None = (W, Reply.Unknown)
 eof_came W k eof (Some e) =
     if not (is_live e.phase) then (W, Reply.Idle)
-    else if not (eof.condition == 0) then (
+    else if not (eof.condition == no_error) then (
       ends W k (record e { ended_by_eof = true }) eof.condition,
       Reply.Faulted eof.condition,
     )
@@ -102,10 +102,9 @@ eof_came W k eof (Some e) =
 
 -- checks -------------------------------------------------------------------------
 
--- condition 10: check limit reached
 abbrev pub check_at : Phase → World → ℕ → Entry → World × Reply
 check_at (Awaiting checks) W k e =
-    if nat_le W.config.checks (checks + 1) then (ends W k e 10, Reply.Faulted 10)
+    if nat_le W.config.checks (checks + 1) then (ends W k e check_limit_reached, Reply.Faulted check_limit_reached)
     else (turns W k e (Awaiting (checks + 1)) e.eof e.complete, Reply.Waiting)
 check_at phase W k e = (W, Reply.Idle)
 

@@ -4,6 +4,7 @@
 --     cancelled, taken_out      a request to cancel;  a request for the outcome, with which the entry goes
 use Rattle.std.specs.Prelude.{ℕ, if◌then◌else◌, [], ◌∷◌, length, Option, Some, None, remove}
 use Rattle.cfdp_actions.specs.Filestore.{Filestore, staged_in, blocks_of, Stages}
+use Rattle.cfdp_pdus.specs.Codes.{cancel_request_received}
 use Rattle.cfdp_transactions.specs.Entry.{Ended, is_live, Entry, spend}
 use Rattle.cfdp_transactions.specs.Events.{Reply}
 use Rattle.cfdp_transactions.specs.Outcome.{outcome_of}
@@ -21,7 +22,8 @@ ends W k e condition = change_at W k (Stages e.slot [] ∷ []) (ended W.filestor
 
 abbrev pub cancelled : World → ℕ → Option Entry → World × Reply
 cancelled W k None = (W, Reply.Unknown)
-cancelled W k (Some e) = if is_live e.phase then (ends W k e 15, Reply.Cancelled) else (W, Reply.Idle)
+cancelled W k (Some e) =
+    if is_live e.phase then (ends W k e cancel_request_received, Reply.Cancelled) else (W, Reply.Idle)
 
 abbrev pub taken_out : World → ℕ → Option Entry → World × Reply
 taken_out W k None = (W, Reply.Unknown)

@@ -6,6 +6,7 @@
 use Rattle.std.specs.Prelude.{ℕ, suc, ◌+◌, ◌||◌, Bool, true, false, if◌then◌else◌, List, [], ◌∷◌, ◌++◌, drop, Option, Some, None}
 use Rattle.cfdp_status.specs.declared.status.Status.{Status}
 use Rattle.cfdp_actions.specs.Actions.{Item, Install, Perform, Answer, succeeded, Outcome, ticks, act_item}
+use Rattle.cfdp_pdus.specs.Codes.{filestore_rejection}
 use Rattle.cfdp_transactions.specs.Entry.{Phase, Executing, Done, Entry, spend}
 use Rattle.cfdp_transactions.specs.Events.{Reply}
 use Rattle.cfdp_transactions.specs.World.{World, free, change_at}
@@ -15,11 +16,10 @@ abbrev pub is_install : Item → Bool
 is_install (Install p) = true
 is_install (Perform request) = false
 
--- condition 4: filestore rejection
 abbrev pub replied : Answer → Reply
 replied (Answer.Performed status) = Reply.Performed status
 replied Answer.Installed = Reply.Installed
-replied Answer.NotInstalled = Reply.Faulted 4
+replied Answer.NotInstalled = Reply.Faulted filestore_rejection
 
 -- the install has no status of its own
 abbrev pub noted : List Status → Answer → List Status
@@ -49,7 +49,7 @@ entry_failed e o = record e { statuses = noted e.statuses o.answer; steps_spent 
 abbrev pub step_with : World → ℕ → Entry → ℕ → Item → List Item → Outcome → World × Reply
 step_with W k e next item items o =
     if succeeded o.answer then (change_at W k o.changes (entry_after e next item items o), replied o.answer)
-    else (ends W k (entry_failed e o) 4, replied o.answer)
+    else (ends W k (entry_failed e o) filestore_rejection, replied o.answer)
 
 -- an item, on the filestore and the free blocks of the moment
 abbrev pub act_now : World → Entry → Item → Outcome

@@ -1,6 +1,6 @@
 -- The outcome of a transaction, as its Finished PDU reports it (CCSDS 727.0-B-5 §5.2.3, filestore responses §5.4.2).
---     condition_of              the condition code: 4, filestore rejection, for a list that was refused
---     file_status_of            3 unreported (no file), 2 retained, 1 rejected by the filestore, 0 discarded
+--     condition_of              the condition code: filestore rejection for a list that was refused
+--     file_status_of            the file status: unreported where there is no file
 --     responses_of              one response for each request, in order
 --     fault_location_of         the fault location: who is at fault
 --     finished, outcome_of
@@ -9,13 +9,14 @@ use Rattle.cfdp_status.specs.declared.status.Status.{Status}
 use Rattle.cfdp_status.specs.declared.status.Status.TheVariants.{NotPerformed}
 use Rattle.cfdp_tlv.specs.Values.{RequestFields, ResponseFields}
 use Rattle.cfdp_pdus.specs.Values.{FinishedFields}
+use Rattle.cfdp_pdus.specs.Codes.{no_error, filestore_rejection, unsupported_checksum_type, file_discarded, file_rejected, file_retained, file_unreported}
 use Rattle.cfdp_transactions.specs.Entry.{Phase, Refused, Ended, Entry, has_file}
 use Rattle.cfdp_transactions.specs.Events.{Outcome}
 
 abbrev pub condition_of : Phase → ℕ
-condition_of Refused = 4
+condition_of Refused = filestore_rejection
 condition_of (Ended condition) = condition
-condition_of phase = 0
+condition_of phase = no_error
 
 abbrev pub is_refused : Phase → Bool
 is_refused Refused = true
@@ -23,10 +24,10 @@ is_refused phase = false
 
 abbrev pub file_status_of : Entry → ℕ
 file_status_of e =
-    if not (has_file e.metadata) then 3
-    else if e.installed then 2
-    else if is_refused e.phase then 1
-    else 0
+    if not (has_file e.metadata) then file_unreported
+    else if e.installed then file_retained
+    else if is_refused e.phase then file_rejected
+    else file_discarded
 
 -- the names as they were spelled, and no message
 abbrev pub answered : RequestFields → Status → ResponseFields
@@ -41,7 +42,7 @@ responses_of (r ∷ rs) (s ∷ ss) = answered r s ∷ responses_of rs ss
 -- nobody, where the condition is 'no error' or 'unsupported checksum type'
 abbrev pub fault_location_of : Entry → Option ℕ
 fault_location_of e =
-    if (condition_of e.phase == 0) || (condition_of e.phase == 11) then None
+    if (condition_of e.phase == no_error) || (condition_of e.phase == unsupported_checksum_type) then None
     else if e.ended_by_eof then Some e.header.source
     else Some e.header.destination
 

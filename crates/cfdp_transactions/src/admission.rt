@@ -15,21 +15,16 @@ ghost use Rattle.cfdp_transactions.specs.code.Books.{Carries, IsBooked, world_of
 ghost use Rattle.cfdp_transactions.specs.code.TableEntries.{kept_place};
 
 use crate::books::Books;
-use crate::conditions::UNSUPPORTED_CHECKSUM_TYPE;
 use crate::entry::Entry;
 use crate::{Config, Phase, Reply};
 use cfdp_actions::Filestore;
 use cfdp_paths::Memory;
+use cfdp_pdus::checksum_type::{MODULAR_CHECKSUM, NULL_CHECKSUM};
+use cfdp_pdus::condition::UNSUPPORTED_CHECKSUM_TYPE;
 use cfdp_pdus::{Header, Metadata};
 use cfdp_quota::{Quota, SLOTS};
 use cfdp_verifier::{Grant, Proposal, Verdict, verify};
 use std::alloc::Global;
-
-/// The modular checksum (checksum procedures).
-const MODULAR_CHECKSUM: u8 = 0;
-
-/// The null checksum, which is not looked at (checksum procedures).
-pub(crate) const NULL_CHECKSUM: u8 = 15;
 
 /// What becomes of Metadata whose transaction may begin.
 #[derive(Drop)]

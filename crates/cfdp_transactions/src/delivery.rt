@@ -3,6 +3,7 @@
 ghost use Rattle.std.specs.Prelude.{◌≡◌, ◌<◌, ◌==◌, ◌||◌, nat_lt, Some, length, slice_get};
 ghost use Rattle.cfdp_actions.specs.Filestore.{staged_in};
 ghost use Rattle.cfdp_checksum.specs.Checksum.{checksum};
+ghost use Rattle.cfdp_pdus.specs.Codes.{null_checksum_type};
 ghost use Rattle.cfdp_transactions.specs.Entry.{Entry as Transaction};
 ghost use Rattle.cfdp_transactions.specs.World.{bound};
 ghost use Rattle.cfdp_transactions.specs.Sound.{Sound};
@@ -10,14 +11,15 @@ ghost use Rattle.cfdp_transactions.specs.Delivery.{eof_came, whole};
 ghost use Rattle.cfdp_transactions.specs.Books.{IsAnswered};
 ghost use Rattle.cfdp_transactions.specs.code.Books.{AnswersAt, IsBooked, IsLiveAt, IsSteady, world_of};
 
-use crate::admission::{NULL_CHECKSUM, bound_of, names_file};
+use crate::admission::{bound_of, names_file};
 use crate::books::Books;
-use crate::conditions::{FILE_CHECKSUM_FAILURE, FILE_SIZE_ERROR, NO_ERROR};
 use crate::entry::Entry;
 use crate::phase_changes::{end, finish, turn};
 use crate::{Config, Phase, Reply};
 use cfdp_actions::Filestore;
 use cfdp_pdus::Eof;
+use cfdp_pdus::checksum_type::NULL_CHECKSUM;
+use cfdp_pdus::condition::{FILE_CHECKSUM_FAILURE, FILE_SIZE_ERROR, NO_ERROR};
 
 /// The EOF of the transaction at an index (copy file procedures). If all octets are there, the store is asked for their
 /// checksum, once.
@@ -74,7 +76,7 @@ fn has_wrong_size<S: Filestore>(store: &S, config: &Config, entry: &Entry, size:
 /// Whether what is staged for a transaction has the checksum, or it is not looked at.
 fn is_right<S: Filestore>(store: &S, entry: &Entry, sum: u32) -> bool
     requires { entry.now.slot < 64 }
-    ensures { result ≡ ((entry.now.metadata.checksum_type == 15)
+    ensures { result ≡ ((entry.now.metadata.checksum_type == null_checksum_type)
         || (checksum (staged_in (S.state store.now).filestore entry.now.slot) == sum)) }
 {
     entry.metadata().checksum_type == NULL_CHECKSUM || store.staged_checksum(entry.slot()) == sum

@@ -17,7 +17,6 @@ ghost use Rattle.cfdp_transactions.specs.Received.{staged_of};
 
 use crate::admission::bound_of;
 use crate::books::Books;
-use crate::conditions::FILE_SIZE_ERROR;
 use crate::delivery::judge;
 use crate::entry::Entry;
 use crate::phase_changes::end;
@@ -26,6 +25,7 @@ use crate::{Config, Phase, Reply};
 use cfdp_actions::Filestore;
 use cfdp_paths::Memory;
 use cfdp_pdus::Piece;
+use cfdp_pdus::condition::FILE_SIZE_ERROR;
 
 /// File data of the transaction at an index. Where memory is refused, nothing has changed. Costs by its octets and the
 /// pieces that they touch. If no octet is missing any more after an EOF PDU, the store is asked for the checksum, once.

@@ -8,7 +8,6 @@
 
 mod admission;
 mod books;
-mod conditions;
 mod config;
 mod copying;
 mod delivery;

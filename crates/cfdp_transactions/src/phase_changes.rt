@@ -12,10 +12,10 @@ ghost use Rattle.cfdp_transactions.specs.Books.{IsAnswered};
 ghost use Rattle.cfdp_transactions.specs.code.Books.{AnswersAt, EndsAt, IsBareAt, IsBooked, IsDoneAt, IsLiveAt, IsSteady, TurnsAt, world_of};
 
 use crate::books::Books;
-use crate::conditions::{CANCEL_REQUEST_RECEIVED, CHECK_LIMIT_REACHED};
 use crate::{Phase, Reply};
 use cfdp_actions::Filestore;
 use cfdp_pdus::Eof;
+use cfdp_pdus::condition::{CANCEL_REQUEST_RECEIVED, CHECK_LIMIT_REACHED};
 
 /// The transaction at an index ends (CCSDS 727.0-B-5, cancel procedures): what is staged for it is given back, and its
 /// reserve and its leases go.

@@ -17,27 +17,19 @@ ghost use Rattle.cfdp_transactions.specs.Writable.{IsWritable};
 
 use crate::admission::names_file;
 use crate::books::Books;
-use crate::conditions::{FILESTORE_REJECTION, NO_ERROR, UNSUPPORTED_CHECKSUM_TYPE};
 use crate::entry::Entry;
 use crate::issuing::{ShortBuffer, TakenFinished, put_finished};
 use crate::outcome::{Outcome, SharedOutcome};
 use crate::{Phase, Reply};
 use cfdp_actions::Filestore;
 use cfdp_paths::Memory;
+use cfdp_pdus::condition::{FILESTORE_REJECTION, NO_ERROR, UNSUPPORTED_CHECKSUM_TYPE};
+use cfdp_pdus::file_status::{DISCARDED, REJECTED, RETAINED, UNREPORTED};
 use cfdp_pdus::{Finished, Header};
 use cfdp_status::{Action, Status};
 use cfdp_tlv::{FilestoreRequest, FilestoreResponse};
 use std::alloc::Global;
 use std::sync::Arc;
-
-/// What became of the file (§5.2.3): it was discarded, rejected by the filestore, retained, or there was none.
-const DISCARDED: u8 = 0;
-
-const REJECTED: u8 = 1;
-
-const RETAINED: u8 = 2;
-
-const UNREPORTED: u8 = 3;
 
 /// The transaction at an index is forgotten, and its outcome handed out: the reply, twice. Where memory is refused
 /// nothing has changed. Cost: a copy of its requests' names.

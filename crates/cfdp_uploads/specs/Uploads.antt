@@ -18,6 +18,7 @@ use Rattle.cfdp_pdus.specs.declared.pdu.Pdu.{Pdu}
 use Rattle.cfdp_pdus.specs.declared.pdu.Pdu.TheVariants as pdus
 use Rattle.cfdp_pdus.specs.Values.{MetadataFields, FileDataFields}
 use Rattle.cfdp_pdus.specs.Bits.{fss}
+use Rattle.cfdp_pdus.specs.Codes.{no_error, modular_checksum_type}
 use Rattle.cfdp_pdus.specs.Canonical.{IsHeader, IsSizedMetadata, IsAnswerable, metadata_fits, metadata_field, file_data_field, eof_field, finished_field, pdu_octets}
 
 pub record UploadFields : Type 0 where
@@ -37,7 +38,7 @@ abbrev pub piece_of : UploadFields → ℕ → FileDataFields
 piece_of u index = record { offset = u.segment * index; octets = take u.segment (drop (u.segment * index) u.file) }
 
 abbrev pub eof_of : UploadFields → Eof
-eof_of u = record { condition = 0; checksum = checksum u.file; size = length u.file }
+eof_of u = record { condition = no_error; checksum = checksum u.file; size = length u.file }
 
 abbrev pub piece_pdu : UploadFields → ℕ → Pdu
 piece_pdu u index = pdus.FileData u.header (piece_of u index)
@@ -56,7 +57,7 @@ sent_octets (pdus.NotOurs header code) = []
 abbrev pub upload_of : Header → MetadataFields → List ℕ → ℕ → List ℕ → UploadFields
 upload_of header metadata file segment order = record {
   header = record header { toward_sender = false };
-  metadata = record metadata { checksum_type = 0; size = length file };
+  metadata = record metadata { checksum_type = modular_checksum_type; size = length file };
   file = file;
   segment = segment;
   order = order;
@@ -71,7 +72,7 @@ pub record IsUpload (u : UploadFields) : Type 0 where
   pub sized : IsSizedMetadata u.header.large u.metadata
   pub fits : metadata_fits u.header.large u.metadata ≡ true
   pub answerable : AllByRecursion IsAnswerable u.metadata.requests
-  pub modular : u.metadata.checksum_type ≡ 0
+  pub modular : u.metadata.checksum_type ≡ modular_checksum_type
   pub size : u.metadata.size ≡ length u.file
   pub some : 1 ≤ u.segment
   pub short : u.segment + fss u.header.large ≤ 65535

@@ -15,6 +15,8 @@ use crate::judging::{
 };
 use crate::piece::write_piece;
 use cfdp_checksum::modular_checksum;
+use cfdp_pdus::checksum_type::MODULAR_CHECKSUM;
+use cfdp_pdus::condition::NO_ERROR;
 use cfdp_pdus::{Eof, Header, Metadata, Piece, WriteFault, write_eof, write_metadata};
 use std::alloc::Global;
 use std::marker::Model;
@@ -83,7 +85,7 @@ impl<'a> Upload<'a> {
         let mut header = header;
         header.toward_sender = false;
         let mut metadata = metadata;
-        metadata.checksum_type = 0;
+        metadata.checksum_type = MODULAR_CHECKSUM;
         metadata.size = file.len() as u64;
         judge_header(&header)?;
         judge_names(&metadata)?;
@@ -147,7 +149,7 @@ impl<'a> Upload<'a> {
         ensures { result ≡ eof_of self.now }
     {
         Eof {
-            condition: 0,
+            condition: NO_ERROR,
             checksum: modular_checksum(self.file),
             size: self.file.len() as u64,
         }

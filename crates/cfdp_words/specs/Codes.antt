@@ -11,6 +11,7 @@ use Rattle.cfdp_status.specs.declared.action.Action.{Action}
 use Rattle.cfdp_status.specs.declared.action.Action.TheVariants as actions
 use Rattle.cfdp_status.specs.declared.status.Status.{Status}
 use Rattle.cfdp_status.specs.declared.status.Status.TheVariants as statuses
+use Rattle.cfdp_pdus.specs.Codes.{no_error, positive_ack_limit_reached, keep_alive_limit_reached, invalid_transmission_mode, filestore_rejection, file_checksum_failure, file_size_error, nak_limit_reached, inactivity_detected, invalid_file_structure, check_limit_reached, unsupported_checksum_type, suspend_request_received, cancel_request_received, eof_code, finished_code, ack_code, metadata_code, nak_code, prompt_code, keep_alive_code, file_discarded, file_rejected, file_retained, modular_checksum_type, proximity_1_crc_32_type, crc_32c_type, ieee_802_3_crc_32_type, null_checksum_type}
 use Rattle.cfdp_directives.specs.declared.ack.TransactionStatus.{TransactionStatus}
 use Rattle.cfdp_directives.specs.declared.ack.TransactionStatus.TheVariants as transactions
 
@@ -24,11 +25,21 @@ reserved_words = codes "reserved"
 
 abbrev pub conditions : List (ℕ × List ℕ)
 conditions =
-    (0, codes "No error") ∷ (1, codes "Positive ACK limit reached") ∷ (2, codes "Keep alive limit reached")
-    ∷ (3, codes "Invalid transmission mode") ∷ (4, codes "Filestore rejection") ∷ (5, codes "File checksum failure")
-    ∷ (6, codes "File size error") ∷ (7, codes "NAK limit reached") ∷ (8, codes "Inactivity detected")
-    ∷ (9, codes "Invalid file structure") ∷ (10, codes "Check limit reached") ∷ (11, codes "Unsupported checksum type")
-    ∷ (14, codes "Suspend.request received") ∷ (15, codes "Cancel.request received") ∷ []
+    (no_error, codes "No error")
+    ∷ (positive_ack_limit_reached, codes "Positive ACK limit reached")
+    ∷ (keep_alive_limit_reached, codes "Keep alive limit reached")
+    ∷ (invalid_transmission_mode, codes "Invalid transmission mode")
+    ∷ (filestore_rejection, codes "Filestore rejection")
+    ∷ (file_checksum_failure, codes "File checksum failure")
+    ∷ (file_size_error, codes "File size error")
+    ∷ (nak_limit_reached, codes "NAK limit reached")
+    ∷ (inactivity_detected, codes "Inactivity detected")
+    ∷ (invalid_file_structure, codes "Invalid file structure")
+    ∷ (check_limit_reached, codes "Check limit reached")
+    ∷ (unsupported_checksum_type, codes "Unsupported checksum type")
+    ∷ (suspend_request_received, codes "Suspend.request received")
+    ∷ (cancel_request_received, codes "Cancel.request received")
+    ∷ []
 
 abbrev pub condition_words : ℕ → List ℕ
 condition_words code = words_in conditions reserved_words code
@@ -36,29 +47,36 @@ condition_words code = words_in conditions reserved_words code
 -- those of the registry for checksum types
 abbrev pub checksums : List (ℕ × List ℕ)
 checksums =
-    (0, codes "modular") ∷ (1, codes "Proximity-1 CRC-32") ∷ (2, codes "CRC-32C") ∷ (3, codes "CRC-32 of IEEE 802.3") ∷
-    (15, codes "null") ∷ []
+    (modular_checksum_type, codes "modular")
+    ∷ (proximity_1_crc_32_type, codes "Proximity-1 CRC-32")
+    ∷ (crc_32c_type, codes "CRC-32C")
+    ∷ (ieee_802_3_crc_32_type, codes "CRC-32 of IEEE 802.3")
+    ∷ (null_checksum_type, codes "null")
+    ∷ []
 
 abbrev pub checksum_words : ℕ → List ℕ
 checksum_words code = words_in checksums reserved_words code
 
 abbrev pub file_statuses : List (ℕ × List ℕ)
 file_statuses =
-    (0, codes "Discarded deliberately") ∷ (1, codes "Discarded due to filestore rejection") ∷ (
-      2,
-      codes "Retained in filestore successfully",
-    ) ∷ []
+    (file_discarded, codes "Discarded deliberately")
+    ∷ (file_rejected, codes "Discarded due to filestore rejection")
+    ∷ (file_retained, codes "Retained in filestore successfully")
+    ∷ []
 
 abbrev pub file_status_words : ℕ → List ℕ
 file_status_words code = words_in file_statuses (codes "File status unreported") code
 
 abbrev pub directives : List (ℕ × List ℕ)
 directives =
-    (4, codes "EOF") ∷ (5, codes "Finished") ∷ (6, codes "ACK") ∷ (7, codes "Metadata") ∷ (8, codes "NAK") ∷ (
-      9,
-      codes "Prompt",
-    )
-    ∷ (12, codes "Keep Alive") ∷ []
+    (eof_code, codes "EOF")
+    ∷ (finished_code, codes "Finished")
+    ∷ (ack_code, codes "ACK")
+    ∷ (metadata_code, codes "Metadata")
+    ∷ (nak_code, codes "NAK")
+    ∷ (prompt_code, codes "Prompt")
+    ∷ (keep_alive_code, codes "Keep Alive")
+    ∷ []
 
 abbrev pub directive_words : ℕ → List ℕ
 directive_words code = words_in directives reserved_words code

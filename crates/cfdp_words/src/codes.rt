@@ -4,6 +4,7 @@ ghost use Rattle.std.specs.Prelude.{◌≡◌};
 ghost use Rattle.cfdp_words.specs.Codes.{action_words, checksum_words, condition_words, directive_words, file_status_words, not_allowed_words, status_words, transaction_words};
 
 use cfdp_directives::TransactionStatus;
+use cfdp_pdus::{checksum_type, condition, directive, file_status};
 use cfdp_status::{Action, Status};
 
 /// A condition code (CCSDS 727.0-B-5, the condition codes).
@@ -11,20 +12,20 @@ pub fn condition_words(code: u8) -> &'static [u8]
     ensures { result.now ≡ condition_words code }
 {
     match code {
-        0 => b"No error",
-        1 => b"Positive ACK limit reached",
-        2 => b"Keep alive limit reached",
-        3 => b"Invalid transmission mode",
-        4 => b"Filestore rejection",
-        5 => b"File checksum failure",
-        6 => b"File size error",
-        7 => b"NAK limit reached",
-        8 => b"Inactivity detected",
-        9 => b"Invalid file structure",
-        10 => b"Check limit reached",
-        11 => b"Unsupported checksum type",
-        14 => b"Suspend.request received",
-        15 => b"Cancel.request received",
+        condition::NO_ERROR => b"No error",
+        condition::POSITIVE_ACK_LIMIT_REACHED => b"Positive ACK limit reached",
+        condition::KEEP_ALIVE_LIMIT_REACHED => b"Keep alive limit reached",
+        condition::INVALID_TRANSMISSION_MODE => b"Invalid transmission mode",
+        condition::FILESTORE_REJECTION => b"Filestore rejection",
+        condition::FILE_CHECKSUM_FAILURE => b"File checksum failure",
+        condition::FILE_SIZE_ERROR => b"File size error",
+        condition::NAK_LIMIT_REACHED => b"NAK limit reached",
+        condition::INACTIVITY_DETECTED => b"Inactivity detected",
+        condition::INVALID_FILE_STRUCTURE => b"Invalid file structure",
+        condition::CHECK_LIMIT_REACHED => b"Check limit reached",
+        condition::UNSUPPORTED_CHECKSUM_TYPE => b"Unsupported checksum type",
+        condition::SUSPEND_REQUEST_RECEIVED => b"Suspend.request received",
+        condition::CANCEL_REQUEST_RECEIVED => b"Cancel.request received",
         _ => b"reserved",
     }
 }
@@ -34,11 +35,11 @@ pub(crate) fn checksum_words(code: u8) -> &'static [u8]
     ensures { result.now ≡ checksum_words code }
 {
     match code {
-        0 => b"modular",
-        1 => b"Proximity-1 CRC-32",
-        2 => b"CRC-32C",
-        3 => b"CRC-32 of IEEE 802.3",
-        15 => b"null",
+        checksum_type::MODULAR_CHECKSUM => b"modular",
+        checksum_type::PROXIMITY_1_CRC_32 => b"Proximity-1 CRC-32",
+        checksum_type::CRC_32C => b"CRC-32C",
+        checksum_type::IEEE_802_3_CRC_32 => b"CRC-32 of IEEE 802.3",
+        checksum_type::NULL_CHECKSUM => b"null",
         _ => b"reserved",
     }
 }
@@ -48,9 +49,9 @@ pub(crate) fn file_status_words(code: u8) -> &'static [u8]
     ensures { result.now ≡ file_status_words code }
 {
     match code {
-        0 => b"Discarded deliberately",
-        1 => b"Discarded due to filestore rejection",
-        2 => b"Retained in filestore successfully",
+        file_status::DISCARDED => b"Discarded deliberately",
+        file_status::REJECTED => b"Discarded due to filestore rejection",
+        file_status::RETAINED => b"Retained in filestore successfully",
         _ => b"File status unreported",
     }
 }
@@ -60,13 +61,13 @@ pub(crate) fn directive_words(code: u8) -> &'static [u8]
     ensures { result.now ≡ directive_words code }
 {
     match code {
-        4 => b"EOF",
-        5 => b"Finished",
-        6 => b"ACK",
-        7 => b"Metadata",
-        8 => b"NAK",
-        9 => b"Prompt",
-        12 => b"Keep Alive",
+        directive::EOF => b"EOF",
+        directive::FINISHED => b"Finished",
+        directive::ACK => b"ACK",
+        directive::METADATA => b"Metadata",
+        directive::NAK => b"NAK",
+        directive::PROMPT => b"Prompt",
+        directive::KEEP_ALIVE => b"Keep Alive",
         _ => b"reserved",
     }
 }

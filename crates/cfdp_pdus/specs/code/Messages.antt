@@ -6,6 +6,7 @@ use Rattle.cfdp_tlv.specs.Reading.{◌>>=◌}
 use Rattle.cfdp_pdus.specs.declared.fault.PduFault.{PduFault}
 use Rattle.cfdp_pdus.specs.declared.fault.PduFault.TheVariants.{LengthMismatch, BadDirective}
 use Rattle.cfdp_pdus.specs.Bits.{fss}
+use Rattle.cfdp_pdus.specs.Codes.{metadata_code}
 use Rattle.cfdp_pdus.specs.First.{Start, number_at, name_field_at, fields_at, requests_of, start_at}
 
 -- ---- from left to right
@@ -25,7 +26,8 @@ judged_options options = requests_of (fields_at options) >>= λ requests. Ok opt
 
 unfoldable pub options_in : Bool → List ℕ → Result (List ℕ) PduFault
 options_in large [] = Err LengthMismatch
-options_in large (code ∷ octets) = if code == 7 then after_names large octets >>= judged_options else Err BadDirective
+options_in large (code ∷ octets) =
+    if code == metadata_code then after_names large octets >>= judged_options else Err BadDirective
 
 abbrev pub options_from : Start → Result (List ℕ) PduFault
 options_from start = if start.file_data then Err BadDirective else options_in start.header.large start.field
