@@ -64,10 +64,11 @@ directory_made F request p = row_of F (Makes F p Directory) request (CreateDirec
     let facts = made action.CreateDirectory Directory p (node_at F p) (parent_is_good F p) h in
     record { absent = facts.0; parent = facts.1; row = facts.2 })
 
-pub made_takes : (F : Filestore) (request : Request) (p : Path) → Allowed F request → (request ≡ CreateFile p) ⊎ (request ≡ CreateDirectory p) →
+pub made_takes : (F : Filestore) (request : Request) → Allowed F request →
+    ((p : Path) × (request ≡ CreateFile p)) ⊎ ((p : Path) × (request ≡ CreateDirectory p)) →
     ((table F request).taken ≡ 1) × ((table F request).given ≡ 0)
-made_takes F request p h (inl e) = let row = (file_made F request p h e).row in (row.taken, row.given)
-made_takes F request p h (inr e) = let row = (directory_made F request p h e).row in (row.taken, row.given)
+made_takes F request h (inl e) = let row = (file_made F request e.0 h e.1).row in (row.taken, row.given)
+made_takes F request h (inr e) = let row = (directory_made F request e.0 h e.1).row in (row.taken, row.given)
 
 -- ---- remove
 
@@ -257,14 +258,15 @@ performs prefixes F free request h unbarred fits =
     ∙ ap (λ b. (if b then table F request else denied_outcome (Perform request)).answer) fits
     ∙ successful F request h
 
-pub takes_nothing : (F : Filestore) (request : Request) → Allowed F request → action_in request ≢ action.CreateFile → action_in request
-    ≢ action.CreateDirectory → action_in request ≢ action.AppendFile → action_in request ≢ action.ReplaceFile → (table F request).taken ≡ 0
-takes_nothing F (CreateFile p) h file directory append replace = absurd (file refl)
+pub takes_nothing : (F : Filestore) (request : Request) → Allowed F request → ((p : Path) → request ≢ CreateFile p) →
+    ((p : Path) → request ≢ CreateDirectory p) → ((p q : Path) → request ≢ AppendFile p q) → ((p q : Path) → request ≢ ReplaceFile p q) →
+    (table F request).taken ≡ 0
+takes_nothing F (CreateFile p) h file directory append replace = absurd (file p refl)
 takes_nothing F (DeleteFile p) h file directory append replace = (removed F (DeleteFile p) p h (inl refl)).row.taken
 takes_nothing F (RenameFile p q) h file directory append replace = (moved F (RenameFile p q) p q h refl).row.taken
-takes_nothing F (AppendFile p q) h file directory append replace = absurd (append refl)
-takes_nothing F (ReplaceFile p q) h file directory append replace = absurd (replace refl)
-takes_nothing F (CreateDirectory p) h file directory append replace = absurd (directory refl)
+takes_nothing F (AppendFile p q) h file directory append replace = absurd (append p q refl)
+takes_nothing F (ReplaceFile p q) h file directory append replace = absurd (replace p q refl)
+takes_nothing F (CreateDirectory p) h file directory append replace = absurd (directory p refl)
 takes_nothing F (RemoveDirectory p) h file directory append replace = (removed F (RemoveDirectory p) p h (inr refl)).row.taken
 takes_nothing F (DenyFile p) h file directory append replace = (denied F (DenyFile p) p h (inl refl)).row.taken
 takes_nothing F (DenyDirectory p) h file directory append replace = (denied F (DenyDirectory p) p h (inr refl)).row.taken

@@ -20,17 +20,39 @@ use Rattle.cfdp_status.specs.declared.status.Status.TheVariants.{Successful, Not
 use Rattle.cfdp_status.specs.Codes.{is_successful}
 use Rattle.cfdp_paths.specs.Paths.{Path, same_path, is_at_or_below, rebased}
 use Rattle.cfdp_actions.specs.Filestore.{Node, Directory, File, Filestore, node_at, staged_in, blocks_of, weight, Change, Becomes, Stages, has_entries, parent_is_good, tree_at}
+use Rattle.cfdp_actions.specs.declared.request.Request.{Request as CodeRequest}
+use Rattle.cfdp_actions.specs.declared.request.Request.TheVariants as request
 
-pub data Request : Type 0 where
-  CreateFile : Path → Request
-  DeleteFile : Path → Request
-  RenameFile : Path → Path → Request
-  AppendFile : Path → Path → Request
-  ReplaceFile : Path → Path → Request
-  CreateDirectory : Path → Request
-  RemoveDirectory : Path → Request
-  DenyFile : Path → Request
-  DenyDirectory : Path → Request
+-- the nine requests, each with the one or two paths that it names, as the code has them
+abbrev pub Request : Type 0
+Request = CodeRequest
+
+pattern abbrev pub CreateFile : Path → Request
+CreateFile p = request.CreateFile p
+
+pattern abbrev pub DeleteFile : Path → Request
+DeleteFile p = request.DeleteFile p
+
+pattern abbrev pub RenameFile : Path → Path → Request
+RenameFile p q = request.RenameFile p q
+
+pattern abbrev pub AppendFile : Path → Path → Request
+AppendFile p q = request.AppendFile p q
+
+pattern abbrev pub ReplaceFile : Path → Path → Request
+ReplaceFile p q = request.ReplaceFile p q
+
+pattern abbrev pub CreateDirectory : Path → Request
+CreateDirectory p = request.CreateDirectory p
+
+pattern abbrev pub RemoveDirectory : Path → Request
+RemoveDirectory p = request.RemoveDirectory p
+
+pattern abbrev pub DenyFile : Path → Request
+DenyFile p = request.DenyFile p
+
+pattern abbrev pub DenyDirectory : Path → Request
+DenyDirectory p = request.DenyDirectory p
 
 abbrev pub action_in : Request → Action
 action_in (CreateFile p) = action.CreateFile

@@ -12,7 +12,6 @@ ghost use Rattle.cfdp_actions.specs.Prefixes.{same_paths};
 use crate::Request;
 use arrayvec::ArrayVec;
 use cfdp_paths::Path;
-use cfdp_status::Action;
 use std::marker::Model;
 
 /// How many prefixes can be protected.
@@ -112,16 +111,15 @@ impl Protected {
     pub fn bars(&self, request: &Request) -> bool
         ensures { result ≡ bars self.now request.now }
     {
-        let first = request.first();
-        match request.action() {
-            Action::CreateFile | Action::CreateDirectory => false,
-            Action::RenameFile => self.covers(first) || self.reaches_below(first),
-            Action::DeleteFile
-            | Action::AppendFile
-            | Action::ReplaceFile
-            | Action::RemoveDirectory
-            | Action::DenyFile
-            | Action::DenyDirectory => self.covers(first),
+        match request {
+            Request::CreateFile(_) | Request::CreateDirectory(_) => false,
+            Request::RenameFile(from, _) => self.covers(from) || self.reaches_below(from),
+            Request::DeleteFile(path)
+            | Request::AppendFile(path, _)
+            | Request::ReplaceFile(path, _)
+            | Request::RemoveDirectory(path)
+            | Request::DenyFile(path)
+            | Request::DenyDirectory(path) => self.covers(path),
         }
     }
 }

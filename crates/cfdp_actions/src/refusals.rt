@@ -52,28 +52,27 @@ pub fn refusal<K: Kinds>(kinds: &K, request: &Request) -> Option<Status>
     ensures told { (F : Filestore) → K.tells kinds.now F → Refuses (table F request.now) result }
     ensures shallow { (p q : Path) → request.now ≡ RenameFile p q → IfNone result (K.deep kinds.now p q ≡ false) }
 {
-    let first = request.first();
-    match request.action() {
-        Action::CreateFile => creation(kinds, Action::CreateFile, first),
-        Action::DeleteFile => of_file(kinds, Action::DeleteFile, first, Some(Status::DeleteAbsent)),
-        Action::RenameFile => renaming(kinds, first, request.second().unwrap()),
-        Action::AppendFile => {
-            let second = request.second().unwrap();
+    match request {
+        Request::CreateFile(path) => creation(kinds, Action::CreateFile, path),
+        Request::DeleteFile(path) => {
+            of_file(kinds, Action::DeleteFile, path, Some(Status::DeleteAbsent))
+        }
+        Request::RenameFile(from, to) => renaming(kinds, from, to),
+        Request::AppendFile(first, second) => {
             let absent = (Status::AppendFirstAbsent, Status::AppendSecondAbsent);
             joining(kinds, Action::AppendFile, first, second, absent)
         }
-        Action::ReplaceFile => {
-            let second = request.second().unwrap();
+        Request::ReplaceFile(first, second) => {
             let absent = (Status::ReplaceFirstAbsent, Status::ReplaceSecondAbsent);
             joining(kinds, Action::ReplaceFile, first, second, absent)
         }
-        Action::CreateDirectory => creation(kinds, Action::CreateDirectory, first),
-        Action::RemoveDirectory => {
+        Request::CreateDirectory(path) => creation(kinds, Action::CreateDirectory, path),
+        Request::RemoveDirectory(path) => {
             let absent = Some(Status::RemoveAbsent);
-            of_directory(kinds, Action::RemoveDirectory, first, absent)
+            of_directory(kinds, Action::RemoveDirectory, path, absent)
         }
-        Action::DenyFile => of_file(kinds, Action::DenyFile, first, None),
-        Action::DenyDirectory => of_directory(kinds, Action::DenyDirectory, first, None),
+        Request::DenyFile(path) => of_file(kinds, Action::DenyFile, path, None),
+        Request::DenyDirectory(path) => of_directory(kinds, Action::DenyDirectory, path, None),
     }
 }
 

@@ -8,7 +8,6 @@ ghost use Rattle.cfdp_actions.specs.Store.{free_blocks, with_changes};
 use crate::blocks::blocks_of;
 use crate::{Filestore, Request};
 use cfdp_paths::{Memory, Path};
-use cfdp_status::Action;
 
 /// Whether the blocks that the row takes are free, or given back by it.
 pub fn has_room<S: Filestore>(store: &S, request: &Request) -> bool
@@ -16,16 +15,13 @@ pub fn has_room<S: Filestore>(store: &S, request: &Request) -> bool
     ensures { let o = table (S.state store.now).filestore request.now in
         result ≡ nat_le o.taken (free_blocks (S.state store.now) + o.given) }
 {
-    let first = request.first();
-    match request.action() {
-        Action::CreateFile | Action::CreateDirectory => store.free() > 0,
-        Action::AppendFile => {
-            let second = request.second().unwrap();
+    match request {
+        Request::CreateFile(_) | Request::CreateDirectory(_) => store.free() > 0,
+        Request::AppendFile(first, second) => {
             let size = store.size(first);
             blocks_of(size + store.size(second)) - blocks_of(size) <= store.free()
         }
-        Action::ReplaceFile => {
-            let second = request.second().unwrap();
+        Request::ReplaceFile(first, second) => {
             let given = blocks_of(store.size(first));
             blocks_of(store.size(second)) <= store.free() + given
         }
@@ -44,15 +40,14 @@ pub fn change<S: Filestore>(store: &mut S, request: &Request) -> Result<u32, Mem
     ensures err { OnErr result (S.state store.new ≡ S.state store.old) }
     ensures thrifty { IsTrue (S.state store.old).takes_no_memory → IsOk result }
 {
-    let first = request.first();
-    match request.action() {
-        Action::CreateFile => store.make_file(first),
-        Action::CreateDirectory => store.make_dir(first),
-        Action::DeleteFile | Action::RemoveDirectory => store.remove(first),
-        Action::DenyFile | Action::DenyDirectory => deny(store, first),
-        Action::RenameFile => store.rename(first, request.second().unwrap()),
-        Action::AppendFile => store.append(first, request.second().unwrap()),
-        Action::ReplaceFile => store.replace(first, request.second().unwrap()),
+    match request {
+        Request::CreateFile(path) => store.make_file(path),
+        Request::CreateDirectory(path) => store.make_dir(path),
+        Request::DeleteFile(path) | Request::RemoveDirectory(path) => store.remove(path),
+        Request::DenyFile(path) | Request::DenyDirectory(path) => deny(store, path),
+        Request::RenameFile(from, to) => store.rename(from, to),
+        Request::AppendFile(first, second) => store.append(first, second),
+        Request::ReplaceFile(first, second) => store.replace(first, second),
     }
 }
 

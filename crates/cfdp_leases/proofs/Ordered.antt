@@ -19,9 +19,8 @@ use Rattle.std.proofs.lemmas.Map.Keys.{Less-from_sorted}
 use Rattle.std.proofs.lemmas.Bool.{cases_Bool, eqb-true, eqb-false}
 use Rattle.cfdp_paths.specs.Paths.{Path, path_cmp, same_path}
 use Rattle.cfdp_paths.proofs.Comparing.{same_path-Decides}
-use Rattle.cfdp_status.specs.declared.action.Action.TheVariants.{RenameFile}
 use Rattle.cfdp_paths.specs.Paths.{ancestors}
-use Rattle.cfdp_actions.specs.Actions.{Item, Perform, Request, action_in, first_in, second_in}
+use Rattle.cfdp_actions.specs.Actions.{Item, Perform, Request, first_in, second_in}
 use Rattle.cfdp_actions.specs.Actions as actions
 use Rattle.cfdp_leases.specs.Items.{install_of, items_of}
 use Rattle.cfdp_leases.specs.Footprint.{exclusive_in, read_in}
@@ -148,18 +147,6 @@ unfolding IsStrictlySortedBy
 sorted-none = tt
 
 -- ---- the paths of one request
-
-pub changed-rename : (r : Request) (p q : Path) → action_in r ≡ RenameFile → p ≡ first_in r → Some q ≡ second_in r → (p ∷ []) ++ (q ∷ [])
-    ≡ exclusive_in (Perform r)
-changed-rename (actions.RenameFile x y) p q same first second = cc
-changed-rename (actions.CreateFile x) p q same first second = cc
-changed-rename (actions.DeleteFile x) p q same first second = cc
-changed-rename (actions.AppendFile x y) p q same first second = cc
-changed-rename (actions.ReplaceFile x y) p q same first second = cc
-changed-rename (actions.CreateDirectory x) p q same first second = cc
-changed-rename (actions.RemoveDirectory x) p q same first second = cc
-changed-rename (actions.DenyFile x) p q same first second = cc
-changed-rename (actions.DenyDirectory x) p q same first second = cc
 
 -- what it names are its two paths
 pub above-two : (r : Request) (p q : Path) → p ≡ first_in r → Some q ≡ second_in r → ancestors p ++ ancestors q

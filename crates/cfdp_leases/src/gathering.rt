@@ -15,7 +15,6 @@ ghost use Rattle.cfdp_leases.specs.Items.{install_of, items_of};
 use crate::footprints::Footprint;
 use cfdp_actions::Request;
 use cfdp_paths::{Memory, Path};
-use cfdp_status::Action;
 use std::alloc::Global;
 
 /// The footprint of a list of filestore requests, and of the destination of the file that is installed before them.
@@ -81,10 +80,19 @@ fn add_changed(alloc: Global, paths: &mut Vec<Path>, request: &Request) -> Resul
     ensures added { OnOk result (SameSet paths.new.items (paths.old.items ++ exclusive_in (Perform request.now))) }
     ensures named { NoneIsRoot paths.old.items → OnOk result (NoneIsRoot paths.new.items) }
 {
-    add(alloc, paths, request.first())?;
-    match request.second() {
-        Some(second) if request.action() == Action::RenameFile => add(alloc, paths, second),
-        _ => Ok(()),
+    match request {
+        Request::RenameFile(from, to) => {
+            add(alloc, paths, from)?;
+            add(alloc, paths, to)
+        }
+        Request::CreateFile(path)
+        | Request::DeleteFile(path)
+        | Request::AppendFile(path, _)
+        | Request::ReplaceFile(path, _)
+        | Request::CreateDirectory(path)
+        | Request::RemoveDirectory(path)
+        | Request::DenyFile(path)
+        | Request::DenyDirectory(path) => add(alloc, paths, path),
     }
 }
 
@@ -94,9 +102,17 @@ fn add_read(alloc: Global, paths: &mut Vec<Path>, request: &Request) -> Result<(
     ensures ordered { OnOk result (IsStrictlySortedBy path_cmp paths.new.items) }
     ensures added { OnOk result (SameSet paths.new.items (paths.old.items ++ read_in (Perform request.now))) }
 {
-    match request.second() {
-        Some(second) if request.action() != Action::RenameFile => add(alloc, paths, second),
-        _ => Ok(()),
+    match request {
+        Request::AppendFile(_, second) | Request::ReplaceFile(_, second) => {
+            add(alloc, paths, second)
+        }
+        Request::CreateFile(_)
+        | Request::DeleteFile(_)
+        | Request::RenameFile(_, _)
+        | Request::CreateDirectory(_)
+        | Request::RemoveDirectory(_)
+        | Request::DenyFile(_)
+        | Request::DenyDirectory(_) => Ok(()),
     }
 }
 

@@ -63,16 +63,20 @@ module _ (m : Extents) (request : Request) (allowed : (F : Filestore) → IsOutl
   removes m' p now F h o answer false some changes =
       follows-one m m' F o (Successful (action_in request)) p None h answer changes (λ x. ap (λ m'. get m' x) now ∙ get-remove paths_total m p x)
 
-  pub gone : (m' : Extents) (p : Path) → ((request ≡ DeleteFile p) ⊎ (request ≡ RemoveDirectory p)) ⊎ ((request ≡ DenyFile p) ⊎ (request ≡ DenyDirectory p)) →
-      m' ≡ remove m p → Does m m' request (Successful (action_in request))
-  gone m' p (inl e) now = does-at m m' request (Successful (action_in request)) (λ F h.
-      let goes = removed F request p (allowed F h) e in
-      removes m' p now F h (table F request) (answer F h) false (present (node_at F p) goes.present) goes.row.changes)
+  goes : (m' : Extents) (p : Path) → (request ≡ DeleteFile p) ⊎ (request ≡ RemoveDirectory p) → m' ≡ remove m p → Does m m' request (Successful (action_in request))
+  goes m' p e now = does-at m m' request (Successful (action_in request)) (λ F h.
+      let went = removed F request p (allowed F h) e in
+      removes m' p now F h (table F request) (answer F h) false (present (node_at F p) went.present) went.row.changes)
     where
       present : (o : Option Node) → is_some o ≡ true → is_none o ≡ false
       present None e = absurd (true≢false (sym e))
       present (Some node) e = refl
-  gone m' p (inr e) now = does-at m m' request (Successful (action_in request)) (λ F h.
+
+  pub gone : (m' : Extents) (p : Path) → (request ≡ DeleteFile p) ⊎ ((request ≡ RemoveDirectory p) ⊎ ((request ≡ DenyFile p) ⊎ (request ≡ DenyDirectory p))) →
+      m' ≡ remove m p → Does m m' request (Successful (action_in request))
+  gone m' p (inl e) now = goes m' p (inl e) now
+  gone m' p (inr (inl e)) now = goes m' p (inr e) now
+  gone m' p (inr (inr e)) now = does-at m m' request (Successful (action_in request)) (λ F h.
       let row = (denied F request p (allowed F h) e).row in
       removes m' p now F h (table F request) (answer F h) (is_none (node_at F p)) refl row.changes)
 

@@ -14,7 +14,6 @@ use crate::extent::Extent;
 use crate::extents::Extents;
 use cfdp_actions::Request;
 use cfdp_paths::{Memory, Path};
-use cfdp_status::Action;
 
 /// Changes the extents as the row of the request says. Only a request that makes a path takes memory; when out of it
 /// they are as before.
@@ -26,22 +25,24 @@ pub fn change(extents: &mut Extents, request: &Request) -> Result<(), Memory>
     ensures err { OnErr result (extents.new ≡ extents.old) }
     ensures thrifty { OnErr result (IsTrue (makes_path request.now)) }
 {
-    let first = request.first();
-    match request.action() {
-        Action::CreateFile => extents.put(first, Extent::File(0)),
-        Action::CreateDirectory => extents.put(first, Extent::Directory),
-        Action::DeleteFile | Action::RemoveDirectory | Action::DenyFile | Action::DenyDirectory => {
-            extents.remove(first);
+    match request {
+        Request::CreateFile(path) => extents.put(path, Extent::File(0)),
+        Request::CreateDirectory(path) => extents.put(path, Extent::Directory),
+        Request::DeleteFile(path)
+        | Request::RemoveDirectory(path)
+        | Request::DenyFile(path)
+        | Request::DenyDirectory(path) => {
+            extents.remove(path);
             Ok(())
         }
-        Action::RenameFile => extents.relocate(first, request.second().unwrap()),
-        Action::AppendFile => {
-            let more = size(extents, request.second().unwrap());
+        Request::RenameFile(from, to) => extents.relocate(from, to),
+        Request::AppendFile(first, second) => {
+            let more = size(extents, second);
             resize(extents, first, size(extents, first).saturating_add(more));
             Ok(())
         }
-        Action::ReplaceFile => {
-            resize(extents, first, size(extents, request.second().unwrap()));
+        Request::ReplaceFile(first, second) => {
+            resize(extents, first, size(extents, second));
             Ok(())
         }
     }

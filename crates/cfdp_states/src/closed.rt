@@ -16,7 +16,7 @@ use crate::view::View;
 use cfdp_actions::{Filestore, Protected, Request};
 use cfdp_leases::Footprint;
 use cfdp_paths::{MOST_NAMES, Memory, Path};
-use cfdp_status::{Action, Status};
+use cfdp_status::Status;
 use std::alloc::Global;
 
 /// The most blocks that a store has.
@@ -163,16 +163,16 @@ impl<'a> ClosedView<'a> {
     fn moves_closed(&self, request: &Request) -> bool
         ensures { result ≡ moves_closed self.now.closed.items request.now }
     {
-        match request.action() {
-            Action::RenameFile => is_any_at(&self.closed, request.first()),
-            Action::CreateFile
-            | Action::DeleteFile
-            | Action::AppendFile
-            | Action::ReplaceFile
-            | Action::CreateDirectory
-            | Action::RemoveDirectory
-            | Action::DenyFile
-            | Action::DenyDirectory => false,
+        match request {
+            Request::RenameFile(from, _) => is_any_at(&self.closed, from),
+            Request::CreateFile(_)
+            | Request::DeleteFile(_)
+            | Request::AppendFile(_, _)
+            | Request::ReplaceFile(_, _)
+            | Request::CreateDirectory(_)
+            | Request::RemoveDirectory(_)
+            | Request::DenyFile(_)
+            | Request::DenyDirectory(_) => false,
         }
     }
 
@@ -187,26 +187,23 @@ impl<'a> ClosedView<'a> {
     fn looks_inside(&self, request: &Request) -> bool
         ensures { result ≡ looks_inside self.now.closed.items self.now.view.extents request.now }
     {
-        let first = request.first();
-        match request.action() {
-            Action::RenameFile => {
-                let second = request.second().unwrap();
-                is_inside(&self.closed, first)
-                    || is_inside(&self.closed, second)
-                    || is_any_at(&self.closed, second)
-                    || self.view.has_below(second)
-                    || is_any_cramped(&self.closed, first, second)
+        match request {
+            Request::RenameFile(from, to) => {
+                is_inside(&self.closed, from)
+                    || is_inside(&self.closed, to)
+                    || is_any_at(&self.closed, to)
+                    || self.view.has_below(to)
+                    || is_any_cramped(&self.closed, from, to)
             }
-            Action::AppendFile | Action::ReplaceFile => {
-                let second = request.second().unwrap();
+            Request::AppendFile(first, second) | Request::ReplaceFile(first, second) => {
                 is_inside(&self.closed, first) || is_inside(&self.closed, second)
             }
-            Action::CreateFile
-            | Action::DeleteFile
-            | Action::CreateDirectory
-            | Action::RemoveDirectory
-            | Action::DenyFile
-            | Action::DenyDirectory => is_inside(&self.closed, first),
+            Request::CreateFile(path)
+            | Request::DeleteFile(path)
+            | Request::CreateDirectory(path)
+            | Request::RemoveDirectory(path)
+            | Request::DenyFile(path)
+            | Request::DenyDirectory(path) => is_inside(&self.closed, path),
         }
     }
 }
@@ -241,20 +238,20 @@ fn follow(alloc: Global, closed: &mut Vec<Path>, request: &Request) -> Result<()
     requires { (p q : names.Path) → request.now ≡ RenameFile p q → list_any (is_cramped p q) closed.old.items ≡ false }
     ensures { OnOk result (closed.new.items ≡ after_request request.now closed.old.items) }
 {
-    match request.action() {
-        Action::RenameFile => {
-            let moved = moved(alloc, closed, request.first(), request.second().unwrap())?;
+    match request {
+        Request::RenameFile(from, to) => {
+            let moved = moved(alloc, closed, from, to)?;
             *closed = moved;
             Ok(())
         }
-        Action::CreateFile
-        | Action::DeleteFile
-        | Action::AppendFile
-        | Action::ReplaceFile
-        | Action::CreateDirectory
-        | Action::RemoveDirectory
-        | Action::DenyFile
-        | Action::DenyDirectory => Ok(()),
+        Request::CreateFile(_)
+        | Request::DeleteFile(_)
+        | Request::AppendFile(_, _)
+        | Request::ReplaceFile(_, _)
+        | Request::CreateDirectory(_)
+        | Request::RemoveDirectory(_)
+        | Request::DenyFile(_)
+        | Request::DenyDirectory(_) => Ok(()),
     }
 }
 

@@ -10,7 +10,7 @@ use crate::extent::Extent;
 use crate::extents::Extents;
 use cfdp_actions::{Protected, Request, refusal};
 use cfdp_paths::{Memory, Path};
-use cfdp_status::{Action, Status};
+use cfdp_status::Status;
 
 /// Performs a request (CCSDS 727.0-B-5, filestore procedures), except where the prefixes bar it.
 pub fn perform(
@@ -56,16 +56,14 @@ pub fn step_bound(extents: &Extents, request: &Request) -> u64
     ensures value { result ≡ bound_on extents.now (Perform request.now) }
     ensures within { result < 2 ^ 60 }
 {
-    let first = request.first();
-    match request.action() {
-        Action::CreateFile | Action::CreateDirectory | Action::RemoveDirectory => 1,
-        Action::RenameFile => 0,
-        Action::DeleteFile => 1 + content(extents, first),
-        Action::DenyFile => extents.weight(first),
-        Action::DenyDirectory => extents.weight(first).min(1),
-        Action::AppendFile => 2 * content(extents, request.second().unwrap()),
-        Action::ReplaceFile => {
-            let second = request.second().unwrap();
+    match request {
+        Request::CreateFile(_) | Request::CreateDirectory(_) | Request::RemoveDirectory(_) => 1,
+        Request::RenameFile(_, _) => 0,
+        Request::DeleteFile(path) => 1 + content(extents, path),
+        Request::DenyFile(path) => extents.weight(path),
+        Request::DenyDirectory(path) => extents.weight(path).min(1),
+        Request::AppendFile(_, second) => 2 * content(extents, second),
+        Request::ReplaceFile(first, second) => {
             if first == second {
                 0
             } else {

@@ -1,20 +1,17 @@
-use Rattle.std.proofs.Common.{rules, ◌≡◌, ◌⊎◌, ◌+◌, ◌∙◌, sym, nat_le, arith}
+use Rattle.std.proofs.Common.{◌+◌, ◌∙◌, sym, nat_le, arith}
 use Rattle.std.proofs.lemmas.Bool.{le-leb}
 use Rattle.std.proofs.lemmas.Bool.Decides.{nat_tests}
-use Rattle.cfdp_actions.specs.Actions.{CreateFile, AppendFile, ReplaceFile, CreateDirectory}
 use Rattle.cfdp_actions.proofs.RowLaws.{blocks_of-small, blocks_of-mono, blocks_of_both, blocks_of_one}
 use Rattle.cfdp_actions.proofs.Allowed.{made_takes, appended, replaced, replace_room, takes_nothing}
 use Rattle.cfdp_actions.proofs.rows.has_room.Goals as goal
 
 pub size-size-requires : goal.size-size-requires
 size-size-requires g c =
-    let is : c.args.request.now ≡ AppendFile c.first-first.result.now c.unwrap-second.result.now = search rules in
-    (appended _ _ _ _ c.requires is).first
+    (appended _ _ _ _ c.requires c.in-AppendFile.is).first
 
 pub size-requires : goal.size-requires
 size-requires g c =
-    let is : c.args.request.now ≡ AppendFile c.first-first.result.now c.unwrap-second.result.now = search rules in
-    (appended _ _ _ _ c.requires is).second
+    (appended _ _ _ _ c.requires c.in-AppendFile.is).second
 
 pub overflow_sub-result : goal.overflow_sub-result
 overflow_sub-result g c =
@@ -22,13 +19,11 @@ overflow_sub-result g c =
 
 pub size-requires-in-ReplaceFile : goal.size-requires-in-ReplaceFile
 size-requires-in-ReplaceFile g c =
-    let is : c.args.request.now ≡ ReplaceFile c.first-first.result.now c.unwrap-second-in-ReplaceFile.result.now = search rules in
-    (replaced _ _ _ _ c.requires is).first
+    (replaced _ _ _ _ c.requires c.in-ReplaceFile.is).first
 
 pub size-requires-in-ReplaceFile-2 : goal.size-requires-in-ReplaceFile-2
 size-requires-in-ReplaceFile-2 g c =
-    let is : c.args.request.now ≡ ReplaceFile c.first-first.result.now c.unwrap-second-in-ReplaceFile.result.now = search rules in
-    (replaced _ _ _ _ c.requires is).second
+    (replaced _ _ _ _ c.requires c.in-ReplaceFile.is).second
 
 pub overflow_add-result : goal.overflow_add-result
 overflow_add-result g c =
@@ -42,28 +37,24 @@ overflow_add-result g c =
 
 pub returns-in-CreateFile : goal.returns-in-CreateFile
 returns-in-CreateFile g c =
-    let is : (c.args.request.now ≡ CreateFile c.first-first.result.now) ⊎ (c.args.request.now ≡ CreateDirectory c.first-first.result.now) = search rules in
-    let row = made_takes _ _ _ c.requires is in
-    rw row.0 (rw row.1 (grind (arith, nat_tests, c.free.ensures.value)))
+    let row = made_takes _ _ c.requires c.in-CreateFile.is in
+    rw row.0 (rw row.1 (grind (arith, nat_tests, c.free-in-CreateFile.ensures.value)))
 
 pub returns-in-AppendFile : goal.returns-in-AppendFile
 returns-in-AppendFile g c =
-    let is : c.args.request.now ≡ AppendFile c.first-first.result.now c.unwrap-second.result.now = search rules in
-    let row = (appended _ _ _ _ c.requires is).row in
+    let row = (appended _ _ _ _ c.requires c.in-AppendFile.is).row in
     let both = blocks_of_both _ _ _ _ _ c.blocks_of.ensures c.size-size.ensures.value c.size.ensures.value in
     let one = blocks_of_one _ _ _ c.blocks_of-in-AppendFile.ensures c.size-size.ensures.value in
-    rw row.taken (rw row.given (grind (arith, nat_tests, both, one, c.free-in-AppendFile.ensures.value)))
+    rw row.taken (rw row.given (grind (arith, nat_tests, both, one, c.free.ensures.value)))
 
 pub returns-in-ReplaceFile : goal.returns-in-ReplaceFile
 returns-in-ReplaceFile g c =
-    let is : c.args.request.now ≡ ReplaceFile c.first-first.result.now c.unwrap-second-in-ReplaceFile.result.now = search rules in
     let given = blocks_of_one _ _ _ c.blocks_of-given.ensures c.size-in-ReplaceFile.ensures.value in
     let taken = blocks_of_one _ _ _ c.blocks_of-in-ReplaceFile.ensures c.size-in-ReplaceFile-2.ensures.value in
-    (λ i. nat_le (taken i) (c.free-in-ReplaceFile.ensures.value i + given i)) ∙ replace_room _ _ _ _ _ (replaced _ _ _ _ c.requires is)
+    (λ i. nat_le (taken i) (c.free-in-ReplaceFile.ensures.value i + given i)) ∙ replace_room _ _ _ _ _ (replaced _ _ _ _ c.requires c.in-ReplaceFile.is)
 
 pub returns-in_default : goal.returns-in_default
 returns-in_default g c =
-    let none = takes_nothing _ _ c.requires (λ e. c.in_default.not-CreateFile (c.action.ensures ∙ e))
-    (λ e. c.in_default.not-CreateDirectory (c.action.ensures ∙ e)) (λ e. c.in_default.not-AppendFile (c.action.ensures ∙ e))
-    (λ e. c.in_default.not-ReplaceFile (c.action.ensures ∙ e)) in
+    let none = takes_nothing _ _ c.requires c.in_default.not-CreateFile c.in_default.not-CreateDirectory c.in_default.not-AppendFile
+    c.in_default.not-ReplaceFile in
     sym (le-leb _ _ (omega (arith, none)))
