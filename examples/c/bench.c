@@ -646,6 +646,8 @@ static void prepare_inside(uint32_t count) {
     add_request(DENY_FILE, "e/x", NULL);
 }
 
+#include "bench_receiver.h"
+
 /* ---- the workloads */
 
 struct workload {
@@ -716,6 +718,21 @@ static const struct workload workloads[] = {
     {"long-list", 1, LIVE, LIVE, RISING, prepare_long, admit, check_nothing},
     {"cancel-list", 1, LIVE, LIVE, RISING, prepare_live, cancel_list, check_nothing},
     {"free-live", 1, LIVE, LIVE, RISING, prepare_live, free_engine, check_gone},
+    /* the size: other transactions of a receiver */
+    {"receiver-metadata", 1, LIVE, LIVE, RISING, prepare_heard_metadata, hear_one, check_receiver},
+    {"receiver-data", 1, LIVE, LIVE, RISING, prepare_heard_data, hear_one, check_receiver},
+    {"receiver-eof", 1, LIVE, LIVE, RISING, prepare_heard_eof, hear_one, check_receiver},
+    {"receiver-ack", 1, LIVE, LIVE, RISING, prepare_heard_ack, hear_ack, check_receiver},
+    {"receiver-expire", 1, LIVE, LIVE, RISING, prepare_expire, expire, check_receiver},
+    {"receiver-deadline", 1, LIVE, LIVE, RISING, prepare_expire, ask_deadline, check_receiver},
+    {"receiver-work", 1, LIVE, LIVE, RISING, prepare_work, work, check_receiver},
+    {"receiver-finish", 1, LIVE, LIVE, RISING, prepare_finish, finish, check_receiver},
+    {"receiver-write", 1, LIVE, LIVE, RISING, prepare_write, write_one, check_receiver},
+    {"receiver-cancel", 1, LIVE, LIVE, RISING, prepare_receiver_cancel, cancel_heard, check_receiver},
+    {"receiver-forget", 1, LIVE, LIVE, RISING, prepare_write, forget, check_receiver},
+    {"receiver-free", 1, LIVE, LIVE, RISING, prepare_receiver_cancel, free_receiver, check_gone},
+    /* the size: blocks of the filestore */
+    {"receiver-new", 16, 65536, 65536, RISING, make_engine, open_receiver, check_receiver},
     /* the size: lists */
     {"lists", 20, 2000, 100000, RISING, prepare_lists, run_lists, check_nothing},
 };

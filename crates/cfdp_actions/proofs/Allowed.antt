@@ -258,9 +258,8 @@ performs prefixes F free request h unbarred fits =
     ∙ ap (λ b. (if b then table F request else denied_outcome (Perform request)).answer) fits
     ∙ successful F request h
 
-pub takes_nothing : (F : Filestore) (request : Request) → Allowed F request → ((p : Path) → request ≢ CreateFile p) →
-    ((p : Path) → request ≢ CreateDirectory p) → ((p q : Path) → request ≢ AppendFile p q) → ((p q : Path) → request ≢ ReplaceFile p q) →
-    (table F request).taken ≡ 0
+pub takes_nothing : (F : Filestore) (request : Request) → Allowed F request → ((p : Path) → request ≢ CreateFile p) → ((p : Path) → request
+    ≢ CreateDirectory p) → ((p q : Path) → request ≢ AppendFile p q) → ((p q : Path) → request ≢ ReplaceFile p q) → (table F request).taken ≡ 0
 takes_nothing F (CreateFile p) h file directory append replace = absurd (file p refl)
 takes_nothing F (DeleteFile p) h file directory append replace = (removed F (DeleteFile p) p h (inl refl)).row.taken
 takes_nothing F (RenameFile p q) h file directory append replace = (moved F (RenameFile p q) p q h refl).row.taken

@@ -10,8 +10,9 @@ use Rattle.cfdp_paths.specs.Paths.{Path, path_cmp, same_path}
 use Rattle.cfdp_paths.specs.PathMaps.{without}
 use Rattle.cfdp_paths.proofs.Comparing.{path_cmp-total}
 use Rattle.cfdp_actions.specs.Filestore.{Node, Filestore, node_at, staged_in, blocks_of, weight, weights, blocks, Becomes, Stages, changed}
-use Rattle.cfdp_actions.proofs.StoreLaws.{true_from_T, remove_is}
+use Rattle.cfdp_actions.proofs.StoreLaws.{remove_is}
 use Rattle.cfdp_actions.proofs.WeighedLaws.{weights-put, weights-without}
+use Rattle.cfdp_paths.proofs.InOrder.{true_from_T}
 
 module _ (m : finite.FinMap path_cmp Node) where
   nodes_sorted : is_sorted path_cmp (finite.entries m) ≡ true

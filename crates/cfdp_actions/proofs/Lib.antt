@@ -3,6 +3,7 @@ pub mod RowLaws
 pub mod WeighedLaws
 pub mod ShownLaws
 pub mod SurveyLaws
+pub mod BesideLaws
 pub mod StagedLaws
 pub mod StoreLaws
 pub mod Refusing

@@ -15,11 +15,13 @@ use Rattle.cfdp_actions.specs.Filestore.{Node, Filestore, node_at, weight, weigh
 use Rattle.cfdp_status.specs.declared.action.Action.TheVariants as action
 use Rattle.cfdp_status.specs.declared.status.Status.TheVariants.{NotAllowed}
 use Rattle.cfdp_actions.specs.Actions.{refused, succeeds, vacating, settled, is_tree_too_deep, rename}
-use Rattle.cfdp_actions.proofs.Order.{paths_exact, same_path-true, same_path-refl, node_at-becomes, node_at-becomes_apart}
+use Rattle.cfdp_actions.proofs.Order.{same_path-true, same_path-refl, node_at-becomes, node_at-becomes_apart}
 use Rattle.cfdp_actions.proofs.Weights.{entries-retain_keys, sorted_rest, find_later}
-use Rattle.cfdp_actions.proofs.Prefixes.{rebased-below, rebased_back, same_rebased, length-parent, parent_below}
+use Rattle.cfdp_actions.proofs.Prefixes.{rebased-below, rebased_back, same_rebased, length-parent}
 use Rattle.cfdp_actions.proofs.Growth.{Grows, grows_one}
 use Rattle.cfdp_actions.proofs.Order.{paths_total}
+use Rattle.cfdp_paths.proofs.Below.{parent_of_below}
+use Rattle.cfdp_paths.proofs.InOrder.{path_antisym}
 
 not_none : {A : Type 0} (x : A) → Some x ≢ None
 not_none x e = true≢false (ap is_some e)
@@ -46,7 +48,7 @@ below_absent F q rooted named none (suc k) (n ∷ x) le below =
     none_unless _ (λ there.
     let good = (and_parts (not (is_root (n ∷ x))) (is_good F (parent (n ∷ x))) (rooted (n ∷ x) there)).1 in
     let apart : n ∷ x ≢ q = λ e. true≢false (sym there ∙ ap is_some (ap (node_at F) e ∙ none)) in
-    let up = parent_below (n ∷ x) q below apart in
+    let up = parent_of_below (n ∷ x) q below apart in
     let above = below_absent F q rooted named none k (parent (n ∷ x)) (subst (λ l. l ≤ k) (sym (length-parent n x)) (omega arith)) up in
     stands (parent (n ∷ x)) good up above)
   where
@@ -77,14 +79,14 @@ kept_pass p (e ∷ es) =
     ] refl
 
 pub tree_at-all : (F : Filestore) (p : Path) → AllBelow p (tree_at F p)
-tree_at-all F p = subst (AllBelow p) (sym (entries-retain_keys paths_total paths_exact F.nodes (λ q. is_at_or_below q p))) (kept_pass p (entries F.nodes))
+tree_at-all F p = subst (AllBelow p) (sym (entries-retain_keys paths_total path_antisym F.nodes (λ q. is_at_or_below q p))) (kept_pass p (entries F.nodes))
 
 pub tree_at-sorted : (F : Filestore) (p : Path) → T (is_sorted path_cmp (tree_at F p))
 tree_at-sorted F p = entries_sorted (retain_keys F.nodes (λ q. is_at_or_below q p))
 
 pub find-tree_at : (F : Filestore) (p x : Path) → find path_cmp x (tree_at F p) ≡ cond (is_at_or_below x p) (node_at F x) None
 find-tree_at F p x = sym (get-entries (retain_keys F.nodes (λ q. is_at_or_below q p)) x)
-    ∙ get-retain_keys F.nodes (λ q. is_at_or_below q p) x (λ y e. ap (λ z. is_at_or_below z p) (sym (paths_exact x y e)))
+    ∙ get-retain_keys F.nodes (λ q. is_at_or_below q p) x (λ y e. ap (λ z. is_at_or_below z p) (sym (path_antisym x y e)))
 
 -- ---- vacated
 

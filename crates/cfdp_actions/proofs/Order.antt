@@ -1,27 +1,25 @@
 -- The order of paths, and what is at a path after one change.
---     paths_total, paths_exact                  the order is total, and distinguishes all paths
+--     paths_total                               the order is total
 --     same_path-refl, same_path-true, ..        the test of two paths
 --     node_at-becomes                           after one change of a path
 use Rattle.std.proofs.Common.{◌≡◌, refl, sym, ◌∙◌, ap, subst, true, false, cond, Option, Some, None, Ordering, Less, Equal, Greater, is_eq, true≢false}
 use Rattle.std.specs.Cmp.{IsTotalOrder, eq_by_cmp_equiv}
 use Rattle.std.specs.Cmp.Lexicographic.{lists_total, nat_list_cmp_total}
-use Rattle.std.specs.FinMap.{IsAntisymmetric, slice_cmp-IsAntisymmetric, nat_cmp-IsAntisymmetric, get-insert, get-remove}
+use Rattle.std.specs.FinMap.{get-insert, get-remove}
 use Rattle.cfdp_paths.specs.Paths.{Path, path_cmp, same_path}
 use Rattle.cfdp_actions.specs.Filestore.{Node, Filestore, node_at, Becomes, changed}
+use Rattle.cfdp_paths.proofs.InOrder.{path_antisym}
 
 pub paths_total : IsTotalOrder path_cmp
 paths_total = lists_total nat_list_cmp_total
 
-pub paths_exact : IsAntisymmetric path_cmp
-paths_exact = slice_cmp-IsAntisymmetric (slice_cmp-IsAntisymmetric nat_cmp-IsAntisymmetric)
-
-tied : (r : Ordering) → is_eq r ≡ true → r ≡ Equal
+pub tied : (r : Ordering) → is_eq r ≡ true → r ≡ Equal
 tied Less e = absurd (true≢false (sym e))
 tied Equal e = refl
 tied Greater e = absurd (true≢false (sym e))
 
 pub same_path-true : (p q : Path) → same_path p q ≡ true → p ≡ q
-same_path-true p q e = paths_exact p q (tied (path_cmp p q) e)
+same_path-true p q e = path_antisym p q (tied (path_cmp p q) e)
 
 pub same_path-refl : (p : Path) → same_path p p ≡ true
 same_path-refl p = (eq_by_cmp_equiv paths_total).refl p

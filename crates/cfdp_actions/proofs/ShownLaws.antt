@@ -23,6 +23,7 @@ use Rattle.cfdp_actions.specs.Store.{kind_of, kind_in}
 use Rattle.cfdp_actions.specs.code.Listed.{Entries, content_node, shown_entries, entry_found}
 use Rattle.cfdp_actions.specs.declared.content.Content.{Content}
 use Rattle.cfdp_actions.specs.declared.kind.Kind.{Kind}
+use Rattle.cfdp_actions.proofs.Order.{same_path-symm}
 
 abbrev shown_entry : Path × Content → Path × Node
 shown_entry e = (e.0, content_node e.1)
@@ -126,22 +127,13 @@ shown_twice k x w es es1 es2 first second =
     ap shown_entries second ∙ shown_put k x es1 ∙ ap (put path_cmp k (content_node x)) (ap shown_entries first ∙ shown_put k w es) ∙ put-put k (content_node x)
     (content_node w) (shown_entries es)
 
-pub same_path-comm : (p q : Path) → same_path p q ≡ same_path q p
-same_path-comm p q = both_ways (same_path p q) (same_path q p) (λ h. (same_path-Decides q p).1 (sym ((same_path-Decides p q).0 h)))
-    (λ h. (same_path-Decides p q).1 (sym ((same_path-Decides q p).0 h)))
-  where
-    both_ways : (a b : Bool) → (a ≡ true → b ≡ true) → (b ≡ true → a ≡ true) → a ≡ b
-    both_ways true b f g = sym (f refl)
-    both_ways false true f g = g refl
-    both_ways false false f g = refl
-
 -- the octets at q, which may be those of k, at which something else was put
 pub second_octets : (b : Bool) (k q : Path) (w : Content) (es es1 : Entries) (octets : List ℕ) → b ≡ same_path k q → es1 ≡ put path_cmp k w es → octets
     ≡ octets_in (entry_found es k)
     → (if b then octets else octets_in (entry_found es1 q)) ≡ octets_in (entry_found es q)
 second_octets true k q w es es1 octets e first front = front ∙ ap (λ p. octets_in (entry_found es p)) ((same_path-Decides k q).0 (sym e))
 second_octets false k q w es es1 octets e first front = ap (λ ys. octets_in (entry_found ys q)) first
-    ∙ ap octets_in (found_other k q w es (same_path-comm q k ∙ sym e))
+    ∙ ap octets_in (found_other k q w es (same_path-symm q k ∙ sym e))
 
 is_some-map : (o : Option Content) → is_some (option_map content_node o) ≡ is_some o
 is_some-map None = refl

@@ -5,7 +5,7 @@
 --     gone_store, gone_kept             one path taken out
 --     moved_store, moved_kept           all at and below a path moved
 --     staged_store, staged_kept         one staged list changed
-use Rattle.std.proofs.Common.{◌≡◌, ◌≢◌, ℕ, zero, suc, ◌+◌, ◌-◌, ◌*◌, ◌<◌, ◌≤◌, Bool, true, false, not, if◌then◌else◌, ◌&&◌, ◌||◌, ◌==◌, List, [], ◌∷◌, ◌++◌, Option, Some, None, is_some, length, map, take, set, get_or, sum_by, replicate, refl, sym, ap, ◌∙◌, arith, length-take, T, Vec}
+use Rattle.std.proofs.Common.{◌≡◌, ◌≢◌, ℕ, zero, suc, ◌+◌, ◌-◌, ◌*◌, ◌<◌, ◌≤◌, Bool, true, false, not, if◌then◌else◌, ◌&&◌, ◌||◌, ◌==◌, List, [], ◌∷◌, ◌++◌, Option, Some, None, is_some, length, map, take, set, get_or, sum_by, replicate, refl, sym, ap, ◌∙◌, arith, length-take, Vec}
 use Rattle.std.specs.declared.alloc.Global.{Global}
 use Rattle.std.specs.FinMap as finite
 use Rattle.std.specs.FinMap.{find, put, is_sorted, entries-from_sorted, get-from_sorted, entries-insert, get-remove, get-retain_keys, same_map, same_entries_map}
@@ -23,23 +23,21 @@ use Rattle.cfdp_paths.specs.Paths.{Path, path_cmp, same_path, is_at_or_below, is
 use Rattle.cfdp_paths.specs.PathMaps.{without, tree_in, rest_in, any_below, puts, moved_to}
 use Rattle.cfdp_paths.proofs.Below.{parent-take}
 use Rattle.cfdp_paths.proofs.Comparing.{path_cmp-total}
-use Rattle.cfdp_paths.proofs.InOrder.{path_antisym, ordered-put, ordered-where}
+use Rattle.cfdp_paths.proofs.InOrder.{path_antisym, ordered-put, ordered-where, true_from_T}
 use Rattle.cfdp_paths.proofs.Moving.{ordered-puts}
-use Rattle.cfdp_actions.specs.Filestore.{Node, Directory, File, Filestore, node_at, staged_in, blocks_of, weight, weights, blocks, Change, Becomes, Stages, changed, after, inside, has_entries, is_directory, is_file, octets_in, is_good, is_root, parent_is_good, tree_at}
+use Rattle.cfdp_actions.specs.Filestore.{Node, Directory, File, Filestore, node_at, staged_in, blocks_of, weight, weights, blocks, Becomes, Stages, changed, after, inside, has_entries, is_beside, inside_beside, has_beside, deepest_of, deepest_beside, is_directory, is_file, octets_in, is_good, is_root, parent_is_good, tree_at}
 use Rattle.cfdp_actions.specs.Actions.{vacating, settled}
 use Rattle.cfdp_actions.specs.Store.{Store, free_blocks, with_changes}
 use Rattle.cfdp_actions.specs.Listed.{vector_octets}
 use Rattle.cfdp_actions.specs.code.Listed.{Entries, shown_entries, entry_found, blocks_in, nodes_of, listed_store, IsListed}
-use Rattle.cfdp_actions.proofs.ShownLaws.{same_path-comm, file_there}
+use Rattle.cfdp_actions.proofs.ShownLaws.{file_there}
 use Rattle.cfdp_actions.proofs.SurveyLaws.{blocks_of-bound, lists_blocks}
 use Rattle.cfdp_actions.proofs.WeighedLaws.{weights-put, weights-without, weights-relocated-le, weights-relocated}
-
-pub true_from_T : (b : Bool) → T b → b ≡ true
-true_from_T true h = refl
-true_from_T false h = absurd h
+use Rattle.cfdp_actions.proofs.Moves.{after-append}
+use Rattle.cfdp_actions.proofs.Order.{same_path-symm}
 
 -- a test answers alike at paths that tie
-alike : (test : Path → Bool) (q x : Path) → path_cmp q x ≡ Equal → test x ≡ test q
+pub alike : (test : Path → Bool) (q x : Path) → path_cmp q x ≡ Equal → test x ≡ test q
 alike test q x e = ap test (sym (path_antisym q x e))
 
 -- ---- lists in order as maps
@@ -77,7 +75,7 @@ remove_is es k s =
     let test : Path → Bool = λ x. not (same_path k x) in
     same_map path_cmp-total path_antisym _ _ (λ q.
     get-remove path_cmp-total (finite.from_sorted es) k q
-    ∙ ap (λ b. if b then None else finite.get (finite.from_sorted {R = path_cmp} es) q) (same_path-comm q k)
+    ∙ ap (λ b. if b then None else finite.get (finite.from_sorted {R = path_cmp} es) q) (same_path-symm q k)
     ∙ sym (turned (same_path k q) (finite.get (finite.from_sorted {R = path_cmp} es) q) None)
     ∙ ap (λ o. if not (same_path k q) then o else None) (get-from_sorted path_cmp es q t)
     ∙ sym (find-where_key path_cmp test q (alike test q) es)
@@ -92,10 +90,6 @@ removes m (e ∷ es) = removes (finite.remove m e.0) es
 inserts : finite.FinMap path_cmp Node → List (Path × Node) → finite.FinMap path_cmp Node
 inserts m [] = m
 inserts m (e ∷ es) = inserts (finite.insert m e.0 e.1) es
-
-after-append : (F : Filestore) (cs ds : List Change) → after F (cs ++ ds) ≡ after (after F cs) ds
-after-append F [] ds = refl
-after-append F (c ∷ cs) ds = after-append (changed F c) cs ds
 
 after-vacated : (F : Filestore) (ts : List (Path × Node)) → after F (vacating ts) ≡ record F { nodes = removes F.nodes ts }
 unfolding removes
@@ -174,23 +168,38 @@ lists-each [] i = omega (arith, no_blocks)
 lists-each (x ∷ xs) zero = omega (arith, sum_by-cons (λ octets. blocks_of (length octets)) x xs)
 lists-each (x ∷ xs) (suc i) = omega (arith, sum_by-cons (λ octets. blocks_of (length octets)) x xs, lists-each xs i)
 
-some_more : (n : ℕ) → not (suc n == 0) ≡ true
+pub some_more : (n : ℕ) → not (suc n == 0) ≡ true
 some_more n = grind (arith, nat_tests)
 
-any-where : (es : List (Path × Node)) (p : Path) → not (length (where_key path_cmp (λ q. is_below q p) es) == 0) ≡ list_any (λ e. is_below e.0 p) es
-any-where [] p = refl
-any-where (e ∷ es) p =
-    elim (is_below e.0 p) as (λ b. is_below e.0 p ≡ b → not (length (where_key path_cmp (λ q. is_below q p) (e ∷ es)) == 0)
-    ≡ list_any (λ x. is_below x.0 p) (e ∷ es)) [
-      | true ↦ λ h. rw h (some_more (length (where_key path_cmp (λ q. is_below q p) es)))
-      | false ↦ λ h. rw h (any-where es p)
+any-where : (test : Path → Bool) (es : List (Path × Node)) → not (length (where_key path_cmp test es) == 0) ≡ list_any (λ e. test e.0) es
+any-where test [] = refl
+any-where test (e ∷ es) =
+    elim (test e.0) as (λ b. test e.0 ≡ b → not (length (where_key path_cmp test (e ∷ es)) == 0) ≡ list_any (λ x. test x.0) (e ∷ es)) [
+      | true ↦ λ h. rw h (some_more (length (where_key path_cmp test es)))
+      | false ↦ λ h. rw h (any-where test es)
     ] refl
+
+-- a test that passes no more than another one
+where-where : (test more : Path → Bool) → ((q : Path) → more q ≡ false → test q ≡ false) → (es : List (Path × Node)) →
+    where_key path_cmp test (where_key path_cmp more es) ≡ where_key path_cmp test es
+where-where test more out [] = refl
+where-where test more out (e ∷ es) =
+    elim (more e.0) as (λ b. more e.0 ≡ b → where_key path_cmp test (where_key path_cmp more (e ∷ es)) ≡ where_key path_cmp test (e ∷ es)) [
+      | true ↦ λ h. rw h (ap (λ xs. if test e.0 then e ∷ xs else xs) (where-where test more out es))
+      | false ↦ λ h. rw h (rw (out e.0 h) (where-where test more out es))
+    ] refl
+
+where-inside : (p : Path) (others : List Path) (es : List (Path × Node)) → where_key path_cmp (is_beside others p) (tree_in p es)
+    ≡ where_key path_cmp (is_beside others p) es
+where-inside p others =
+    where-where (is_beside others p) (λ q. is_at_or_below q p)
+    (λ q h. ap (λ b. b && not (same_path q p) && not (list_any (same_path (take (suc (length p)) q)) others)) h)
 
 good-by : (F : Filestore) (es : Entries) (q : Path) → node_at F q ≡ entry_found es q → 1 ≤ length q → is_good F q ≡ is_directory (entry_found es q)
 good-by F es [] e h = absurd (omega arith)
 good-by F es (n ∷ q) e h = ap is_directory e
 
-nonempty : (p : Path) → 1 ≤ length p → is_root p ≡ false
+pub nonempty : (p : Path) → 1 ≤ length p → is_root p ≡ false
 nonempty [] h = absurd (omega arith)
 nonempty (n ∷ p) h = refl
 
@@ -208,7 +217,20 @@ module _ (es : Entries) (staged : List (Vec ℕ Global)) (used capacity : ℕ) (
   has_entries-shown p =
       ap (λ n. not (n == 0)) (finite.len-entries (inside (listed_store es staged capacity).filestore p)
       ∙ ap (λ es. length es) (entries_retained (shown_entries es) (λ q. is_below q p) kept.sorted))
-      ∙ any-where (shown_entries es) p
+      ∙ any-where (λ q. is_below q p) (shown_entries es)
+
+  -- all that is beside others is in the tree
+  pub has_beside-shown : (p : Path) (others : List Path) → has_beside (listed_store es staged capacity).filestore p others
+      ≡ list_any (λ e. is_beside others p e.0) (tree_in p (shown_entries es))
+  has_beside-shown p others =
+      ap (λ n. not (n == 0)) (finite.len-entries (inside_beside (listed_store es staged capacity).filestore p others)
+      ∙ ap (λ es. length es) (entries_retained (shown_entries es) (is_beside others p) kept.sorted ∙ sym (where-inside p others (shown_entries es))))
+      ∙ any-where (is_beside others p) (tree_in p (shown_entries es))
+
+  pub deepest_beside-shown : (p : Path) (others : List Path) → deepest_beside (listed_store es staged capacity).filestore p others
+      ≡ deepest_of (where_key path_cmp (is_beside others p) (tree_in p (shown_entries es)))
+  deepest_beside-shown p others =
+      ap deepest_of (entries_retained (shown_entries es) (is_beside others p) kept.sorted ∙ sym (where-inside p others (shown_entries es)))
 
   pub parent_is_good-shown : (p : Path) → 1 ≤ length (parent p) → 1 ≤ length p → parent_is_good (listed_store es staged capacity).filestore p
       ≡ is_directory (entry_found es (parent p))
@@ -388,6 +410,14 @@ module _ (es : Entries) (staged : List (Vec ℕ Global)) (used capacity : ℕ) (
 
   pub seen_has_entries : (p : Path) → has_entries now.filestore p ≡ any_below p (shown_entries es)
   seen_has_entries p = ap (λ (s : Store). has_entries s.filestore p) (sym view) ∙ has_entries-shown es staged used capacity kept p
+
+  pub seen_has_beside : (p : Path) (others : List Path) → has_beside now.filestore p others
+      ≡ list_any (λ e. is_beside others p e.0) (tree_in p (shown_entries es))
+  seen_has_beside p others = ap (λ (s : Store). has_beside s.filestore p others) (sym view) ∙ has_beside-shown es staged used capacity kept p others
+
+  pub seen_deepest_beside : (p : Path) (others : List Path) → deepest_beside now.filestore p others
+      ≡ deepest_of (where_key path_cmp (is_beside others p) (tree_in p (shown_entries es)))
+  seen_deepest_beside p others = ap (λ (s : Store). deepest_beside s.filestore p others) (sym view) ∙ deepest_beside-shown es staged used capacity kept p others
 
   pub seen_parent : (p : Path) (depth : ℕ) → length p ≡ depth + 1 → depth ≢ 0 → parent_is_good now.filestore p ≡ is_directory (entry_found es (take depth p))
   seen_parent p depth long some =

@@ -11,7 +11,8 @@ use Rattle.std.specs.FinMap.{FinMap, IsAntisymmetric, entries, entries_sorted, g
 use Rattle.std.specs.FinMap.Entries.{by_order, below_all, is_sorted, is_sorted-where_key, find, find-where_key, put, where_key, same_entries}
 use Rattle.cfdp_paths.specs.Paths.{Path, path_cmp, same_path}
 use Rattle.cfdp_actions.specs.Filestore.{Node, Filestore, node_at, staged_in, blocks_of, weight, weights, blocks, Becomes, Stages, changed}
-use Rattle.cfdp_actions.proofs.Order.{paths_total, paths_exact, same_path-symm, same_path-true}
+use Rattle.cfdp_actions.proofs.Order.{paths_total, same_path-symm, same_path-true}
+use Rattle.cfdp_paths.proofs.InOrder.{T_from_true, path_antisym}
 
 first : (a b : Bool) → T (a && b) → T a
 first true b p = tt
@@ -33,10 +34,6 @@ module _ {K X : Type 0} {R : K → K → Ordering} (o : IsTotalOrder R) (exact :
       ∙ ap (λ v. cond (p q) v None) (get-entries m q) ∙ sym (find-where_key R p q (λ x e. ap p (sym (exact q x e))) (entries m)))
 
 -- ---- entries in path order
-
-pub rises : (b : Bool) → b ≡ true → T b
-rises true h = tt
-rises false h = absurd (true≢false (sym h))
 
 module _ {X : Type 0} where
   pub below_rest : (e : Path × X) (es : List (Path × X)) → T (is_sorted path_cmp (e ∷ es)) → T (below_all path_cmp e.0 es)
@@ -62,7 +59,7 @@ module _ {X : Type 0} where
       subst (λ r. T (is_lt r && below_all path_cmp x es)) (sym here) rest
 
   pub below_tied : (x y : Path) (es : List (Path × X)) → path_cmp x y ≡ Equal → T (below_all path_cmp y es) → T (below_all path_cmp x es)
-  below_tied x y es p h = subst (λ z. T (below_all path_cmp z es)) (sym (paths_exact x y p)) h
+  below_tied x y es p h = subst (λ z. T (below_all path_cmp z es)) (sym (path_antisym x y p)) h
 
   -- the others are left as they are
   nothing_left : (k : Path) (es : List (Path × X)) → T (below_all path_cmp k es) → where_key path_cmp (λ x. not (eq_by_cmp path_cmp k x)) es ≡ es
@@ -74,11 +71,11 @@ module _ {X : Type 0} where
 
   -- in a map
   pub entries-remove : (m : FinMap path_cmp X) (k : Path) → entries (remove m k) ≡ where_key path_cmp (λ x. not (eq_by_cmp path_cmp k x)) (entries m)
-  entries-remove m k = same_entries path_cmp paths_total paths_exact _ _ (entries_sorted (remove m k))
+  entries-remove m k = same_entries path_cmp paths_total path_antisym _ _ (entries_sorted (remove m k))
       (is_sorted-where_key path_cmp _ (entries m) (entries_sorted m)) (λ q.
       sym (get-entries (remove m k) q) ∙ get-remove paths_total m k q ∙ turned (eq_by_cmp path_cmp q k) (eq_by_cmp path_cmp k q) (same_path-symm q k) (get m q)
       ∙ ap (λ v. cond (not (eq_by_cmp path_cmp k q)) v None) (get-entries m q)
-      ∙ sym (find-where_key path_cmp (λ x. not (eq_by_cmp path_cmp k x)) q (λ x e. ap (λ x. not (eq_by_cmp path_cmp k x)) (sym (paths_exact q x e)))
+      ∙ sym (find-where_key path_cmp (λ x. not (eq_by_cmp path_cmp k x)) q (λ x e. ap (λ x. not (eq_by_cmp path_cmp k x)) (sym (path_antisym q x e)))
       (entries m)))
     where
       turned : (a b : Bool) → a ≡ b → (v : Option X) → cond a None v ≡ cond (not b) v None

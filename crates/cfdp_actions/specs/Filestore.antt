@@ -9,15 +9,20 @@
 --     Change, changed, after      what is at a path, or is staged in a slot, from now on;  one change, and several
 --                                 in turn
 --     inside F p, has_entries     what is strictly below p;  whether anything is there
+--     is_beside others p q        q is strictly below p, and not by way of a child of p that is among others
+--     inside_beside F p others    what is so below p
+--     has_beside                  whether anything is there
 --     is_directory, is_file       of what is at a path
 --     octets_in, file_octets_at   the octets of a file, none where there is no file
 --     is_good, parent_is_good     whether a path, or its parent, is the root or a directory
 --     IsRooted                    each path's parent is the root or a directory
 --     tree_at F p, deepest_of     p and all that is below it, in order;  the names of the longest path of some
 --                                 entries
-use Rattle.std.specs.Prelude.{ℕ, ◌+◌, ◌/◌, Bool, true, false, not, ◌&&◌, ◌==◌, IsTrue, IsSome, max, List, [], ◌∷◌, Option, Some, None, length, sum_by, slice_index_or, slice_set, replicate}
+--     deepest_beside F p others   the names of the longest path below p, but for what is below others
+use Rattle.std.specs.Prelude.{ℕ, suc, ◌+◌, ◌/◌, Bool, true, false, not, ◌&&◌, ◌==◌, IsTrue, IsSome, max, List, [], ◌∷◌, Option, Some, None, length, take, sum_by, slice_index_or, slice_set, replicate}
+use Rattle.std.specs.List.{list_any}
 use Rattle.std.specs.FinMap as finite
-use Rattle.cfdp_paths.specs.Paths.{Path, path_cmp, is_at_or_below, is_below, parent}
+use Rattle.cfdp_paths.specs.Paths.{Path, path_cmp, same_path, is_at_or_below, is_below, parent}
 
 pub data Node : Type 0 where
   Directory : Node
@@ -81,6 +86,16 @@ inside F p = finite.retain_keys F.nodes (λ q. is_below q p)
 abbrev pub has_entries : Filestore → Path → Bool
 has_entries F p = not (finite.len (inside F p) == 0)
 
+-- strictly below p: the child of p on the way to q is not among others
+abbrev pub is_beside : List Path → Path → Path → Bool
+is_beside others p q = is_below q p && not (list_any (same_path (take (suc (length p)) q)) others)
+
+abbrev pub inside_beside : Filestore → Path → List Path → finite.FinMap path_cmp Node
+inside_beside F p others = finite.retain_keys F.nodes (is_beside others p)
+
+abbrev pub has_beside : Filestore → Path → List Path → Bool
+has_beside F p others = not (finite.len (inside_beside F p others) == 0)
+
 abbrev pub is_directory : Option Node → Bool
 is_directory None = false
 is_directory (Some Directory) = true
@@ -124,3 +139,7 @@ tree_at F p = finite.entries (finite.retain_keys F.nodes (λ q. is_at_or_below q
 abbrev pub deepest_of : List (Path × Node) → ℕ
 deepest_of [] = 0
 deepest_of (e ∷ es) = max (length e.0) (deepest_of es)
+
+-- 0 where nothing is there
+abbrev pub deepest_beside : Filestore → Path → List Path → ℕ
+deepest_beside F p others = deepest_of (finite.entries (inside_beside F p others))

@@ -3,7 +3,7 @@
 ghost use Rattle.std.specs.Prelude.{◌≡◌, ◌≢◌, ℕ, ◌+◌, ◌-◌, ◌*◌, ◌<◌, ◌≤◌, ◌==◌, Bool, true, false, not, if◌then◌else◌, IsTrue, IsFalse, IsSome, IsNone, IsOk, IfOk, OnOk, OnErr, Option, Some, None, List, [], ◌∷◌, ◌++◌, length, map, slice_range, is_none};
 ghost use Rattle.cfdp_checksum.specs.Checksum.{checksum};
 ghost use Rattle.cfdp_paths.specs.Paths.{same_path, is_at_or_below};
-ghost use Rattle.cfdp_actions.specs.Filestore.{Node, File, Directory, node_at, staged_in, blocks_of, weight, blocks, Becomes, Stages, has_entries, is_directory, is_file, octets_in, file_octets_at, parent_is_good, tree_at, deepest_of};
+ghost use Rattle.cfdp_actions.specs.Filestore.{Node, File, Directory, node_at, staged_in, blocks_of, weight, blocks, Becomes, Stages, has_entries, is_directory, is_file, octets_in, file_octets_at, parent_is_good, tree_at, deepest_of, has_beside, deepest_beside};
 ghost use Rattle.cfdp_actions.specs.Actions.{is_tree_too_deep, vacating, settled};
 ghost use Rattle.cfdp_actions.specs.Store.{Store, free_blocks, with_changes, kind_at, extended, overwritten, listing_of, standings_of};
 
@@ -35,6 +35,11 @@ pub trait Filestore: Drop {
     fn has_entries(&self, path: &Path) -> bool
         ensures { result ≡ has_entries (state self.now).filestore path.now };
 
+    /// Whether anything is below the path, apart from those of its children that are among `others` and all that is
+    /// below them. Other paths among `others` leave nothing out.
+    fn has_beside(&self, path: &Path, others: &[Path]) -> bool
+        ensures { result ≡ has_beside (state self.now).filestore path.now others.now };
+
     /// How many octets a file has: at most 7,864,320, the payload of 65,536 blocks.
     fn size(&self, path: &Path) -> u64
         requires { IsTrue (is_file (node_at (state self.now).filestore path.now)) }
@@ -59,6 +64,12 @@ pub trait Filestore: Drop {
     fn deepest(&self, path: &Path) -> u8
         requires { IsSome (node_at (state self.now).filestore path.now) }
         ensures value { result ≡ deepest_of (tree_at (state self.now).filestore path.now) }
+        ensures within { result ≤ 8 };
+
+    /// The number of names of the longest path of those that `has_beside` asks for: at most 8, and 0 where there is
+    /// none.
+    fn deepest_beside(&self, path: &Path, others: &[Path]) -> u8
+        ensures value { result ≡ deepest_beside (state self.now).filestore path.now others.now }
         ensures within { result ≤ 8 };
 
     /// How many octets are staged in the slot: 0 where none are, and at most 7,864,320.

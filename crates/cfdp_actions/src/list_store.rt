@@ -20,9 +20,10 @@ pub const SLOTS: usize = 64;
 /// look one up; `free` is one subtraction. `make_file`, `make_dir`, `remove`, and an `install` where nothing was there,
 /// also move the entries after the path, and `rename` a few times those between the two paths and after them. `deepest`
 /// and `standing` go through what is at and below the path, `listing` through the whole list, with all octets for
-/// the checksums. Octets are copied by `read`, `read_staged` and `stage_put`, which copy those that they are asked for,
-/// by `append` and `replace`, which copy the second file's, and where the first file of an `append` or the list of a
-/// `stage_extend` has to move to grow. A staged list is moved into its file, not copied.
+/// the checksums. `has_beside` and `deepest_beside` compare what is below the path with each of the other paths. Octets
+/// are copied by `read`, `read_staged` and `stage_put`, which copy those that they are asked for, by `append` and
+/// `replace`, which copy the second file's, and where the first file of an `append` or the list of a `stage_extend` has
+/// to move to grow. A staged list is moved into its file, not copied.
 #[derive(Drop)]
 pub struct ListStore {
     entries: PathMap<Content>,
@@ -100,6 +101,10 @@ impl Filestore for ListStore {
         self.entries.has_below(path)
     }
 
+    fn has_beside(&self, path: &Path, others: &[Path]) -> bool {
+        entries::any_beside(self.entries.tree(path), path, others)
+    }
+
     fn size(&self, path: &Path) -> u64 {
         octets_at(&self.entries, path).len() as u64
     }
@@ -114,6 +119,10 @@ impl Filestore for ListStore {
 
     fn deepest(&self, path: &Path) -> u8 {
         entries::deepest(self.entries.tree(path))
+    }
+
+    fn deepest_beside(&self, path: &Path, others: &[Path]) -> u8 {
+        entries::deepest_beside(self.entries.tree(path), path, others)
     }
 
     fn staged_size(&self, slot: u8) -> u64 {

@@ -24,14 +24,14 @@ live_count-taken (None ∷ rest) zero octets within free = refl
 live_count-taken (Some x ∷ rest) (suc block) octets within free = omega (arith, live_count-taken rest block octets (omega arith) free)
 live_count-taken (None ∷ rest) (suc block) octets within free = live_count-taken rest block octets (omega arith) free
 
-live_count-written : (arena : Blocks) (block : ℕ) (octets : List ℕ) → IsLive arena block → live_count (with_block arena block octets) ≡ live_count arena
+pub live_count-written : (arena : Blocks) (block : ℕ) (octets : List ℕ) → IsLive arena block → live_count (with_block arena block octets) ≡ live_count arena
 live_count-written [] block octets live = refl
 live_count-written (Some x ∷ rest) zero octets live = refl
 live_count-written (None ∷ rest) zero octets live = cc
 live_count-written (Some x ∷ rest) (suc block) octets live = ap (λ n. n + 1) (live_count-written rest block octets live)
 live_count-written (None ∷ rest) (suc block) octets live = live_count-written rest block octets live
 
-live_count-given : (arena : Blocks) (block : ℕ) → IsLive arena block → live_count (without_block arena block) + 1 ≡ live_count arena
+pub live_count-given : (arena : Blocks) (block : ℕ) → IsLive arena block → live_count (without_block arena block) + 1 ≡ live_count arena
 live_count-given [] block live = cc
 live_count-given (Some x ∷ rest) zero live = refl
 live_count-given (None ∷ rest) zero live = cc

@@ -82,8 +82,14 @@ impl ReplyFields {
         ensures { result ≡ refusal_fields id refusal }
     {
         match refusal {
-            Refusal::TooManyRequests => ReplyFields::refused(id, numbers::REFUSAL_TOO_MANY_REQUESTS),
-            Refusal::BadPath(Place::Destination) => ReplyFields::refused(id, numbers::REFUSAL_BAD_DESTINATION),
+            Refusal::TooManyRequests => ReplyFields::refused(
+                id,
+                numbers::REFUSAL_TOO_MANY_REQUESTS,
+            ),
+            Refusal::BadPath(Place::Destination) => ReplyFields::refused(
+                id,
+                numbers::REFUSAL_BAD_DESTINATION,
+            ),
             Refusal::BadPath(Place::Request(number)) => ReplyFields {
                 request: u32::from(number),
                 ..ReplyFields::refused(id, numbers::REFUSAL_BAD_REQUEST_PATH)
@@ -93,7 +99,10 @@ impl ReplyFields {
                 other_number: other.number,
                 ..ReplyFields::refused(id, numbers::REFUSAL_CONFLICT)
             },
-            Refusal::DestinationNotAllowed => ReplyFields::refused(id, numbers::REFUSAL_DESTINATION_NOT_ALLOWED),
+            Refusal::DestinationNotAllowed => ReplyFields::refused(
+                id,
+                numbers::REFUSAL_DESTINATION_NOT_ALLOWED,
+            ),
             Refusal::WouldFail(number, status) => ReplyFields {
                 request: u32::from(number),
                 status: u32::from(status.octet()),

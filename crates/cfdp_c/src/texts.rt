@@ -45,7 +45,9 @@ fn refusal_of(fields: &ReplyFields) -> Option<Refusal>
     match fields.refusal {
         numbers::REFUSAL_TOO_MANY_REQUESTS => Some(Refusal::TooManyRequests),
         numbers::REFUSAL_BAD_DESTINATION => Some(Refusal::BadPath(Place::Destination)),
-        numbers::REFUSAL_BAD_REQUEST_PATH => Some(Refusal::BadPath(Place::Request(small(fields.request)?))),
+        numbers::REFUSAL_BAD_REQUEST_PATH => Some(Refusal::BadPath(Place::Request(small(
+            fields.request,
+        )?))),
         numbers::REFUSAL_CONFLICT => Some(Refusal::Conflict(TransactionId {
             source: fields.other_source,
             number: fields.other_number,

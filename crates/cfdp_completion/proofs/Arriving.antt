@@ -3,7 +3,7 @@ use Rattle.std.proofs.Common.{◌≡◌, ℕ, ◌+◌, ◌*◌, ◌<◌, ◌≤�
 use Rattle.std.specs.List.{AllByRecursion, list_all}
 use Rattle.std.specs.Prelude.{is_some}
 use Rattle.std.proofs.lemmas.List.{length-map, length-take, length-drop}
-use Rattle.std.proofs.lemmas.Bool.{eqb-true, cases_lt, cond_both}
+use Rattle.std.proofs.lemmas.Bool.{eqb-true, cases_lt, cond_both, or_from}
 use Rattle.cfdp_actions.specs.Actions.{Item, Install}
 use Rattle.cfdp_paths.specs.Paths.{Path, path_of}
 use Rattle.cfdp_verifier.specs.Verdict.{Verdict, Grant, Refuse, verdict, Parsed, Good, Bad, parsed, parsed_from, with_file, with_destination}
@@ -39,10 +39,6 @@ no b x y is = ap (λ t. cond t x y) is
 
 not_zero : (n : ℕ) → 0 < n → eqb n 0 ≡ false
 not_zero n some = ne_eqb n 0 (λ z. absurd (omega (arith, some, z)))
-
-both_false : (a b : Bool) → a ≡ false → b ≡ false → (a || b) ≡ false
-both_false true b e f = absurd cc
-both_false false b e f = f
 
 -- ---- a transaction that is receiving
 
@@ -193,7 +189,7 @@ end_completes W u e is file at some =
     ∙ no (eqb (length e.items) 0) _ _ (not_zero (length e.items) some)
     ∙ no (not (has_file e.metadata)) _ _ (ap not has)
     ∙ no (ltb (bound W.config e.metadata) (length u.file) || ltb (length u.file) (length e.received)) _ _
-    (both_false (ltb (bound W.config e.metadata) (length u.file)) (ltb (length u.file) (length e.received))
+    (or_from (ltb (bound W.config e.metadata) (length u.file)) (ltb (length u.file) (length e.received))
     (le-ltb (bound W.config e.metadata) (length u.file) fits) (le-ltb (length u.file) (length e.received) (omega (arith, long))))
     ∙ no (not (is_whole (length u.file) e.received)) _ _
     (ap (λ (r : Received). not (is_whole (length u.file) r)) at.received ∙ ap not (whole_there u.file))

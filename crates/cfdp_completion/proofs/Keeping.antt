@@ -5,12 +5,14 @@ use Rattle.std.proofs.lemmas.List.{get_or-take, get_or-drop}
 use Rattle.std.proofs.lemmas.Bool.{cases_lt}
 use Rattle.cfdp_transactions.specs.Received.{Received, kept_with, brought}
 use Rattle.cfdp_transactions.specs.ReceivedLaws.{octet_at, or_offset}
-use Rattle.cfdp_transactions.proofs.Received.OctetsAndGaps.{first_stays, greatest_end}
+use Rattle.cfdp_transactions.proofs.Received.OctetsAndGaps.{first_stays}
 use Rattle.cfdp_pdus.specs.Values.{FileDataFields}
 use Rattle.cfdp_uploads.specs.Uploads.{UploadFields, IsUpload, piece_of, pieces_of}
 use Rattle.cfdp_uploads.specs.Laws.{IsPart}
 use Rattle.cfdp_uploads.proofs.Pieces.{part, whole}
 use Rattle.cfdp_completion.specs.Delivering.{kept_piece, kept_after, FileIsKept}
+use Rattle.cfdp_transactions.proofs.Received.Writing.{get_behind, get_there}
+use Rattle.cfdp_transactions.proofs.Soundness.Receiving.{kept_within}
 
 -- ---- what a piece brings
 
@@ -22,16 +24,6 @@ brought_before (suc at) (suc i) xs lt = brought_before at i xs (omega arith)
 brought_from : (at i : ℕ) (xs : List ℕ) → brought at xs (at + i) ≡ slice_get xs i
 brought_from zero i xs = let e : 0 + i ≡ i = omega arith in ap (slice_get xs) e
 brought_from (suc at) i xs = let e : suc at + i ≡ suc (at + i) = omega arith in ap (brought (suc at) xs) e ∙ brought_from at i xs
-
-got : (xs : List ℕ) (i : ℕ) → i < length xs → slice_get xs i ≡ Some (get_or xs i 0)
-got [] i lt = absurd (omega arith)
-got (x ∷ xs) zero lt = refl
-got (x ∷ xs) (suc i) lt = got xs i (omega arith)
-
-got_none : (xs : List ℕ) (i : ℕ) → length xs ≤ i → slice_get xs i ≡ None
-got_none [] i le = refl
-got_none (x ∷ xs) zero le = absurd (omega arith)
-got_none (x ∷ xs) (suc i) le = got_none xs i (omega arith)
 
 -- an octet of the file, or none
 abbrev IsOf : List ℕ → Option ℕ → ℕ → Type 0
@@ -50,14 +42,14 @@ brings file piece is i from to =
     let j : ℕ = i - piece.offset in
     let at : piece.offset + j ≡ i = omega arith in
     let lt : j < length piece.octets = omega arith in
-    ap (brought piece.offset piece.octets) (sym at) ∙ brought_from piece.offset j piece.octets ∙ got piece.octets j lt
+    ap (brought piece.offset piece.octets) (sym at) ∙ brought_from piece.offset j piece.octets ∙ get_there piece.octets j lt
     ∙ ap Some (part_octet file piece is j lt) ∙ ap (λ n. Some (get_or file n 0)) at
 
 brought_at_end : (file : List ℕ) (piece : FileDataFields) (i : ℕ) → piece.offset + length piece.octets ≤ i → IsOf file (brought piece.offset piece.octets i) i
 brought_at_end file piece i past =
     let j : ℕ = i - piece.offset in
     let at : piece.offset + j ≡ i = omega arith in
-    inl (ap (brought piece.offset piece.octets) (sym at) ∙ brought_from piece.offset j piece.octets ∙ got_none piece.octets j (omega arith))
+    inl (ap (brought piece.offset piece.octets) (sym at) ∙ brought_from piece.offset j piece.octets ∙ get_behind piece.octets j (omega arith))
 
 brought_part : (file : List ℕ) (piece : FileDataFields) → IsPart file piece → (i : ℕ) → IsOf file (brought piece.offset piece.octets i) i
 brought_part file piece is i =
@@ -79,16 +71,12 @@ either : (file : List ℕ) (a b : Option ℕ) (i : ℕ) → IsOf file a i → Is
 either file None b i first second = second
 either file (Some x) b i first second = first
 
-kept_len : (rs : Received) (at : ℕ) (xs : List ℕ) (long : ℕ) → length rs ≤ long → at + length xs ≤ long → length (kept_with rs at xs) ≤ long
-kept_len rs at [] long le fits = le
-kept_len rs at (x ∷ xs) long le fits = omega (arith, greatest_end rs at x xs)
-
 pub partly_kept : (file : List ℕ) (rs : Received) (piece : FileDataFields) → IsPart file piece → Partly file rs
     → Partly file (kept_with rs piece.offset piece.octets)
 partly_kept file rs piece is partly = record {
   each = λ i. subst (λ (o : Option ℕ). IsOf file o i) (sym (first_stays rs piece.offset piece.octets i))
       (either file (octet_at rs i) (brought piece.offset piece.octets i) i (partly.each i) (brought_part file piece is i));
-  within = kept_len rs piece.offset piece.octets (length file) partly.within is.within;
+  within = kept_within rs piece.offset piece.octets (length file) partly.within is.within;
 }
 
 -- once an octet is there, it stays

@@ -2,7 +2,7 @@
 use Rattle.std.proofs.Common.{◌≡◌, ◌<◌, ◌≤◌, ℕ, zero, suc, ◌+◌, ◌*◌, List, [], ◌∷◌, ◌++◌, length, take, drop, get_or, set, Bool, true, false, ◌&&◌, Ok, Err, refl, sym, ap, ◌∙◌, append_assoc, rules, arith}
 use Rattle.std.specs.Prelude.{All}
 use Rattle.std.specs.List.{flat_map}
-use Rattle.std.proofs.lemmas.Bool.{lt-ltb}
+use Rattle.std.proofs.lemmas.Bool.{lt-ltb, and_from}
 use Rattle.std.proofs.lemmas.List.{take_more, drop_more, drop_at, drop-drop, flat_map_more, set_at}
 use Rattle.byteorder.specs.Endian.{big_bytes, big_number}
 use Rattle.byteorder.specs.Numbers.{length-bytes_high_first, big_number-reads_back}
@@ -91,11 +91,6 @@ ranges_again large (range ∷ ranges) sized =
     let others : drop (pair_len large) (range_octets large range ++ rest) ≡ rest =
     drop_at (range_octets large range) rest (pair_len large) (range_len large range) in
     rw (first, others, ranges_again large ranges (λ k d below. sized (suc k) d (omega arith))) refl
-
--- a scope and requests are whole, and are counted
-both : (a b : Bool) → a ≡ true → b ≡ true → (a && b) ≡ true
-both true b e f = f
-both false b e f = absurd cc
 
 pub are_whole : (large : Bool) (n : ℕ) → are_pairs large (pair_len large * (1 + n)) ≡ true
 are_whole true n = search (rules, arith)

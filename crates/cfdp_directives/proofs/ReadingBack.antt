@@ -13,7 +13,7 @@ use Rattle.cfdp_pdus.specs.declared.header.Header.{Header}
 use Rattle.cfdp_pdus.specs.declared.fault.PduFault.TheVariants.{LengthMismatch, Truncated}
 use Rattle.cfdp_pdus.specs.declared.pdu.Pdu.TheVariants as pdus
 use Rattle.cfdp_tlv.specs.Reading.{◌>>=◌}
-use Rattle.cfdp_pdus.proofs.CanonicalSteps.{number_spelled, pdu_spelled}
+use Rattle.cfdp_pdus.proofs.CanonicalSteps.{number_spelled, pdu_spelled, fss_small}
 use Rattle.cfdp_pdus.proofs.NumberSteps.{number_again}
 use Rattle.cfdp_directives.specs.declared.ack.Ack.{Ack}
 use Rattle.cfdp_directives.specs.declared.ack.TransactionStatus.{TransactionStatus}
@@ -148,10 +148,6 @@ keep_alive_in header keep_alive sized =
     ap (number_at LengthMismatch (fss header.large)) (sym (append-nil octets))
     ∙ number_again LengthMismatch (fss header.large) octets keep_alive.progress [] (number_spelled (fss header.large) keep_alive.progress sized.progress) in
     rw read refl
-
-fss_small : (large : Bool) → fss large ≤ 8
-fss_small true = omega arith
-fss_small false = omega arith
 
 pub keep_alive_reads_back : KeepAliveReadsBack
 unfolding keep_alive_field

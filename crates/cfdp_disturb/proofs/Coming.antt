@@ -6,6 +6,7 @@ use Rattle.cfdp_disturb.specs.declared.draws.Copies.TheVariants.{Lost, Once, Twi
 use Rattle.cfdp_disturb.specs.Disturbing.{Copies, Drawn, both, copies_of, disturbed, is_held, is_pdu_line, said}
 use Rattle.cfdp_disturb.proofs.Taking.{alone}
 use Rattle.cfdp_disturb.specs.Laws.{IsQuiet, QuietIsSame, OthersPart, EachComes, count_of, times_of_line, times_drawn}
+use Rattle.std.proofs.lemmas.Bool.{and_right}
 
 -- nothing happens --------------------------------------------------------------------
 
@@ -39,13 +40,9 @@ said_other : (a : Drawn) → is_pdu_line a.0 ≡ false → said a ≡ a.0 ∷ []
 unfolding said
 said_other a other = ap (λ p. cond p (copies_of a.1.copies a.0) (a.0 ∷ [])) other
 
-not_pdu : (swapped pdu : Bool) → pdu ≡ false → (swapped && pdu) ≡ false
-not_pdu true pdu e = e
-not_pdu false pdu e = refl
-
 loose : (a : Drawn) → is_pdu_line a.0 ≡ false → is_held a ≡ false
 unfolding is_held
-loose a other = not_pdu a.1.swapped (is_pdu_line a.0) other
+loose a other = and_right a.1.swapped (is_pdu_line a.0) other
 
 other_alone : (a : Drawn) (after : List Drawn) → is_pdu_line a.0 ≡ false → disturbed (a ∷ after) ≡ a.0 ∷ disturbed after
 other_alone a after other = alone a after (loose a other) ∙ ap (λ s. s ++ disturbed after) (said_other a other)

@@ -4,7 +4,7 @@ use Rattle.std.specs.Prelude.{Bool, IsTrue, IsFalse}
 use Rattle.cfdp_engine.specs.Journal.{Entry}
 use Rattle.cfdp_engine.specs.Seats.{Receipt, Fault, CountDiffers, SeatTwice, ReceiptDiffers, Seated, SeatsDiffer, IsFirstTwice, AreEntered, AllEntered, IsFirstUnentered, IsFirstDiffering, IsReconciled, IsFirstFault}
 
-both : (b : Bool) → IsTrue b → IsFalse b → ⊥
+pub both : (b : Bool) → IsTrue b → IsFalse b → ⊥
 both b holds fails = cc
 
 twice_apart : (before seats : List Seated) (number : ℕ) → IsFirstTwice before seats number → SeatsDiffer before seats → ⊥

@@ -1,6 +1,6 @@
 -- What a worker hands in, message after message.
 use Rattle.std.proofs.Common.{◌≡◌, ℕ, ◌+◌, ◌≤◌, List, [], ◌∷◌, ◌++◌, min, ◌-◌, ◌^◌, refl, ap, sym, ◌∙◌, subst, append_assoc, append-nil, arith, length-append}
-use Rattle.std.specs.Prelude.{IsTrue, true, false, if◌then◌else◌, Result, Ok, Err, OnErr}
+use Rattle.std.specs.Prelude.{IsTrue, true, false, if◌then◌else◌}
 use Rattle.std.specs.Option.{option_to_list}
 use Rattle.std.specs.Arc.{arc_value}
 use Rattle.std.specs.List.{AllByRecursion}
@@ -98,10 +98,6 @@ begins_none messages.Run = record { more = []; brings = record { steps = tt; few
 
 pub adds_nothing : (m : Message) (old new : Seated) → new ≡ old → AddsReceipts (BeginsOne m) old new
 adds_nothing m old new same = rw same (adds_none (BeginsOne m) old (begins_none m))
-
-pub on_err : {T E : Type 0} (r : Result T E) (P : Type 0) → P → OnErr r P
-on_err (Ok x) P p = tt
-on_err (Err e) P p = p
 
 pub all_more : (ms : List Message) (m : Message) (old mid new : Seated) → AddsReceipts (BringAll ms) old mid → AddsReceipts (Brings m) mid new →
     AddsReceipts (BringAll (ms ++ m ∷ [])) old new

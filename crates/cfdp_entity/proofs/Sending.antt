@@ -15,9 +15,9 @@ use Rattle.cfdp_transactions.specs.Ending.{taken_out}
 use Rattle.cfdp_transactions.specs.Engine.{outcome_when_over, where_any, outcome_in}
 use Rattle.cfdp_transactions.specs.Writable.{FitsReply, IsWritable, longest_finished}
 use Rattle.cfdp_transactions.specs.Fitting.{OnlyWritable}
-use Rattle.cfdp_transactions.specs.Issuing.{taken_by}
-use Rattle.cfdp_transactions.specs.declared.issuing.ShortBuffer.{ShortBuffer}
-use Rattle.cfdp_transactions.specs.declared.issuing.TakenFinished.{TakenFinished}
+use Rattle.cfdp_transactions.specs.FinishedInBuffer.{taken_by}
+use Rattle.cfdp_transactions.specs.declared.finished_in_buffer.ShortBuffer.{ShortBuffer}
+use Rattle.cfdp_transactions.specs.declared.finished_in_buffer.TakenFinished.{TakenFinished}
 use Rattle.cfdp_transactions.proofs.Promises.Fitting.{writable_next}
 use Rattle.cfdp_transactions.specs.Next.{next}
 use Rattle.cfdp_entity.specs.Sending.{sent}

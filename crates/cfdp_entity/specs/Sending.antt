@@ -2,7 +2,7 @@
 --   sent reply                the Finished PDU of the outcome that a reply hands out
 --   IsUntaken W id out why    why the outcome was not handed out: its octets are longer than out, or out of memory
 use Rattle.std.specs.Prelude.{◌≡◌, ⊤, ℕ, ◌<◌, length, List}
-pub use Rattle.cfdp_transactions.specs.Issuing.{sent}
+pub use Rattle.cfdp_transactions.specs.FinishedInBuffer.{sent}
 use Rattle.cfdp_status.specs.declared.transaction.TransactionId.{TransactionId}
 use Rattle.cfdp_transactions.specs.declared.event.Event.TheVariants.{Take}
 use Rattle.cfdp_transactions.specs.World.{World}

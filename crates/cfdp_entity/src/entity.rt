@@ -13,7 +13,7 @@ ghost use Rattle.cfdp_transactions.specs.declared.event.Event.{Event as EventOf}
 ghost use Rattle.cfdp_transactions.specs.declared.event.Event.TheVariants.{Data as DataCame, Eof as EofCame, Cancel as CancelCame, Check as CheckCame, Step as StepCame, Take as TakeCame};
 ghost use Rattle.cfdp_transactions.specs.Beginning.{put_fault, with_node};
 ghost use Rattle.cfdp_transactions.specs.Fitting.{OnlyWritable, only_writable_prop};
-ghost use Rattle.cfdp_transactions.specs.Issuing.{taken_by};
+ghost use Rattle.cfdp_transactions.specs.FinishedInBuffer.{taken_by};
 ghost use Rattle.cfdp_transactions.specs.Next.{next};
 ghost use Rattle.cfdp_transactions.specs.World.{start};
 ghost use Rattle.cfdp_transactions.specs.Needs.{Follows, may_want_memory};

@@ -9,7 +9,7 @@ use Rattle.std.proofs.Common.{◌≡◌, refl, sym, ◌∙◌, ap, subst, ℕ, �
 use Rattle.std.specs.Prelude.{find, slice_get}
 use Rattle.std.specs.List.{prefix_len, AllByRecursion}
 use Rattle.std.specs.FinSet as set
-use Rattle.std.proofs.lemmas.Bool.{cases_Bool, true≢false, eqb-true, and_parts}
+use Rattle.std.proofs.lemmas.Bool.{cases_Bool, true≢false, eqb-true, and_parts, or_left, or_right, or_parts}
 use Rattle.std.proofs.lemmas.List.Elements.{filter-append}
 use Rattle.cfdp_status.specs.declared.transaction.TransactionId.{TransactionId}
 use Rattle.cfdp_paths.specs.Paths.{Path}
@@ -19,10 +19,10 @@ use Rattle.cfdp_leases.specs.declared.leased_paths.Holder.{Holder}
 use Rattle.cfdp_leases.specs.Footprint.{Footprint, leased, is_conflict, reaches}
 use Rattle.cfdp_leases.specs.Leases.{Grants, is_same, holds, without_grant, AreApart}
 use Rattle.cfdp_leases.specs.code.Holders.{when, holders_of, holders_at, others}
-use Rattle.cfdp_leases.proofs.Sets.{path_cmp_total, or_left, or_right, union_cases}
+use Rattle.cfdp_leases.proofs.Sets.{path_cmp_total, union_cases}
 use Rattle.cfdp_leases.proofs.ChangeFrame.{all-append}
 use Rattle.cfdp_leases.proofs.Conflict.{reaches_at}
-use Rattle.cfdp_leases.proofs.Apart.{or_both, is_same-symm}
+use Rattle.cfdp_leases.proofs.Apart.{is_same-symm}
 use Rattle.cfdp_leases.proofs.Held.{same_itself, left, unleased}
 
 abbrev Grant : Type 0
@@ -86,7 +86,7 @@ not_of id g (h ∷ hs) other all = (ap (λ a. is_same a id) all.0 ∙ other, not
 pub strangers : (gs : Grants) (id : TransactionId) (p : Path) → holds gs id ≡ false → AllByRecursion (IsNotOf id) (holders_at gs p)
 strangers [] id p unheld = tt
 strangers (g ∷ gs) id p unheld =
-    let parts = or_both (is_same g.0 id) (holds gs id) unheld in
+    let parts = or_parts (is_same g.0 id) (holds gs id) unheld in
     all-append (IsNotOf id) (holders_of g.0 g.1 p) (holders_at gs p) (not_of id g (holders_of g.0 g.1 p) parts.0 (all_of g.0 g.1 p)) (strangers gs id p parts.1)
 
 all_stay : (id : TransactionId) (hs : List Holder) → AllByRecursion (IsNotOf id) hs → others id hs ≡ hs

@@ -5,7 +5,7 @@ use Rattle.std.proofs.Common.{◌≡◌, refl, sym, ◌∙◌, ap, true, false, 
 use Rattle.std.specs.Prelude.{find}
 use Rattle.std.specs.List.{AllByRecursion}
 use Rattle.std.specs.FinSet as set
-use Rattle.std.proofs.lemmas.Bool.{cases_Bool, true≢false}
+use Rattle.std.proofs.lemmas.Bool.{cases_Bool, true≢false, or_parts}
 use Rattle.std.proofs.lemmas.List.{append-nil}
 use Rattle.cfdp_status.specs.declared.transaction.TransactionId.{TransactionId}
 use Rattle.cfdp_paths.specs.Paths.{Path}
@@ -14,7 +14,7 @@ use Rattle.cfdp_leases.specs.Footprint.{Footprint, leased, is_conflict, reaches}
 use Rattle.cfdp_leases.specs.Leases.{Grants, is_same, AreApart, first_conflict}
 use Rattle.cfdp_leases.specs.code.Holders.{holders_of, holders_at, others}
 use Rattle.cfdp_leases.proofs.Conflict.{reaches_at}
-use Rattle.cfdp_leases.proofs.Apart.{or_both, none_first}
+use Rattle.cfdp_leases.proofs.Apart.{none_first}
 use Rattle.cfdp_leases.proofs.Admitted.{some_is, nobody_of, all_go, same_of, all_of}
 use Rattle.cfdp_leases.proofs.Kept.{all_found}
 
@@ -33,14 +33,14 @@ pub free_before : (gs : Grants) (fp : Footprint) (p : Path) → first_conflict g
 free_before [] fp p free has = refl
 free_before (g ∷ gs) fp p free has =
     let frees = none_first (is_conflict g.1 fp) g (find (λ (k : Grant). is_conflict k.1 fp) gs) free in
-    nobody_of g gs p (unreached fp g.1 p has (or_both (reaches g.1 fp) (reaches fp g.1) frees.0).1) ∙ free_before gs fp p frees.1 has
+    nobody_of g gs p (unreached fp g.1 p has (or_parts (reaches g.1 fp) (reaches fp g.1) frees.0).1) ∙ free_before gs fp p frees.1 has
 
 -- beside a grant that has it as an exclusive path
 nobody_beside : (g : Grant) (gs : Grants) (p : Path) → set.contains g.1.exclusive p ≡ true → AllByRecursion (λ k. is_conflict g.1 k.1 ≡ false) gs →
     holders_at gs p ≡ []
 nobody_beside g [] p has apart = refl
 nobody_beside g (k ∷ gs) p has apart =
-    nobody_of k gs p (unreached g.1 k.1 p has (or_both (reaches g.1 k.1) (reaches k.1 g.1) apart.0).0) ∙ nobody_beside g gs p has apart.1
+    nobody_of k gs p (unreached g.1 k.1 p has (or_parts (reaches g.1 k.1) (reaches k.1 g.1) apart.0).0) ∙ nobody_beside g gs p has apart.1
 
 pub own_only : (gs : Grants) (id : TransactionId) (g : Grant) (p : Path) → AreApart gs → find (λ h. is_same h.0 id) gs ≡ Some g → set.contains g.1.exclusive p
     ≡ true
@@ -57,6 +57,6 @@ own_only (k ∷ gs) id g p apart found has =
       | inr other ↦
           let there = sym (ap (λ b. cond b (Some k) (find (λ h. is_same h.0 id) gs)) other) ∙ found in
           let apart_from = all_found (λ (h : Grant). is_conflict k.1 h.1 ≡ false) (λ h. is_same h.0 id) gs g apart.0.paths there in
-          ap (others id) (nobody_of k gs p (unreached g.1 k.1 p has (or_both (reaches k.1 g.1) (reaches g.1 k.1) apart_from).1))
+          ap (others id) (nobody_of k gs p (unreached g.1 k.1 p has (or_parts (reaches k.1 g.1) (reaches g.1 k.1) apart_from).1))
           ∙ own_only gs id g p apart.1 there has
     ]

@@ -6,7 +6,7 @@ use Rattle.std.specs.Prelude.{Option, Some, None, is_some, find, filter}
 use Rattle.std.specs.Option.{option_map}
 use Rattle.std.specs.List.{list_any, AllByRecursion}
 use Rattle.std.specs.Cmp.{nat_eq_equiv}
-use Rattle.std.proofs.lemmas.Bool.{true≢false}
+use Rattle.std.proofs.lemmas.Bool.{true≢false, or_parts, or_from}
 use Rattle.std.proofs.lemmas.List.Folds.{list_any-append}
 use Rattle.cfdp_status.specs.declared.transaction.TransactionId.{TransactionId}
 use Rattle.cfdp_leases.specs.Footprint.{Footprint, is_conflict}
@@ -19,13 +19,6 @@ Grant = TransactionId × Footprint
 pub is_same-symm : (a b : TransactionId) → is_same a b ≡ is_same b a
 is_same-symm a b = λ i. nat_eq_equiv.symm a.source b.source i && nat_eq_equiv.symm a.number b.number i
 
-pub or_both : (a b : Bool) → (a || b) ≡ false → (a ≡ false) × (b ≡ false)
-or_both true b h = absurd (true≢false h)
-or_both false b h = (refl, h)
-
-pub or_none : (a b : Bool) → a ≡ false → b ≡ false → (a || b) ≡ false
-or_none a b h k = (λ i. h i || k i)
-
 pub none_first : (b : Bool) (g : Grant) (o : Option Grant) → option_map (λ (h : Grant). h.0) (cond b (Some g) o) ≡ None → (b ≡ false)
     × (option_map (λ (h : Grant). h.0) o ≡ None)
 none_first true g o h = absurd (true≢false (ap is_some h))
@@ -35,10 +28,10 @@ pub apart_push : (gs : Grants) (g : Grant) → AreApart gs → first_conflict gs
 apart_push [] g apart free unheld = (record { names = refl; paths = tt }, tt)
 apart_push (h ∷ gs) g apart free unheld =
     let frees = none_first (is_conflict h.1 g.1) h (find (λ (k : Grant). is_conflict k.1 g.1) gs) free in
-    let others = or_both (is_same h.0 g.0) (holds gs g.0) unheld in (
+    let others = or_parts (is_same h.0 g.0) (holds gs g.0) unheld in (
       record {
         names = list_any-append (λ (k : Grant). is_same k.0 h.0) gs (g ∷ [])
-            ∙ or_none (holds gs h.0) (is_same g.0 h.0 || false) apart.0.names (or_none (is_same g.0 h.0) false (is_same-symm g.0 h.0 ∙ others.0) refl);
+            ∙ or_from (holds gs h.0) (is_same g.0 h.0 || false) apart.0.names (or_from (is_same g.0 h.0) false (is_same-symm g.0 h.0 ∙ others.0) refl);
         paths = all-append (λ (k : Grant). is_conflict h.1 k.1 ≡ false) gs (g ∷ []) apart.0.paths (frees.0, tt);
       },
       apart_push gs g apart.1 frees.1 others.1,
@@ -56,11 +49,11 @@ all_filter P test (x ∷ xs) all =
 none_filter : (any test : Grant → Bool) (gs : Grants) → list_any any gs ≡ false → list_any any (filter test gs) ≡ false
 none_filter any test [] h = refl
 none_filter any test (g ∷ gs) h =
-    let parts = or_both (any g) (list_any any gs) h in
+    let parts = or_parts (any g) (list_any any gs) h in
     let rest = none_filter any test gs parts.1 in
     elim (test g) as (λ b. list_any any (cond b (g ∷ filter test gs) (filter test gs)) ≡ false) [
       | true ↦
-          or_none (any g) (list_any any (filter test gs)) parts.0 rest
+          or_from (any g) (list_any any (filter test gs)) parts.0 rest
       | false ↦ rest
     ]
 

@@ -6,7 +6,7 @@ use Rattle.std.specs.Prelude.{Option, Some, None, is_some, if◌then◌else◌}
 use Rattle.std.specs.List.{AllByRecursion}
 use Rattle.std.specs.FinSet as set
 use Rattle.std.specs.FinMap as finite
-use Rattle.std.proofs.lemmas.Bool.{or_cases, true≢false, cases_Bool}
+use Rattle.std.proofs.lemmas.Bool.{or_cases, true≢false, cases_Bool, or_left, or_right}
 use Rattle.cfdp_status.specs.declared.action.Action.{Action}
 use Rattle.cfdp_paths.specs.Paths.{Path, same_path, is_at_or_below, rebased}
 use Rattle.cfdp_paths.proofs.Comparing.{same_path-Decides}
@@ -17,7 +17,7 @@ use Rattle.cfdp_status.specs.declared.action.Action.TheVariants as action
 use Rattle.cfdp_status.specs.declared.status.Status.TheVariants.{NotAllowed}
 use Rattle.cfdp_leases.specs.Footprint.{Footprint, is_exclusive, is_covered, reaches, is_conflict, IsWithin}
 use Rattle.cfdp_leases.specs.Laws.{IsOwn, OwnChanges, FrameOfChanges, Isolation}
-use Rattle.cfdp_leases.proofs.Sets.{path_cmp_total, or_left, or_right, stands, all_from, any_in-from, union_left, union_right}
+use Rattle.cfdp_leases.proofs.Sets.{path_cmp_total, stands, all_from, any_in-from, union_left, union_right}
 use Rattle.cfdp_leases.proofs.Conflict.{reaches_at}
 use Rattle.cfdp_leases.proofs.ReadFrame.{exclusive_below, get_kept}
 

@@ -7,7 +7,7 @@ use Rattle.std.proofs.Common.{◌≡◌, ◌≢◌, sym, ◌∙◌, subst, true,
 use Rattle.std.specs.Prelude.{flat_map, IsTrue}
 use Rattle.std.specs.List.{AllByRecursion}
 use Rattle.std.specs.FinSet as set
-use Rattle.std.proofs.lemmas.Bool.{or_cases, true≢false, cases_Bool}
+use Rattle.std.proofs.lemmas.Bool.{or_cases, true≢false, cases_Bool, or_left, or_right}
 use Rattle.cfdp_paths.specs.Paths.{Path, same_path, is_at_or_below, ancestors}
 use Rattle.cfdp_paths.proofs.Comparing.{same_path-Decides}
 use Rattle.cfdp_paths.proofs.Below.{at_or_below-itself, at_or_below-trans, at_or_below-antisym, below_ancestor, ancestor_from_below}
@@ -15,7 +15,7 @@ use Rattle.cfdp_actions.specs.Actions.{Item}
 use Rattle.cfdp_leases.specs.Footprint.{exclusive_in, read_in, shared_in, any_in, Footprint, footprint_of, leased, is_exclusive, is_covered, reaches, is_conflict, IsWithin}
 use Rattle.cfdp_leases.specs.code.Footprint.{SameSet, of_lists, NoneIsRoot, HasAncestors}
 use Rattle.cfdp_leases.specs.Laws.{HasNames, CommonPath, ConflictByPaths, OwnFootprint}
-use Rattle.cfdp_leases.proofs.Sets.{or_left, or_right, stands, stands-append_left, stands-append_right, stands-append_cases, all_at, all_from, stands-flat_map, stands_in-flat_map, stands_from_Contains, Contains_from_stands, contains_from_stands, stands_from_contains, any_in-at, any_in-from, union_left, union_right, union_cases}
+use Rattle.cfdp_leases.proofs.Sets.{stands, stands-append_left, stands-append_right, stands-append_cases, all_at, all_from, stands-flat_map, stands_in-flat_map, stands_from_Contains, Contains_from_stands, contains_from_stands, stands_from_contains, any_in-at, any_in-from, union_left, union_right, union_cases}
 
 -- ---- what a list's footprint has
 

@@ -10,22 +10,21 @@
 --     when-..                      a holder more, at one path and at a path more
 --     others-..                    a transaction's leases taken away
 use Rattle.std.proofs.Common.{◌≡◌, refl, sym, ◌∙◌, ap, subst, Bool, true, false, cond, not, ◌||◌, ◌&&◌, ◌==◌, if◌then◌else◌, inl, inr, List, [], ◌∷◌, ◌++◌, Option, Some, None, ℕ, ◌+◌, ◌<◌, arith, length, get_or, take, drop, is_some, append_assoc, length-take, take-append-drop}
-use Rattle.std.specs.Prelude.{filter, IsSome, OnErr, Result, Ok, Err}
+use Rattle.std.specs.Prelude.{filter, IsSome}
 use Rattle.std.specs.BTreeMap.{get}
 use Rattle.std.specs.Option.{option_map, option_or}
 use Rattle.std.specs.List.{list_any}
 use Rattle.std.specs.List.Sorted.{IsStrictlySortedBy}
 use Rattle.std.specs.Ordering.{is_eq, nat_cmp}
-use Rattle.std.specs.Cmp.{eq_by_cmp_equiv, nat_cmp_total, nat_eq_equiv, tied_itself}
+use Rattle.std.specs.Cmp.{nat_cmp_total, nat_eq_equiv, tied_itself}
 use Rattle.std.specs.FinSet as set
 use Rattle.std.specs.FinMap.{nat_cmp-IsAntisymmetric}
-use Rattle.std.specs.declared.cmp.Ordering.{Ordering}
-use Rattle.std.specs.declared.cmp.Ordering.TheVariants.{Less, Equal, Greater}
+use Rattle.std.specs.declared.cmp.Ordering.TheVariants.{Less}
 use Rattle.std.proofs.lemmas.List.{append-nil, take_more, get_or_default, get_or-take}
 use Rattle.std.proofs.lemmas.List.Elements.{filter-append}
 use Rattle.std.proofs.lemmas.List.Folds.{list_any-append}
 use Rattle.std.proofs.lemmas.Map.Keys.{Less-from_sorted}
-use Rattle.std.proofs.lemmas.Bool.{cases_Bool, eq-eqb, ne_eqb, true≢false}
+use Rattle.std.proofs.lemmas.Bool.{cases_Bool, eq-eqb, ne_eqb, true≢false, or_parts}
 use Rattle.cfdp_status.specs.declared.transaction.TransactionId.{TransactionId}
 use Rattle.cfdp_paths.specs.Paths.{Path, path_cmp, same_path}
 use Rattle.cfdp_paths.proofs.Comparing.{same_path-Decides}
@@ -37,15 +36,8 @@ use Rattle.cfdp_leases.specs.declared.leased_paths.LeasedPaths.{LeasedPaths}
 use Rattle.cfdp_leases.specs.Footprint.{PathSet, Footprint, leased}
 use Rattle.cfdp_paths.specs.Hashes.{hash_of}
 use Rattle.cfdp_leases.specs.code.Holders.{AreFree, HasHash, Holds, HoldsSome, IsOtherPath, holders_in, others, own_row, holders_by_path, under_hash, unless_none, when}
-use Rattle.cfdp_leases.proofs.Apart.{or_both}
-use Rattle.cfdp_leases.proofs.Sets.{path_cmp_total, same_path-itself, Contains_from_stands, stands_from_Contains, stands}
-
-same_back : (p q : Path) → same_path p q ≡ same_path q p
-same_back p q = (eq_by_cmp_equiv path_cmp_total).symm p q
-
-pub on_err : {T E : Type 0} (r : Result T E) (P : Type 0) → P → OnErr r P
-on_err (Ok done) P holds = tt
-on_err (Err refusal) P holds = holds
+use Rattle.cfdp_leases.proofs.Sets.{path_cmp_total, Contains_from_stands, stands_from_Contains, stands}
+use Rattle.cfdp_actions.proofs.Order.{tied, same_path-symm, same_path-refl}
 
 -- ---- rows
 
@@ -84,11 +76,6 @@ neither (Some x) p e = absurd (cc e)
 not_some : {A : Type 0} (P : Type 0) (o : Option A) → o ≡ None → IsSome o → P
 not_some P o none some = absurd (true≢false (sym some ∙ ap is_some none))
 
-equal : (o : Ordering) → is_eq o ≡ true → o ≡ Equal
-equal Less e = absurd (true≢false (sym e))
-equal Equal e = refl
-equal Greater e = absurd (true≢false (sym e))
-
 -- the row is the path's, if there is one
 abbrev pub IsOf : Path → Option Row → Type 0
 IsOf k None = Unit {0}
@@ -96,7 +83,7 @@ IsOf k (Some row) = row.path ≡ k
 
 own_here : (r : Option Row) (k : Path) → IsOf k r → own_row r k ≡ option_map (λ row. row.holders) r
 own_here None k of = refl
-own_here (Some row) k of = ap (λ b. cond b (Some row.holders) None) (ap (λ p. same_path p k) of ∙ same_path-itself k)
+own_here (Some row) k of = ap (λ b. cond b (Some row.holders) None) (ap (λ p. same_path p k) of ∙ same_path-refl k)
 
 own_apart : (r : Option Row) (k q : Path) → IsOf k r → same_path k q ≡ false → own_row r q ≡ None
 own_apart None k q of apart = refl
@@ -158,7 +145,7 @@ unwritten f g h x update found q =
     elim (cases_Bool (is_eq (nat_cmp h q))) [
       | inl tie ↦
           update q ∙ ap (λ b. cond b (Some x) (f q)) tie ∙ sym found
-          ∙ ap f (nat_cmp-IsAntisymmetric h q (equal (nat_cmp h q) tie))
+          ∙ ap f (nat_cmp-IsAntisymmetric h q (tied (nat_cmp h q) tie))
       | inr differs ↦ update q ∙ ap (λ b. cond b (Some x) (f q)) differs
     ]
 
@@ -196,7 +183,7 @@ module _ (old new : LeasedPaths) (holders : Path → List Holder) (held : Holds 
     apart_same : (q : Path) → same_path k q ≡ false → under_hash new q ≡ under_hash old q → get path_cmp new.others q ≡ get path_cmp old.others q →
         HoldsAt new now q
     apart_same q apart under others = (
-      (λ i. option_map holders_in (option_or (under i) (others i))) ∙ held.rows q ∙ sym (ap unless_none (same q (same_back q k ∙ apart))),
+      (λ i. option_map holders_in (option_or (under i) (others i))) ∙ held.rows q ∙ sym (ap unless_none (same q (same_path-symm q k ∙ apart))),
       λ some. others ∙ held.once q (sym (ap is_some under) ∙ some),
     )
 
@@ -226,7 +213,7 @@ module _ (old new : LeasedPaths) (holders : Path → List Holder) (held : Holds 
             elim (cases_Bool (is_eq (nat_cmp h q))) [
               | inl tie ↦
                   subst (HasHash q) (sym (rows q ∙ ap (λ b. cond b w (get nat_cmp old.rows q)) tie))
-                  (hash_here w k q (sym hash ∙ nat_cmp-IsAntisymmetric h q (equal (nat_cmp h q) tie)) after)
+                  (hash_here w k q (sym hash ∙ nat_cmp-IsAntisymmetric h q (tied (nat_cmp h q) tie)) after)
               | inr differs ↦ subst (HasHash q) (sym (rows q ∙ ap (λ b. cond b w (get nat_cmp old.rows q)) differs)) (held.hashes q)
             ]
 
@@ -234,7 +221,7 @@ module _ (old new : LeasedPaths) (holders : Path → List Holder) (held : Holds 
         elsewhere q apart =
             elim (cases_Bool (is_eq (nat_cmp h (hash_of q)))) [
               | inl tie ↦
-                  let same_hash : h ≡ hash_of q = nat_cmp-IsAntisymmetric h (hash_of q) (equal (nat_cmp h (hash_of q)) tie) in
+                  let same_hash : h ≡ hash_of q = nat_cmp-IsAntisymmetric h (hash_of q) (tied (nat_cmp h (hash_of q)) tie) in
                   ap (λ r. own_row r q) (rows (hash_of q) ∙ ap (λ b. cond b w (get nat_cmp old.rows (hash_of q))) tie) ∙ own_apart w k q after apart
                   ∙ sym (own_apart (get nat_cmp old.rows (hash_of q)) k q (subst (λ x. IsOf k (get nat_cmp old.rows x)) same_hash before) apart)
               | inr differs ↦ ap (λ r. own_row r q) (rows (hash_of q) ∙ ap (λ b. cond b w (get nat_cmp old.rows (hash_of q))) differs)
@@ -255,7 +242,7 @@ module _ (old new : LeasedPaths) (holders : Path → List Holder) (held : Holds 
 
         own : HoldsAt new now k
         own =
-            let found : get path_cmp new.others k ≡ w = others k ∙ ap (λ b. cond b w (get path_cmp old.others k)) (same_path-itself k) in
+            let found : get path_cmp new.others k ≡ w = others k ∙ ap (λ b. cond b w (get path_cmp old.others k)) (same_path-refl k) in
             let none : under_hash new k ≡ None = under k ∙ other in
             ((λ i. option_map holders_in (option_or (none i) (found i))) ∙ row, not_some (get path_cmp new.others k ≡ None) (under_hash new k) none)
 
@@ -277,7 +264,7 @@ module _ (old new : LeasedPaths) (holders : Path → List Holder) (held : Holds 
 -- ---- one holder more
 
 pub when_here : (k : Path) (h : Holder) (xs : List Holder) → xs ++ h ∷ [] ≡ xs ++ when (same_path k k) h
-when_here k h xs = sym (ap (λ b. xs ++ when b h) (same_path-itself k))
+when_here k h xs = sym (ap (λ b. xs ++ when b h) (same_path-refl k))
 
 pub when_not : (b : Bool) (h : Holder) (xs : List Holder) → b ≡ false → xs ++ when b h ≡ xs
 when_not b h xs e = ap (λ c. xs ++ when c h) e ∙ append-nil xs
@@ -307,7 +294,7 @@ free_yet xs i x h holders sorted within read free =
     ∙ free x (stands_from_Contains x xs (i, within, sym read))
   where
     not_yet : (b : Bool) → list_any (same_path x) (take i xs) ≡ b → b ≡ false
-    not_yet true there = absurd (true≢false (sym (same_path-itself x) ∙ before_apart xs i x x sorted within read there))
+    not_yet true there = absurd (true≢false (sym (same_path-refl x) ∙ before_apart xs i x x sorted within read there))
     not_yet false there = refl
 
 -- one path more
@@ -399,7 +386,7 @@ others_when h b hs =
     ∙ ap (λ more. others h.transaction hs ++ more) (own_gone h b) ∙ append-nil (others h.transaction hs)
 
 pub left_here : (id : TransactionId) (k : Path) (hs : List Holder) → others id hs ≡ left id (same_path k k) hs
-left_here id k hs = sym (ap (λ b. left id b hs) (same_path-itself k))
+left_here id k hs = sym (ap (λ b. left id b hs) (same_path-refl k))
 
 pub left_elsewhere : (id : TransactionId) (q k : Path) (hs : List Holder) → same_path q k ≡ false → left id (same_path q k) hs ≡ hs
 left_elsewhere id q k hs other = ap (λ b. left id b hs) other
@@ -421,7 +408,7 @@ cond_twice false x y z = refl
 
 pub not_before : (xs : List Path) (i : ℕ) (p : Path) → list_any (same_path p) xs ≡ false → list_any (same_path p) (take i xs) ≡ false
 not_before xs i p none =
-    (or_both (list_any (same_path p) (take i xs)) (list_any (same_path p) (drop i xs))
+    (or_parts (list_any (same_path p) (take i xs)) (list_any (same_path p) (drop i xs))
     (sym (list_any-append (same_path p) (take i xs) (drop i xs)) ∙ ap (list_any (same_path p)) (take-append-drop i xs) ∙ none)).0
 
 -- a list that has the paths of a set
@@ -430,7 +417,7 @@ in_slice xs s p paths = sym (set.contains-from_list path_cmp_total xs p) ∙ ap 
 
 -- a path that is not leased is neither exclusive nor shared
 pub unleased : (fp : Footprint) (p : Path) → set.contains (leased fp) p ≡ false → (set.contains fp.exclusive p ≡ false) × (set.contains fp.shared p ≡ false)
-unleased fp p none = or_both (set.contains fp.exclusive p) (set.contains fp.shared p) (sym (set.contains-union path_cmp_total fp.exclusive fp.shared p) ∙ none)
+unleased fp p none = or_parts (set.contains fp.exclusive p) (set.contains fp.shared p) (sym (set.contains-union path_cmp_total fp.exclusive fp.shared p) ∙ none)
 
 -- what some have is in other words what some have
 pub some_wider : (id : TransactionId) (at wide : Path → Bool) (middle holders : Path → List Holder) (paths : LeasedPaths) → HoldsSome id at middle paths

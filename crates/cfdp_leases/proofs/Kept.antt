@@ -11,7 +11,7 @@ use Rattle.std.specs.Prelude.{find, filter, slice_get, unwrap_or, IsSome}
 use Rattle.std.specs.FinSet as set
 use Rattle.std.specs.Option.{option_map}
 use Rattle.std.specs.List.{list_any, prefix_len, AllByRecursion}
-use Rattle.std.proofs.lemmas.Bool.{cases_Bool, eq-eqb, eqb-true, true≢false}
+use Rattle.std.proofs.lemmas.Bool.{cases_Bool, eq-eqb, eqb-true, true≢false, or_left, or_right, or_parts}
 use Rattle.std.proofs.lemmas.List.{map-append, append-nil}
 use Rattle.std.proofs.lemmas.List.Folds.{list_any-append}
 use Rattle.std.proofs.lemmas.Grind.{flat_map-append}
@@ -25,15 +25,11 @@ use Rattle.cfdp_leases.specs.code.Footprint.{HasAncestors, of_lists}
 use Rattle.cfdp_leases.specs.code.Holders.{Holds, holders_at, holders_of}
 use Rattle.cfdp_leases.specs.Leases.{AreApart, first_conflict, holds, is_same, without_grant}
 use Rattle.cfdp_leases.specs.code.Live.{AreKept, HasNoOthers, HaveFootprints, footprint_at, grants_of}
-use Rattle.cfdp_leases.proofs.Apart.{all_filter, apart_push, apart_filter, or_both}
+use Rattle.cfdp_leases.proofs.Apart.{all_filter, apart_push, apart_filter}
 use Rattle.cfdp_leases.proofs.Held.{holds_same, left}
-use Rattle.cfdp_leases.proofs.Sets.{or_left, or_right}
 use Rattle.cfdp_leases.proofs.Views.{find-map, option_map-map}
-use Rattle.cfdp_leases.proofs.Admitted.{place_in, released, same_is}
+use Rattle.cfdp_leases.proofs.Admitted.{place_in, released, same_is, some_is}
 use Rattle.cfdp_leases.proofs.Places.{prefix_len-map}
-
-some_is : {X : Type 0} (a b : X) → Some a ≡ Some b → a ≡ b
-some_is a b same = cc
 
 pub footprint_is : (s : Slab Footprint) (key : ℕ) (fp : Footprint) → get s key ≡ Some fp → footprint_at s key ≡ fp
 footprint_is s key fp has = ap (λ o. unwrap_or o (of_lists [] [])) has
@@ -160,7 +156,7 @@ no_key : (s : Slab Footprint) (id : TransactionId) (key : ℕ) (live : List Live
     → AllByRecursion (λ m. is_same m.transaction id ≡ true → m.key ≡ key) live
 no_key s id key [] none = tt
 no_key s id key (m ∷ live) none =
-    let parts = or_both (is_same m.transaction id) (holds (grants_of s live) id) none in
+    let parts = or_parts (is_same m.transaction id) (holds (grants_of s live) id) none in
     ((λ same. absurd (true≢false (sym same ∙ parts.0))), no_key s id key live parts.1)
 
 pub own_key : (s : Slab Footprint) (id : TransactionId) (live : List Live) (l : Live) → AreApart (grants_of s live) → find (λ m. is_same m.transaction id) live

@@ -16,7 +16,7 @@ use Rattle.std.specs.declared.cmp.Ordering.{Ordering}
 use Rattle.std.specs.declared.cmp.Ordering.TheVariants.{Less, Equal, Greater}
 use Rattle.std.proofs.lemmas.List.Folds.{list_any-append}
 use Rattle.std.proofs.lemmas.Map.Keys.{Less-from_sorted}
-use Rattle.std.proofs.lemmas.Bool.{cases_Bool, eqb-true, eqb-false}
+use Rattle.std.proofs.lemmas.Bool.{cases_Bool, eqb-true, eqb-false, or_left, or_right}
 use Rattle.cfdp_paths.specs.Paths.{Path, path_cmp, same_path}
 use Rattle.cfdp_paths.proofs.Comparing.{same_path-Decides}
 use Rattle.cfdp_paths.specs.Paths.{ancestors}
@@ -25,13 +25,14 @@ use Rattle.cfdp_actions.specs.Actions as actions
 use Rattle.cfdp_leases.specs.Items.{install_of, items_of}
 use Rattle.cfdp_leases.specs.Footprint.{exclusive_in, read_in}
 use Rattle.cfdp_leases.specs.code.Footprint.{SameSet}
-use Rattle.cfdp_leases.proofs.Sets.{path_cmp_total, path_cmp-IsAntisymmetric, or_left, or_right}
+use Rattle.cfdp_leases.proofs.Sets.{path_cmp_total}
+use Rattle.cfdp_paths.proofs.InOrder.{path_antisym}
 
 -- ---- lists of the same paths
 
 pub same_set_from : (xs ys : List Path) → ((q : Path) → list_any (same_path q) xs ≡ list_any (same_path q) ys) → SameSet xs ys
 same_set_from xs ys h =
-    set.same_set path_cmp_total path_cmp-IsAntisymmetric (set.from_list xs) (set.from_list ys)
+    set.same_set path_cmp_total path_antisym (set.from_list xs) (set.from_list ys)
     (λ q. set.contains-from_list path_cmp_total xs q ∙ h q ∙ sym (set.contains-from_list path_cmp_total ys q))
 
 pub same_members : (xs ys : List Path) (q : Path) → SameSet xs ys → list_any (same_path q) xs ≡ list_any (same_path q) ys

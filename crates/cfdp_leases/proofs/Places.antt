@@ -8,14 +8,14 @@ use Rattle.std.specs.Prelude.{find, slice_get}
 use Rattle.std.specs.Option.{option_map}
 use Rattle.std.specs.List.{prefix_len, AllByRecursion}
 use Rattle.std.specs.FinSet as set
-use Rattle.std.proofs.lemmas.Bool.{or_cases}
+use Rattle.std.proofs.lemmas.Bool.{or_cases, or_left, or_right}
 use Rattle.std.proofs.lemmas.List.{take_more}
 use Rattle.std.proofs.lemmas.List.Folds.{list_any-append}
 use Rattle.cfdp_paths.specs.Paths.{Path}
 use Rattle.cfdp_leases.specs.Footprint.{PathSet, Footprint, leased, is_conflict}
 use Rattle.cfdp_leases.specs.code.Footprint.{HasAncestors, has_any}
 use Rattle.cfdp_leases.specs.Leases.{Grants, first_conflict}
-use Rattle.cfdp_leases.proofs.Sets.{or_left, or_right, by_truth, any_at, any_from, contains_from_stands, stands_from_contains, union_left, union_right, union_cases}
+use Rattle.cfdp_leases.proofs.Sets.{by_truth, any_at, any_from, contains_from_stands, stands_from_contains, union_left, union_right, union_cases}
 use Rattle.cfdp_leases.proofs.Conflict.{conflict_by_paths}
 
 -- ---- where a test first holds

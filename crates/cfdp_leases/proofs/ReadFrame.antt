@@ -4,9 +4,8 @@
 use Rattle.std.proofs.Common.{◌≡◌, ◌≢◌, refl, sym, ◌∙◌, ap, ℕ, ◌+◌, ◌*◌, Bool, true, false, cond, not, ◌&&◌, List, [], ◌∷◌, ◌++◌, min, arith}
 use Rattle.std.specs.Prelude.{flat_map, Option, None, is_some, if◌then◌else◌, ◌==◌}
 use Rattle.std.specs.FinMap as finite
-use Rattle.std.specs.declared.cmp.Ordering.TheVariants.{Equal}
-use Rattle.std.proofs.lemmas.Bool.{and_parts}
-use Rattle.cfdp_paths.specs.Paths.{Path, path_cmp, same_path, is_at_or_below, is_below, parent, ancestors}
+use Rattle.std.proofs.lemmas.Bool.{and_parts, or_left, or_right}
+use Rattle.cfdp_paths.specs.Paths.{Path, same_path, is_at_or_below, is_below, parent, ancestors}
 use Rattle.cfdp_paths.proofs.Below.{at_or_below-trans, parent_at_or_below, parent_below, is_below-Decides}
 use Rattle.cfdp_actions.specs.Filestore.{Node, Directory, File, Filestore, node_at, has_entries, is_directory, is_good, is_root, parent_is_good, tree_at, weight}
 use Rattle.cfdp_actions.specs.Actions.{Item, Install, Perform, Request, CreateFile, DeleteFile, RenameFile, AppendFile, ReplaceFile, CreateDirectory, RemoveDirectory, DenyFile, DenyDirectory, create, delete_file, rename, append, replace, remove_directory, deny_file, deny_directory, install, table, free_row, is_barred, is_protected, denied, row}
@@ -14,8 +13,11 @@ use Rattle.cfdp_status.specs.declared.action.Action.TheVariants as action
 use Rattle.cfdp_leases.specs.Items.{content, step_bound}
 use Rattle.cfdp_leases.specs.Footprint.{exclusive_in, read_in, shared_in, Footprint, is_exclusive, is_covered, IsWithin}
 use Rattle.cfdp_leases.specs.Laws.{IsAlike, FrameOfReads}
-use Rattle.cfdp_leases.proofs.Sets.{path_cmp_total, path_cmp-IsAntisymmetric, same_path-itself, or_left, or_right, stands, stands-append_left, stands-append_right, all_at, stands-flat_map, any_in-at, any_in-from}
+use Rattle.cfdp_leases.proofs.Sets.{path_cmp_total, stands, stands-append_left, stands-append_right, all_at, stands-flat_map, any_in-at, any_in-from}
 use Rattle.cfdp_leases.proofs.Conflict.{ancestor_stands}
+use Rattle.cfdp_actions.proofs.StoreLaws.{alike as same_test}
+use Rattle.cfdp_actions.proofs.Order.{same_path-refl}
+use Rattle.cfdp_paths.proofs.InOrder.{path_antisym}
 
 -- what is at or below an exclusive path is exclusive
 pub exclusive_below : (fp : Footprint) (p q : Path) → is_exclusive fp p ≡ true → is_at_or_below q p ≡ true → is_exclusive fp q ≡ true
@@ -48,17 +50,13 @@ covered_parent fp item p w h some =
 
 -- ---- what is read
 
--- a path's tie is the path itself
-same_test : (test : Path → Bool) (q x : Path) → path_cmp q x ≡ Equal → test x ≡ test q
-same_test test q x tie = sym (ap test (path_cmp-IsAntisymmetric q x tie))
-
 pub get_kept : (F : Filestore) (test : Path → Bool) (q : Path) → finite.get (finite.retain_keys F.nodes test) q ≡ cond (test q) (node_at F q) None
 get_kept F test q = finite.get-retain_keys F.nodes test q (same_test test q)
 
 same_kept : (F G : Filestore) (test : Path → Bool) → ((q : Path) → test q ≡ true → node_at F q ≡ node_at G q) → finite.retain_keys F.nodes test
     ≡ finite.retain_keys G.nodes test
 same_kept F G test same =
-    finite.same_map path_cmp_total path_cmp-IsAntisymmetric _ _
+    finite.same_map path_cmp_total path_antisym _ _
     (λ q. get_kept F test q ∙ chosen (test q) (node_at F q) (node_at G q) (same q) ∙ sym (get_kept G test q))
   where
     chosen : (b : Bool) (x y : Option Node) → (b ≡ true → x ≡ y) → cond b x None ≡ cond b y None
@@ -85,10 +83,10 @@ module _ (fp : Footprint) (F G : Filestore) (slot : ℕ) (alike : IsAlike fp slo
       at (n ∷ a) c = ap is_directory (alike.kept (n ∷ a) (c (λ e. cc)))
 
   head_stands : (p : Path) (ps : List Path) → stands p (p ∷ ps)
-  head_stands p ps = or_left _ _ (same_path-itself p)
+  head_stands p ps = or_left _ _ (same_path-refl p)
 
   second_stands : (p q : Path) (ps : List Path) → stands q (p ∷ q ∷ ps)
-  second_stands p q ps = or_right (same_path q p) _ (or_left _ _ (same_path-itself q))
+  second_stands p q ps = or_right (same_path q p) _ (or_left _ _ (same_path-refl q))
 
   read_alike : (item : Item) (q : Path) → IsWithin fp item → stands q (read_in item) → node_at F q ≡ node_at G q
   read_alike item q w h = alike.kept q (covered_read fp item q w h)

@@ -3,7 +3,7 @@
 --     rooted_becomes           one change keeps the filestore rooted
 --     settled_at, vacated_at   what is at a path after a directory was moved
 --     stays_rooted
-use Rattle.std.proofs.Common.{◌≡◌, ◌≢◌, refl, sym, ◌∙◌, ap, subst, ℕ, zero, suc, ◌≤◌, Bool, true, false, cond, ◌||◌, ◌⊎◌, inl, inr, List, [], ◌∷◌, ◌++◌, map, length, drop, arith, T}
+use Rattle.std.proofs.Common.{◌≡◌, ◌≢◌, refl, sym, ◌∙◌, ap, subst, ℕ, zero, suc, ◌≤◌, Bool, true, false, cond, ◌||◌, ◌⊎◌, inl, inr, List, [], ◌∷◌, ◌++◌, map, length, drop, arith}
 use Rattle.std.specs.FinMap.Entries.{below_all, is_sorted, find}
 use Rattle.std.specs.Ordering.{is_lt}
 use Rattle.std.specs.Cmp.{tied_itself}
@@ -21,11 +21,15 @@ use Rattle.std.proofs.lemmas.Bool.{or_cases, true≢false, cases_Bool, and_parts
 use Rattle.cfdp_status.specs.declared.action.Action.{Action}
 use Rattle.cfdp_paths.specs.Paths.{Path, path_cmp, same_path, is_at_or_below, is_below, parent, rebased}
 use Rattle.cfdp_paths.proofs.Comparing.{same_path-Decides}
-use Rattle.cfdp_paths.proofs.Below.{at_or_below-trans, at_or_below-append, at_or_below-antisym, append_from_at_or_below, parent_at_or_below, parent_below, below_parent, is_below-Decides}
-use Rattle.cfdp_actions.specs.Filestore.{Node, Directory, File, Filestore, node_at, staged_in, Change, Becomes, Stages, changed, after, inside, has_entries, is_directory, is_good, parent_is_good, IsRooted, tree_at}
-use Rattle.cfdp_leases.proofs.Sets.{path_cmp_total, same_path-itself, stands}
+use Rattle.cfdp_paths.proofs.Below.{at_or_below-trans, at_or_below-append, at_or_below-antisym, append_from_at_or_below, parent_at_or_below, parent_below, is_below-Decides, parent_of_below}
+use Rattle.cfdp_actions.specs.Filestore.{Node, Directory, File, Filestore, node_at, staged_in, Becomes, Stages, changed, after, inside, has_entries, is_directory, is_good, parent_is_good, IsRooted, tree_at}
+use Rattle.cfdp_leases.proofs.Sets.{path_cmp_total, stands}
 use Rattle.cfdp_leases.proofs.ReadFrame.{get_kept}
 use Rattle.cfdp_leases.proofs.ChangeFrame.{node_at-changed, keys_pass, tree_below}
+use Rattle.cfdp_paths.proofs.InOrder.{true_from_T}
+use Rattle.cfdp_actions.proofs.Moves.{after-append}
+use Rattle.cfdp_actions.proofs.Prefixes.{drop_append}
+use Rattle.cfdp_actions.proofs.Order.{same_path-refl}
 
 -- ---- parents
 
@@ -98,10 +102,6 @@ nothing_in F p rooted plain x some above there =
 
 -- ---- the entries of a tree
 
-is_true : (b : Bool) → T b → b ≡ true
-is_true true h = refl
-is_true false h = absurd h
-
 all_both : {X : Type 0} (P Q S : X → Type 0) → ((x : X) → P x → Q x → S x) → (xs : List X) → AllByRecursion P xs → AllByRecursion Q xs → AllByRecursion S xs
 all_both P Q S gives [] p q = tt
 all_both P Q S gives (x ∷ xs) p q = (gives x p.0 q.0, all_both P Q S gives xs p.1 q.1)
@@ -134,7 +134,7 @@ found_each : (es : List Entry) → is_sorted path_cmp es ≡ true → AllByRecur
 found_each [] h = tt
 found_each (e ∷ es) h =
     let parts = and_parts _ _ h in (
-      ap (λ b. cond b (Some e.1) (find path_cmp e.0 es)) (same_path-itself e.0),
+      ap (λ b. cond b (Some e.1) (find path_cmp e.0 es)) (same_path-refl e.0),
       all_both (λ (f : Entry). path_cmp e.0 f.0 ≡ Less) (λ (f : Entry). find path_cmp f.0 es ≡ Some f.1) (λ (f : Entry). find path_cmp f.0 (e ∷ es) ≡ Some f.1)
           (λ f less found. found_later e f es less found) es (less_keys e.0 es parts.0) (found_each es parts.1),
     )
@@ -151,7 +151,7 @@ tree_at-of F p =
       below,
       sym (ap (λ b. cond b (node_at F e.0) None) below) ∙ sym (get_kept F (λ q. is_at_or_below q p) e.0) ∙ finite.get-entries kept e.0 ∙ found,
     ))
-    (tree_at F p) (tree_below F p) (found_each (tree_at F p) (is_true _ (finite.entries_sorted kept)))
+    (tree_at F p) (tree_below F p) (found_each (tree_at F p) (true_from_T _ (finite.entries_sorted kept)))
 
 -- what is at or below p is a key of the tree
 key_since : (F : Filestore) (p x : Path) → is_at_or_below x p ≡ true → is_some (node_at F x) ≡ true → stands x (map (λ (e : Entry). e.0) (tree_at F p))
@@ -161,10 +161,6 @@ key_since F p x below there =
     ∙ ap is_some (get_kept F (λ q. is_at_or_below q p) x ∙ ap (λ b. cond b (node_at F x) None) below) ∙ there
 
 -- ---- a directory that is moved
-
-after-append : (F : Filestore) (cs ds : List Change) → after F (cs ++ ds) ≡ after (after F cs) ds
-after-append F [] ds = refl
-after-append F (c ∷ cs) ds = after-append (changed F c) cs ds
 
 vacated_at : (F : Filestore) (es : List Entry) (x : Path) → node_at (after F (vacating es)) x
     ≡ cond (list_any (same_path x) (map (λ (e : Entry). e.0) es)) None (node_at F x)
@@ -202,10 +198,6 @@ settled_at Q F p q (e ∷ es) x all =
           ]
     ]
 
--- what is below q has a parent at or below q
-parent_from_below : (x q : Path) → is_at_or_below x q ≡ true → x ≢ q → is_at_or_below (parent x) q ≡ true
-parent_from_below x q below other = below_parent x q ((is_below-Decides x q).1 (below, other))
-
 length-parent : (x : Path) → x ≢ [] → suc (length (parent x)) ≡ length x
 length-parent [] some = absurd (some refl)
 length-parent (n ∷ []) some = refl
@@ -224,7 +216,7 @@ below_absent F q rooted named absent (suc bound) x within below there =
     elim (cases_Bool (same_path x q)) [
       | inl e ↦ true≢false (sym there ∙ ap (λ y. is_some (node_at F y)) ((same_path-Decides x q).0 e) ∙ ap is_some absent)
       | inr e ↦
-          let above : is_at_or_below (parent x) q ≡ true = parent_from_below x q below (λ same. true≢false (sym ((same_path-Decides x q).1 same) ∙ e)) in
+          let above : is_at_or_below (parent x) q ≡ true = parent_of_below x q below (λ same. true≢false (sym ((same_path-Decides x q).1 same) ∙ e)) in
           elim parts.1 [
             | inl root ↦ named (at_or_below-antisym q [] refl (subst (λ y. is_at_or_below y q ≡ true) root above))
             | inr directory ↦ below_absent F q rooted named absent bound (parent x) (omega (arith, length-parent x parts.0, within)) above
@@ -239,10 +231,6 @@ parent-append q [] some = absurd (some refl)
 parent-append [] (n ∷ r) some = refl
 parent-append (m ∷ []) (n ∷ r) some = refl
 parent-append (m ∷ l ∷ q) (n ∷ r) some = ap (λ y. m ∷ y) (parent-append (l ∷ q) (n ∷ r) some)
-
-drop-append : (p r : Path) → drop (length p) (p ++ r) ≡ r
-drop-append [] r = refl
-drop-append (n ∷ p) r = drop-append p r
 
 none_stands : (P : Path → Type 0) (es : List Entry) (x : Path) → AllByRecursion (λ (e : Entry). P e.0) es → stands x (map (λ (e : Entry). e.0) es) → P x
 none_stands P [] x all h = absurd (true≢false (sym h))
@@ -300,7 +288,7 @@ module _ (F : Filestore) (p q : Path) (move : IsMove F p q) where
   -- a directory p/r makes a directory q/r
   moves_directory : (r : Path) → is_directory (node_at F (p ++ r)) ≡ true → is_directory (node_at (moved F p q) (q ++ r)) ≡ true
   moves_directory r directory =
-      let goes : rebased p q (p ++ r) ≡ q ++ r = ap (λ y. q ++ y) (drop-append p r) in
+      let goes : rebased p q (p ++ r) ≡ q ++ r = ap (λ y. q ++ y) (drop_append p r) in
       elim (moved_at (q ++ r)) [
         | inl found ↦
             let rest : drop (length p) found.0.0 ≡ r = append_cancel_left q (drop (length p) found.0.0) r found.2 in

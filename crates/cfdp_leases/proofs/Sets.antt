@@ -1,38 +1,26 @@
 -- Membership of paths in lists and in finite sets.
 --     stands q xs                  the path is one of the list
---     path_cmp_total, path_cmp-IsAntisymmetric      what `FinSet` and `FinMap` ask of the order of paths
+--     path_cmp_total                                what `FinSet` and `FinMap` ask of the order of paths
 --     all_from, all_at             `AllByRecursion` by membership
 --     any_in-from, any_in-at       whether a path of a set passes a test
-use Rattle.std.proofs.Common.{◌≡◌, refl, sym, ◌∙◌, ap, subst, Bool, true, false, ◌||◌, ◌⊎◌, inl, inr, List, [], ◌∷◌, ◌++◌, zero, suc, arith, Contains}
+use Rattle.std.proofs.Common.{◌≡◌, refl, sym, ◌∙◌, subst, Bool, true, false, ◌||◌, ◌⊎◌, inl, inr, List, [], ◌∷◌, ◌++◌, zero, suc, arith, Contains}
 use Rattle.std.specs.Prelude.{flat_map}
 use Rattle.std.specs.List.{list_any, AllByRecursion}
 use Rattle.std.specs.Cmp.{IsTotalOrder, nat_cmp_total}
 use Rattle.std.specs.Cmp.Lexicographic.{lists_total}
 use Rattle.std.specs.FinSet as set
-use Rattle.std.specs.FinMap.{IsAntisymmetric, nat_cmp-IsAntisymmetric, slice_cmp-IsAntisymmetric}
-use Rattle.std.proofs.lemmas.Bool.{or_cases, true≢false}
+use Rattle.std.proofs.lemmas.Bool.{or_cases, true≢false, or_left, or_right}
 use Rattle.std.proofs.lemmas.List.Folds.{list_any-append}
 use Rattle.cfdp_paths.specs.Paths.{Path, path_cmp, same_path}
 use Rattle.cfdp_paths.proofs.Comparing.{same_path-Decides}
 use Rattle.cfdp_leases.specs.Footprint.{PathSet, any_in}
+use Rattle.cfdp_actions.proofs.Order.{same_path-refl}
+use Rattle.cfdp_paths.proofs.InOrder.{path_antisym}
 
 pub path_cmp_total : IsTotalOrder path_cmp
 path_cmp_total = lists_total (lists_total nat_cmp_total)
 
-pub path_cmp-IsAntisymmetric : IsAntisymmetric path_cmp
-path_cmp-IsAntisymmetric = slice_cmp-IsAntisymmetric (slice_cmp-IsAntisymmetric nat_cmp-IsAntisymmetric)
-
-pub same_path-itself : (p : Path) → same_path p p ≡ true
-same_path-itself p = (same_path-Decides p p).1 refl
-
 -- ---- booleans
-
-pub or_left : (a b : Bool) → a ≡ true → (a || b) ≡ true
-or_left a b h = ap (λ x. x || b) h
-
-pub or_right : (a b : Bool) → b ≡ true → (a || b) ≡ true
-or_right true b h = refl
-or_right false b h = h
 
 pub by_truth : (a b : Bool) → (a ≡ true → b ≡ true) → (b ≡ true → a ≡ true) → a ≡ b
 by_truth true true f g = refl
@@ -67,7 +55,7 @@ pub any_from : (test : Path → Bool) (xs : List Path) → list_any test xs ≡ 
 any_from test [] h = absurd (true≢false (sym h))
 any_from test (x ∷ xs) h =
     elim (or_cases (test x) (list_any test xs) h) [
-      | inl t ↦ (x, or_left _ _ (same_path-itself x), t)
+      | inl t ↦ (x, or_left _ _ (same_path-refl x), t)
       | inr r ↦ let found = any_from test xs r in (found.0, or_right (same_path found.0 x) _ found.1, found.2)
     ]
 
@@ -82,7 +70,7 @@ all_at P (x ∷ xs) q all h =
 pub all_from : (P : Path → Type 0) (xs : List Path) → ((q : Path) → stands q xs → P q) → AllByRecursion P xs
 all_from P [] each = tt
 all_from P (x ∷ xs) each =
-    (each x (or_left _ _ (same_path-itself x)), all_from P xs (λ q h. each q (or_right (same_path q x) _ h)))
+    (each x (or_left _ _ (same_path-refl x)), all_from P xs (λ q h. each q (or_right (same_path q x) _ h)))
 
 pub stands-flat_map : (f : Path → List Path) (xs : List Path) (x q : Path) → stands x xs → stands q (f x) → stands q (flat_map f xs)
 stands-flat_map f [] x q h g = absurd (true≢false (sym h))
@@ -96,7 +84,7 @@ pub stands_in-flat_map : (f : Path → List Path) (xs : List Path) (q : Path) �
 stands_in-flat_map f [] q h = absurd (true≢false (sym h))
 stands_in-flat_map f (y ∷ xs) q h =
     elim (stands-append_cases q (f y) (flat_map f xs) h) [
-      | inl g ↦ (y, or_left _ _ (same_path-itself y), g)
+      | inl g ↦ (y, or_left _ _ (same_path-refl y), g)
       | inr r ↦ let found = stands_in-flat_map f xs q r in (found.0, or_right (same_path found.0 y) _ found.1, found.2)
     ]
 

@@ -1,7 +1,7 @@
 -- A loop over the words of a line of hexadecimal: which are still to come.
 use Rattle.std.proofs.Common.{◌+◌, ◌/◌, ◌<◌, ◌≤◌, ◌==◌, true, false, length, get_or, arith, ◌≡◌, refl, sym, ◌∙◌, ap, ℕ, List, [], ◌∷◌, ◌++◌, Option, Some, None, Result, Ok, Err, Bor, append_assoc, length-append}
 use Rattle.std.specs.Prelude.{IsOk, IsErr, OnOk}
-use Rattle.std.proofs.lemmas.Bool.{false≢true}
+use Rattle.std.proofs.lemmas.Bool.{false≢true, false_from_ne_true}
 use Rattle.std.proofs.lemmas.Iterator.{YieldsList}
 use Rattle.std.proofs.lemmas.List.{append-nil, nil_from_length}
 use Rattle.std.proofs.lemmas.List.Elements.{All-from_get_or}
@@ -13,7 +13,6 @@ use Rattle.cfdp_lines.specs.Hexadecimal.{octets_before, octets_of_words, hex_oct
 use Rattle.cfdp_lines.specs.code.Hexadecimal.{octets_or_none}
 use Rattle.std.specs.List.{slice_split}
 use Rattle.cfdp_lines.specs.Hexadecimal.{is_space}
-use Rattle.cfdp_lines.proofs.Feeding.{not_true}
 
 -- the octets so far, and what the words still to come spell, are what the line spells
 pub record ToDecode {S : Type 0} (steps : S → Option (Bor (List ℕ)) → S → Type 0) (s : S) (line octets : List ℕ) : Type 0 where
@@ -142,7 +141,7 @@ module _ (line : List ℕ) (none : (k : ℕ) → 0 ≤ k → k < length line →
   one_word : hex_octets line ≡ octets_before (decode_of line) (Some [])
   one_word =
       ap octets_of_words (slice_split_none is_space line
-      (All-from_get_or (λ (x : ℕ). is_space x ≡ false) line 0 (λ i lt. not_true (get_or line i 0 == 32) (none i (omega arith) lt))))
+      (All-from_get_or (λ (x : ℕ). is_space x ≡ false) line 0 (λ i lt. false_from_ne_true (get_or line i 0 == 32) (none i (omega arith) lt))))
 
   one_word-good : IsOk (decode_of line) → hex_octets line ≡ Some (octets_or_none (decode_of line))
   one_word-good good =

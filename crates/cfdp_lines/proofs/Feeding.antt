@@ -1,5 +1,5 @@
 -- A loop over the octets that a run is fed with: up to the next line end at once.
-use Rattle.std.proofs.Common.{◌≡◌, ℕ, ◌+◌, ◌<◌, ◌≤◌, ◌==◌, Bool, true, false, List, [], ◌∷◌, ◌++◌, Option, None, length, take, drop, get_or, refl, sym, ap, subst, ◌∙◌, append_assoc, arith, length-take}
+use Rattle.std.proofs.Common.{◌≡◌, ℕ, ◌+◌, ◌<◌, ◌≤◌, ◌==◌, true, false, List, [], ◌∷◌, ◌++◌, Option, None, length, take, drop, get_or, refl, sym, ap, subst, ◌∙◌, append_assoc, arith, length-take}
 use Rattle.std.proofs.lemmas.List.{append-nil, drop_more, take_more, take-append-drop, get_or-take}
 use Rattle.std.proofs.lemmas.List.Elements.{All-from_get_or}
 use Rattle.std.specs.Io.KnownBytes.{Appends}
@@ -12,10 +12,7 @@ use Rattle.cfdp_streams.specs.Streams.{LostWithin}
 use Rattle.cfdp_streams.specs.code.Streams.{Spills}
 use Rattle.cfdp_streams.proofs.Streaming.{Appends-none, Appends-more, Appends-more_or_lost}
 use Rattle.cfdp_lines.proofs.Moving.{Moves-none, Moves-then, Moves-then_stops, Moves-then_breaks, StopsBad-before, StopsBad-good_line, Breaks-none, Breaks-shorter, Moves-gather, Moves-newline, StopsBad-newline, StopsBad-overlong}
-
-pub not_true : (b : Bool) → (b ≡ true → ⊥) → b ≡ false
-not_true true h = absurd (h refl)
-not_true false h = refl
+use Rattle.std.proofs.lemmas.Bool.{false_from_ne_true}
 
 -- octets before the first newline
 pub one_line-before : (octets : List ℕ) (at : ℕ) → at ≤ length octets
@@ -23,14 +20,14 @@ pub one_line-before : (octets : List ℕ) (at : ℕ) → at ≤ length octets
 one_line-before octets at le none =
     All-from_get_or (λ (x : ℕ). is_newline x ≡ false) (take at octets) 0
     (λ i lt. let inside : i < at = omega (arith, length-take at octets) in
-    ap is_newline (get_or-take at octets i 0 inside) ∙ not_true (get_or octets i 0 == 10) (none i (omega arith) inside))
+    ap is_newline (get_or-take at octets i 0 inside) ∙ false_from_ne_true (get_or octets i 0 == 10) (none i (omega arith) inside))
 
 -- octets among which there is none
 pub one_line-whole : (octets : List ℕ) → ((k : ℕ) → 0 ≤ k → k < length octets → (get_or octets k 0 == 10) ≡ true → ⊥)
     → IsOneLine octets
 one_line-whole octets none =
     All-from_get_or (λ (x : ℕ). is_newline x ≡ false) octets 0
-    (λ i lt. not_true (get_or octets i 0 == 10) (none i (omega arith) lt))
+    (λ i lt. false_from_ne_true (get_or octets i 0 == 10) (none i (omega arith) lt))
 
 module _ (State : Type 0) (answer : State → List ℕ → Option (State × List ℕ)) where
   -- octets without a newline

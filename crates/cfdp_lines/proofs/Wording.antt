@@ -14,6 +14,7 @@ use Rattle.cfdp_lines.specs.Words.{is_word, is_numeral, number_before, number_of
 use Rattle.cfdp_lines.specs.Hexadecimal.{is_space, hex_octets, octets_of_words, octets_before}
 use Rattle.cfdp_lines.proofs.Decoding.{octets_before-nothing}
 use Rattle.hex.specs.Hex.{decode_of, decode_pairs}
+use Rattle.std.proofs.lemmas.Bool.{false_from_ne_true}
 
 -- ---- words
 
@@ -34,10 +35,6 @@ words_of-first word behind h n =
     ∙ words_of-parts word (slice_split is_space behind) n
     ∙ ap (λ words. word ∷ words) (sym (words_of-space behind))
 
-not_space : (b : Bool) → (b ≡ true → ⊥) → b ≡ false
-not_space true h = absurd (h refl)
-not_space false h = refl
-
 -- up to the first space, if there is one
 pub words_of-at : (line : List ℕ) (at : ℕ) → get_or line 0 0 ≢ 32 → at < length line
     → ((k : ℕ) → 0 ≤ k → k < at → (get_or line k 0 == 32) ≡ true → ⊥) → (get_or line at 0 == 32) ≡ true
@@ -49,7 +46,7 @@ words_of-at line (suc before) first lt none is =
     let word : All (λ octet. is_space octet ≡ false) (take at line) =
     All-from_get_or (λ (x : ℕ). is_space x ≡ false) (take at line) 0
     (λ i l. let inside : i < at = omega (arith, length-take at line) in
-    ap is_space (get_or-take at line i 0 inside) ∙ not_space (get_or line i 0 == 32) (none i (omega arith) inside)) in
+    ap is_space (get_or-take at line i 0 inside) ∙ false_from_ne_true (get_or line i 0 == 32) (none i (omega arith) inside)) in
     let long : 0 < length (take at line) = omega (arith, length-take at line) in
     ap words_of (sym (take-append-drop at line) ∙ ap (λ t. take at line ++ t) space)
     ∙ words_of-first (take at line) (drop (suc at) line) word long
@@ -60,7 +57,7 @@ pub words_of-whole : (line : List ℕ) → 0 < length line
 words_of-whole line some none =
     words_of-last line
     (All-from_get_or (λ (x : ℕ). is_space x ≡ false) line 0
-    (λ i lt. not_space (get_or line i 0 == 32) (none i (omega arith) lt)))
+    (λ i lt. false_from_ne_true (get_or line i 0 == 32) (none i (omega arith) lt)))
     some
 
 -- ---- numbers
@@ -101,7 +98,7 @@ read_digits : {E : Type 0} (word : List ℕ) (r : Result ℕ E) → is_numeral w
 read_digits word (Ok x) e q = number_if word true e (lt-ltb (digits_value 10 word) (2 ^ 64) q.0.1) ∙ ap Some (sym q.1)
 read_digits word (Err fault) e q =
     number_if word false e
-    (not_space (nat_lt (digits_value 10 word) (2 ^ 64)) (λ l. q (numeral_some word e, ltb-true (digits_value 10 word) (2 ^ 64) l)))
+    (false_from_ne_true (nat_lt (digits_value 10 word) (2 ^ 64)) (λ l. q (numeral_some word e, ltb-true (digits_value 10 word) (2 ^ 64) l)))
 
 -- what std reads of digits is the number that they write
 pub number_read : {E : Type 0} (word : List ℕ) (r : Result ℕ E) → is_numeral word ≡ true → ParsesUnsigned 64 10 word r

@@ -1,5 +1,5 @@
 -- Receipts that are the journal: each of its entries is one of them, and each seat's entries are its receipts.
-use Rattle.std.proofs.Common.{◌≡◌, ◌≢◌, ◌⊎◌, ℕ, suc, ◌+◌, ◌-◌, ◌≤◌, ◌<◌, Bool, true, false, ◌||◌, ◌==◌, List, [], ◌∷◌, ◌++◌, length, filter, cond, Some, None, Result, Ok, Err, slice_get, inl, inr, refl, sym, ap, ◌∙◌, subst, add-zero, eq-eqb, ne_eqb, arith, rules}
+use Rattle.std.proofs.Common.{◌≡◌, ◌≢◌, ◌⊎◌, ℕ, suc, ◌+◌, ◌-◌, ◌≤◌, ◌<◌, Bool, ◌||◌, ◌==◌, List, [], ◌∷◌, ◌++◌, length, filter, cond, Some, None, Result, Ok, Err, slice_get, inl, inr, refl, sym, ap, ◌∙◌, subst, add-zero, eq-eqb, ne_eqb, arith, rules}
 use Rattle.std.proofs.Math.Nat.{eq-or-lt_of_le}
 use Rattle.std.specs.Prelude.{⊤, IsTrue, IsFalse, IfOk}
 use Rattle.std.specs.List.{AllByRecursion, list_any}
@@ -14,6 +14,8 @@ use Rattle.cfdp_engine.specs.Seats.{Seated, receipts_in, is_number_taken, SeatsD
 use Rattle.cfdp_engine.specs.Sharing.{receipt_events}
 use Rattle.cfdp_links.specs.Linked.{AreHanded, HasReadable, Handed, events_by}
 use Rattle.cfdp_links.specs.Links.{Said}
+use Rattle.cfdp_paths.proofs.Scanning.{or_true}
+use Rattle.cfdp_engine.proofs.Faults.{both}
 
 -- ---- numbers that differ
 
@@ -24,13 +26,6 @@ NoneHas number (s ∷ ss) = (s.number ≢ number) × NoneHas number ss
 abbrev Differ : List Seated → Type 0
 Differ [] = ⊤
 Differ (s ∷ ss) = NoneHas s.number ss × Differ ss
-
-both : (b : Bool) → IsTrue b → IsFalse b → ⊥
-both b holds fails = cc
-
-or_true : (b : Bool) → (b || true) ≡ true
-or_true true = refl
-or_true false = refl
 
 taken_more : (before : List Seated) (s : Seated) (number : ℕ) → IsTrue (is_number_taken before number) → IsTrue (is_number_taken (before ++ s ∷ []) number)
 taken_more before s number taken =

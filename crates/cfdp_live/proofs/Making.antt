@@ -1,12 +1,10 @@
 -- What inputs make, one after the other.
 --     more-nothing, more-assoc     nothing more;  three of them
 --     LeftToMake                   some inputs are left, from the state R: with what was made they end and make what all of them do
-use Rattle.std.proofs.Common.{◌≡◌, refl, sym, ap, ◌∙◌, subst, ◌⊎◌, inl, inr, ℕ, zero, suc, ◌+◌, ◌≤◌, Bool, true, false, List, [], ◌∷◌, ◌++◌, length, map, drop, Option, Some, None, slice_get, append_assoc, arith}
+use Rattle.std.proofs.Common.{◌≡◌, refl, sym, ap, ◌∙◌, subst, ◌⊎◌, inl, inr, ℕ, zero, suc, ◌+◌, ◌≤◌, Bool, true, false, List, [], ◌∷◌, ◌++◌, length, map, drop, Option, Some, None, slice_get, append_assoc}
 use Rattle.std.specs.Prelude.{◌||◌}
 use Rattle.std.proofs.Math.Bool.{or-false}
-use Rattle.std.proofs.Math.Seq.{drop-cons}
 use Rattle.std.proofs.lemmas.List.{append-nil, drop_all}
-use Rattle.std.proofs.lemmas.Option.{slice_get_within, get_or_from_slice_get}
 use Rattle.cfdp_receiver.specs.declared.mib.Mib.{Mib}
 use Rattle.cfdp_receiver.specs.State.{State, AnswerFields, Input, Expire}
 use Rattle.cfdp_receiver.specs.Machine.{MachineFields, AnswerParts, answer_in}
@@ -17,13 +15,11 @@ use Rattle.cfdp_run.proofs.Follows.{ends_both, turned_to}
 use Rattle.cfdp_run.proofs.Loops.{passing_last, passing_next, passing_none, settling_next, settling_none}
 use Rattle.cfdp_live.specs.Living.{Out, nothing, with_more, made_of_answer, made_of, made, MakesOut}
 use Rattle.cfdp_live.specs.code.Living.{with_sent}
+use Rattle.cfdp_reports.proofs.Sending.{drop_at}
+use Rattle.cfdp_transactions.proofs.Promises.ItemOrder.{or_assoc}
 
 abbrev out : List (List ℕ) → List ℕ → Bool → Out
 out sent told ended = record { sent = sent; told = told; ended = ended }
-
-or_assoc : (a b c : Bool) → ((a || b) || c) ≡ (a || (b || c))
-or_assoc true b c = refl
-or_assoc false b c = refl
 
 pub more-nothing : (a : Out) → with_more a nothing ≡ a
 more-nothing a =
@@ -114,11 +110,6 @@ passes_end left now R start all before made_so none h =
 
 sent-assoc : (o : Out) (a b : List (List ℕ)) → with_sent (with_sent o a) b ≡ with_sent o (a ++ b)
 sent-assoc o a b = ap (λ (s : List (List ℕ)). out s o.told o.ended) (append_assoc o.sent a b)
-
-drop_at : (pdus : List (List ℕ)) (n : ℕ) (octets : List ℕ) → slice_get pdus n ≡ Some octets → drop n pdus ≡ octets ∷ drop (n + 1) pdus
-drop_at pdus n octets e =
-    drop-cons pdus n octets (slice_get_within pdus n octets e) ∙ ap (λ (x : List ℕ). x ∷ drop (suc n) pdus) (get_or_from_slice_get pdus n octets octets e)
-    ∙ (let one_more : suc n ≡ n + 1 = omega arith in ap (λ (k : ℕ). octets ∷ drop k pdus) one_more)
 
 pub sent_next : (mib : Mib) (pdus : List (List ℕ)) (n : ℕ) (octets : List ℕ) (start now later : Out) → slice_get pdus n ≡ Some octets →
     with_sent now (map (as_sent mib) (drop n pdus)) ≡ start → later ≡ with_sent now (as_sent mib octets ∷ []) →

@@ -103,9 +103,8 @@ impl Transfers {
             .lost
             .saturating_add(3)
             .saturating_add(u64::from(seen.was_crowded));
-        let is_well = seen
-            .end
-            .is_some_and(|end| end.condition == NO_ERROR && end.file_status == RETAINED);
+        let is_well = seen.end.is_some_and(|end| end.condition == NO_ERROR
+            && end.file_status == RETAINED);
         if rounds > most {
             Err(Fault::Wrong(Wrong::TooManyInAll))
         } else if !is_well {

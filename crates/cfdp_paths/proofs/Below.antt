@@ -113,7 +113,7 @@ parent_below p some =
 other_rest : (m n : Name) (p q : Path) → m ≡ n → ◌≢◌ {A = Path} (m ∷ p) (n ∷ q) → p ≢ q
 other_rest m n p q same other e = other (ap (λ x. x ∷ p) same ∙ ap (λ x. n ∷ x) e)
 
-parent_of_below : (p q : Path) → is_at_or_below p q ≡ true → p ≢ q → is_at_or_below (parent p) q ≡ true
+pub parent_of_below : (p q : Path) → is_at_or_below p q ≡ true → p ≢ q → is_at_or_below (parent p) q ≡ true
 parent_of_below p [] h other = refl
 parent_of_below [] (n ∷ q) h other = absurd (true≢false (sym h))
 parent_of_below (m ∷ []) (n ∷ []) h other = absurd (other (ap (λ x. x ∷ []) ((same_name-Decides m n).0 (and_parts (same_name m n) true h).0)))

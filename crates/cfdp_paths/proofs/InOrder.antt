@@ -47,11 +47,11 @@ greater_back p q h = path_cmp-total.antisymm q p ∙ ap ordering_reverse h
 pub less_itself : (k : Path) → path_cmp k k ≡ Less → ⊥
 less_itself k p = absurd (true≢false (sym (ap is_lt (sym (tied_itself path_cmp-total k) ∙ p))))
 
-true_from_T : (b : Bool) → T b → b ≡ true
+pub true_from_T : (b : Bool) → T b → b ≡ true
 true_from_T true h = refl
 true_from_T false h = absurd h
 
-T_from_true : (b : Bool) → b ≡ true → T b
+pub T_from_true : (b : Bool) → b ≡ true → T b
 T_from_true true h = tt
 T_from_true false h = absurd (true≢false (sym h))
 

@@ -8,7 +8,7 @@
 --     one_tree, one_read, one_rest, one_below, one_shallow, one_moved     where the piece is one entry
 --     moved_up_to, not_moved_yet, all_moved, length-moved, below_at, shallow_at    where entries move one after the other
 --     puts_piece                 where nothing is at or below the path, the entries go in as one piece
-use Rattle.std.proofs.Common.{◌≡◌, ℕ, zero, suc, ◌+◌, ◌-◌, ◌<◌, ◌≤◌, Bool, true, false, not, Result, Ok, Err, OnOk, OnErr, List, [], ◌∷◌, ◌++◌, map, length, take, drop, get_or, refl, sym, ap, subst, ◌∙◌, arith, append_assoc, length-take, length-drop, length-append}
+use Rattle.std.proofs.Common.{◌≡◌, ℕ, zero, suc, ◌+◌, ◌-◌, ◌<◌, ◌≤◌, true, false, not, Result, Ok, Err, OnOk, OnErr, List, [], ◌∷◌, ◌++◌, map, length, take, drop, get_or, refl, sym, ap, subst, ◌∙◌, arith, append_assoc, length-take, length-drop, length-append}
 use Rattle.std.specs.Cmp.{tied_itself}
 use Rattle.std.specs.Cmp.Lexicographic.{slice_cmp, nat_list_cmp_total}
 use Rattle.std.specs.FinMap.{put, is_sorted}
@@ -18,7 +18,7 @@ use Rattle.std.specs.List.{list_all, between, remove}
 use Rattle.std.specs.Ordering.{is_lt, nat_cmp}
 use Rattle.std.specs.declared.cmp.Ordering.TheVariants.{Less, Equal, Greater}
 use Rattle.std.proofs.Math.ListN.{drop_of_length-le}
-use Rattle.std.proofs.lemmas.Bool.{and_parts, or_parts, ltb-false, true≢false}
+use Rattle.std.proofs.lemmas.Bool.{and_parts, or_parts, ltb-false, true≢false, true_from_ne_false, false_from_ne_true}
 use Rattle.std.proofs.lemmas.List.{append-nil, get_or_default, take-append-drop, take_all, take_at, drop_at, drop-take, take-take, drop-drop}
 use Rattle.cfdp_paths.specs.Paths.{Path, path_cmp, is_at_or_below, rebased}
 use Rattle.cfdp_paths.specs.PathMaps.{tree_in, rest_in, puts, moved_to, is_too_deep}
@@ -26,7 +26,7 @@ use Rattle.cfdp_paths.specs.code.PathMaps.{IsPieceOf, rank, spread, with_paths}
 use Rattle.cfdp_paths.proofs.Comparing.{path_cmp-total}
 use Rattle.cfdp_paths.proofs.Below.{append_from_at_or_below, at_or_below-append}
 use Rattle.cfdp_paths.proofs.InOrder.{path_antisym, less_by, less_back, greater_back, put-less, put-greater, below_before, ordered-put, ordered-where}
-use Rattle.cfdp_paths.proofs.Pieces.{false_by, between_below, below_not_before, BeginsAt, begins_at_rank, sorted_behind, tree_split, tree_between}
+use Rattle.cfdp_paths.proofs.Pieces.{between_below, below_not_before, BeginsAt, begins_at_rank, sorted_behind, tree_split, tree_between}
 
 -- ---- rotations
 
@@ -98,7 +98,7 @@ put_in {Y} ys ms zs start behind within count same =
 -- ---- the order after a move
 
 -- what follows the same path compares alike
-path_cmp-append : (q a b : Path) → path_cmp (q ++ a) (q ++ b) ≡ path_cmp a b
+pub path_cmp-append : (q a b : Path) → path_cmp (q ++ a) (q ++ b) ≡ path_cmp a b
 path_cmp-append [] a b = refl
 path_cmp-append (n ∷ q) a b =
     let same : slice_cmp nat_cmp n n ≡ Equal = tied_itself nat_list_cmp_total n in
@@ -108,10 +108,6 @@ pub rebased_cmp : (p q x y : Path) → is_at_or_below x p ≡ true → is_at_or_
 rebased_cmp p q x y h k =
     path_cmp-append q (drop (length p) x) (drop (length p) y) ∙ sym (path_cmp-append p (drop (length p) x) (drop (length p) y))
     ∙ ap (λ z. path_cmp z (p ++ drop (length p) y)) (sym (append_from_at_or_below x p h)) ∙ ap (path_cmp x) (sym (append_from_at_or_below y p k))
-
-true_by : (b : Bool) → (b ≡ false → ⊥) → b ≡ true
-true_by true h = refl
-true_by false h = absurd (h refl)
 
 -- what is at or below q is after what is before q
 first_before : (q m x : Path) → is_at_or_below m q ≡ true → is_lt (path_cmp x q) ≡ true → path_cmp m x ≡ Greater
@@ -222,8 +218,9 @@ module _ {X : Type 0} where
   back_behind q m [] s begins none h = refl
   back_behind q m (e ∷ es) s begins none h =
       let parts = and_parts (below_all path_cmp e.0 es) (is_sorted path_cmp es) s in
-      let out : is_at_or_below e.0 q ≡ false = false_by (is_at_or_below e.0 q) (λ is. some_spread q e es is none) in
-      let less : is_lt (path_cmp m e.0) ≡ true = true_by (is_lt (path_cmp m e.0)) (λ isnt. true≢false (sym (between_below q e.0 m begins isnt h) ∙ out)) in
+      let out : is_at_or_below e.0 q ≡ false = false_from_ne_true (is_at_or_below e.0 q) (λ is. some_spread q e es is none) in
+      let less : is_lt (path_cmp m e.0) ≡ true =
+      true_from_ne_false (is_lt (path_cmp m e.0)) (λ isnt. true≢false (sym (between_below q e.0 m begins isnt h) ∙ out)) in
       rw less (below_before m e.0 es (less_by _ less) parts.0)
 
   fits_all : (q : Path) (es ms : List (Path × X)) → is_sorted path_cmp es ≡ true → spread q (drop (rank q es) es) ≡ 0 → list_all (λ e. is_at_or_below e.0 q) ms

@@ -4,7 +4,7 @@
 --     tree_split, rest_split   the entries at or below a path, and the others, by index
 --     spreads_parted           of the entries from the index of a path on, those at or below it are first
 --     any_below-tree           whether a path of the piece is another one
-use Rattle.std.proofs.Common.{◌≡◌, ℕ, zero, suc, ◌+◌, ◌-◌, ◌≤◌, Bool, true, false, not, ◌&&◌, ◌||◌, List, [], ◌∷◌, ◌++◌, length, take, drop, get_or, refl, sym, ap, subst, ◌∙◌, arith, length-drop}
+use Rattle.std.proofs.Common.{◌≡◌, ℕ, zero, suc, ◌+◌, ◌-◌, ◌≤◌, true, false, not, ◌&&◌, ◌||◌, List, [], ◌∷◌, ◌++◌, length, take, drop, get_or, refl, sym, ap, subst, ◌∙◌, arith, length-drop}
 use Rattle.std.specs.Cmp.{Equal-is}
 use Rattle.std.specs.Cmp.Lexicographic.{slice_cmp, nat_list_cmp_total}
 use Rattle.std.specs.FinMap.{is_sorted}
@@ -14,7 +14,7 @@ use Rattle.std.specs.List.Sorted.{IsPartitionPoint, IsPartitionedBy}
 use Rattle.std.specs.Ordering.{is_lt, nat_cmp, ordering_reverse}
 use Rattle.std.specs.declared.cmp.Ordering.{Ordering}
 use Rattle.std.specs.declared.cmp.Ordering.TheVariants.{Less, Equal, Greater}
-use Rattle.std.proofs.lemmas.Bool.{and_parts, true≢false}
+use Rattle.std.proofs.lemmas.Bool.{and_parts, true≢false, false_from_ne_true}
 use Rattle.std.proofs.lemmas.Slice.{between_to_end}
 use Rattle.cfdp_paths.specs.Paths.{Name, Path, path_cmp, same_name, same_path, is_at_or_below}
 use Rattle.cfdp_paths.specs.PathMaps.{tree_in, rest_in, any_below}
@@ -26,14 +26,10 @@ use Rattle.cfdp_paths.proofs.InOrder.{less_by, less_back, below_at, prefix_len_o
 abbrev name_cmp : Name → Name → Ordering
 name_cmp = slice_cmp nat_cmp
 
-pub false_by : (b : Bool) → (b ≡ true → ⊥) → b ≡ false
-false_by true h = absurd (h refl)
-false_by false h = refl
-
 -- what is not before another is not before what is before that
 pub not_before-trans : (p x y : Path) → is_lt (path_cmp x p) ≡ false → path_cmp x y ≡ Less → is_lt (path_cmp y p) ≡ false
 not_before-trans p x y h less =
-    false_by (is_lt (path_cmp y p)) (λ before. true≢false (sym (ap is_lt (path_cmp-total.trans x y p less (less_by _ before))) ∙ h))
+    false_from_ne_true (is_lt (path_cmp y p)) (λ before. true≢false (sym (ap is_lt (path_cmp-total.trans x y p less (less_by _ before))) ∙ h))
 
 after_not_before : (x y : Path) → path_cmp x y ≡ Less → is_lt (path_cmp y x) ≡ false
 after_not_before x y less = ap is_lt (less_back x y less)
@@ -71,7 +67,7 @@ below_not_before (m ∷ q) (n ∷ p) h =
 
 -- after what is not at or below p nothing is
 not_below_behind : (p x y : Path) → is_lt (path_cmp x p) ≡ false → is_at_or_below x p ≡ false → path_cmp x y ≡ Less → is_at_or_below y p ≡ false
-not_below_behind p x y a b less = false_by (is_at_or_below y p) (λ h. true≢false (sym (between_below p x y a (after_not_before x y less) h) ∙ b))
+not_below_behind p x y a b less = false_from_ne_true (is_at_or_below y p) (λ h. true≢false (sym (between_below p x y a (after_not_before x y less) h) ∙ b))
 
 module _ {X : Type 0} (p : Path) where
   -- the first entry, if there is one, is not before p
@@ -159,7 +155,7 @@ module _ {X : Type 0} (p : Path) where
       (tree_in p (e ∷ es) ≡ take (spread p behind) behind) × (rest_in p (e ∷ es) ≡ take (rank p (e ∷ es)) (e ∷ es) ++ drop (spread p behind) behind)) [
         | true ↦ λ is.
             let more = rank-in e es is in
-            let out = tree-out e es (false_by (is_at_or_below e.0 p) (λ h. true≢false (sym is ∙ below_not_before e.0 p h))) in
+            let out = tree-out e es (false_from_ne_true (is_at_or_below e.0 p) (λ h. true≢false (sym is ∙ below_not_before e.0 p h))) in
             let rest = tree_split es parts.1 in
             rw more (out.0 ∙ rest.0, out.1 ∙ ap (λ ys. e ∷ ys) rest.1)
         | false ↦ λ isnt.

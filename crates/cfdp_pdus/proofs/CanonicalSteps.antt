@@ -278,7 +278,7 @@ pub file_data_short : (large : Bool) (file_data : FileDataFields) → file_data_
 unfolding file_data_fits
 file_data_short large file_data e = leb-true _ _ e
 
-fss_small : (large : Bool) → fss large ≤ 8
+pub fss_small : (large : Bool) → fss large ≤ 8
 fss_small true = omega arith
 fss_small false = omega arith
 

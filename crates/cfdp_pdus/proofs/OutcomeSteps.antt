@@ -17,7 +17,7 @@ use Rattle.cfdp_pdus.proofs.Steps.{mend_ok, held_ok, ok_is, chosen}
 use Rattle.cfdp_pdus.proofs.FieldSteps.{all_of}
 use Rattle.cfdp_pdus.proofs.OutcomeLoop.{Outcome}
 
-and_true : (a b : Bool) → (a && b) ≡ true → (a ≡ true) × (b ≡ true)
+pub and_true : (a b : Bool) → (a && b) ≡ true → (a ≡ true) × (b ≡ true)
 and_true true b e = (refl, e)
 and_true false b e = absurd cc
 

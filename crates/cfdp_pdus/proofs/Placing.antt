@@ -37,7 +37,7 @@ then buffer now new xs ys at next within is_now is_new same =
 
 -- ---- from the front
 
-at_front : (buffer xs : List ℕ) → with_octets_at buffer 0 xs ≡ filled xs buffer
+pub at_front : (buffer xs : List ℕ) → with_octets_at buffer 0 xs ≡ filled xs buffer
 at_front buffer xs = ap (λ (n : ℕ). xs ++ drop n buffer) (omega arith)
 
 -- a part after those at the front

@@ -4,10 +4,10 @@ use Rattle.std.specs.List.{slice_index}
 use Rattle.std.proofs.lemmas.Nat.{div-add-mod'}
 use Rattle.hex.specs.Hex.{hex_digit_value, encode_with, lower_digits}
 use Rattle.hex.proofs.HexLemmas.{IsDigits-lower_digits}
-use Rattle.cfdp_pdus.proofs.WriteSteps.{and_true}
 use Rattle.cfdp_texts.specs.Replies.{is_plain, shown_octet, two_digits}
 use Rattle.cfdp_plans.specs.Names.{before, itself, octet_of_pair, name_in}
 use Rattle.cfdp_plans.specs.Laws.{PrintedIsRead}
+use Rattle.cfdp_pdus.proofs.OutcomeSteps.{and_true}
 
 not_true : (b : Bool) → not b ≡ true → b ≡ false
 not_true true e = absurd cc

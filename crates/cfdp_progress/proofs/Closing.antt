@@ -2,7 +2,7 @@
 use Rattle.std.specs.Prelude.{if◌then◌else◌, ◌==◌, take}
 use Rattle.std.specs.List.{AllByRecursion, flat_map, list_any}
 use Rattle.std.proofs.Common.{◌≡◌, ◌⊎◌, inl, inr, ℕ, ◌+◌, ◌<◌, ◌≤◌, Bool, true, false, ◌&&◌, ◌||◌, List, [], ◌∷◌, ◌++◌, length, Option, Some, None, refl, sym, ap, subst, ◌∙◌, arith}
-use Rattle.std.proofs.lemmas.Bool.{cond-true, cond-false, cases_Bool, and_parts, and_left, and_right, or_left}
+use Rattle.std.proofs.lemmas.Bool.{cond-true, cond-false, cases_Bool, and_parts, and_left, and_right, or_left, or_from}
 use Rattle.cfdp_status.specs.declared.transaction.TransactionId.{TransactionId}
 use Rattle.cfdp_leases.specs.Leases.{is_same}
 use Rattle.cfdp_pdus.specs.Values.{MetadataFields, FileDataFields}
@@ -17,7 +17,7 @@ use Rattle.cfdp_sessions.specs.Closed.{ClosedFields, with_name, remembers}
 use Rattle.cfdp_sessions.specs.Sessions.{SessionFields, session_id, found, without_session, AreDistinct}
 use Rattle.cfdp_sessions.specs.declared.session.Stage.{Stage}
 use Rattle.cfdp_sessions.specs.declared.session.Stage.TheVariants.{Held, Known, Over as OverStage, Waiting}
-use Rattle.cfdp_sessions.proofs.Names.{same_self, same_is, both_of, found_name, replaced_self, gone}
+use Rattle.cfdp_sessions.proofs.Names.{both_of, found_name, replaced_self, gone}
 use Rattle.cfdp_transactions.specs.Entry.{id_of}
 use Rattle.cfdp_transactions.specs.World.{World}
 use Rattle.cfdp_transactions.specs.declared.reply.Reply.{Reply}
@@ -25,19 +25,20 @@ use Rattle.cfdp_transactions.specs.Next.{run, replies}
 use Rattle.cfdp_receiver.specs.declared.answer.Became.TheVariants as became
 use Rattle.cfdp_receiver.specs.declared.answer.Word.TheVariants as words
 use Rattle.cfdp_receiver.specs.declared.mib.Mib.{Mib}
-use Rattle.cfdp_receiver.specs.declared.at.At.TheVariants.{Waiting as At_waiting}
 use Rattle.cfdp_receiver.specs.State.{State, Input, MetadataPdu, DataPdu, EofPdu, AckPdu, PromptPdu, OtherPdu, Expire, Work, Finish, CancelAsked, ForgetAsked, session_of, is_closed, at_of}
 use Rattle.cfdp_receiver.specs.Due as Dues
 use Rattle.cfdp_receiver.specs.Handing as Handing
 use Rattle.cfdp_receiver.specs.Turning as Turning
 use Rattle.cfdp_receiver.specs.Laws.{due_name, session_name, touched, is_waiting, waits_in}
 use Rattle.cfdp_receiver.proofs.Distinct.{distinct_after}
-use Rattle.cfdp_receiver.proofs.Limits.{stage_due, alive_due, first_over_is, is_it, at_waiting}
+use Rattle.cfdp_receiver.proofs.Limits.{stage_due, alive_due, first_over_is, is_it, at_waiting, terms_waiting}
 use Rattle.cfdp_receiver.proofs.Shapes.{others_stay}
 use Rattle.cfdp_progress.specs.NakRounds.{IsServed}
 use Rattle.cfdp_progress.specs.Closing.{acknowledges, is_acknowledged, is_timer_of, is_sent_again, IsSentOnce, FinishedRound, finished_inputs, AreFinishedRounds, rounds_lost, WasClosed, ClosedAfterLosses}
-use Rattle.cfdp_progress.proofs.Openings.{full_of}
-use Rattle.cfdp_progress.proofs.Runs.{distinct_all, mib_all}
+use Rattle.cfdp_progress.proofs.Runs.{distinct_all, mib_all, joined}
+use Rattle.cfdp_receiver.proofs.Serving.{full_of}
+use Rattle.cfdp_leases.proofs.Held.{same_itself}
+use Rattle.cfdp_leases.proofs.Admitted.{same_is}
 
 -- it is closed, or it stays as it is and the input is no acknowledgement
 data TurnsWaiting (R : State) (i : Input) (id : TransactionId) (s : SessionFields) : Type 0 where
@@ -106,7 +107,7 @@ kept_cancel R L rs id s Waiting same here w = ap (λ (ss : List SessionFields). 
 -- ---- its acknowledgement
 
 pub remembers_it : (c : ClosedFields) (id : TransactionId) → remembers (with_name c id) id ≡ true
-remembers_it c id = or_left (is_same id id) (list_any (λ (name : TransactionId). is_same name id) (take 255 c.names)) (same_self id)
+remembers_it c id = or_left (is_same id id) (list_any (λ (name : TransactionId). is_same name id) (take 255 c.names)) (same_itself id)
 
 own_ack : (R : State) (now : ℕ) (h : Header) (ack : Ack) (s : SessionFields) → AreDistinct R.sessions → session_of R (id_of h) ≡ Some s →
     s.stage ≡ Waiting → TurnsWaiting R (AckPdu now h ack) (id_of h) s
@@ -262,10 +263,6 @@ pub closed_after : (R : State) (xs ys : List Input) (id : TransactionId) → Was
 closed_after R [] ys id w = w
 closed_after R (x ∷ xs) ys id w = closed_later R x (xs ++ ys) id (closed_after (Turning.after_input R x) xs ys id w)
 
-joined : (xs ys zs : List Input) → (xs ++ ys) ++ zs ≡ xs ++ (ys ++ zs)
-joined [] ys zs = refl
-joined (x ∷ xs) ys zs = ap (λ (ws : List Input). x ∷ ws) (joined xs ys zs)
-
 pub closed_before : (R : State) (xs ys : List Input) (id : TransactionId) → WasClosed R xs id → WasClosed R (xs ++ ys) id
 closed_before R xs ys id w =
     record {
@@ -276,10 +273,6 @@ closed_before R xs ys id w =
       remembered =
           w.remembered;
     }
-
-or_none : (a b : Bool) → a ≡ false → b ≡ false → (a || b) ≡ false
-or_none true b h k = absurd cc
-or_none false b h k = k
 
 -- closed, or as before and not acknowledged
 abbrev pub ClosedOrWaits : State → List Input → TransactionId → SessionFields → Type 0
@@ -293,23 +286,18 @@ over R (i ∷ is) id s d here w none = elim (turn_of R i id s d here w (none.0 (
   | Closes no_session remembered ↦ inl (record { front = i ∷ []; back = is; parts = refl; gone = no_session; remembered = remembered })
   | Stays again other ↦ elim (over (Turning.after_input R i) is id s (distinct_after R i d) again w none.1) [
     | inl was ↦ inl (closed_later R i is id was)
-    | inr left ↦ inr (left.0, or_none (acknowledges R id i) (is_acknowledged (Turning.after_input R i) id is) other left.1)
+    | inr left ↦ inr (left.0, or_from (acknowledges R id i) (is_acknowledged (Turning.after_input R i) id is) other left.1)
   ]
 ]
 
 -- ---- its timer
 
-terms_waiting : (R : State) (acknowledged : Bool) (s : SessionFields) →
-    Dues.terms_at R.mib R.world.config.checks acknowledged s.timer At_waiting ≡ Some (R.mib.ack.interval, R.mib.ack.limit)
-terms_waiting R true s = refl
-terms_waiting R false s = refl
-
-served_is : (R : State) (id : TransactionId) (s : SessionFields) (moment : ℕ) (limit : Bool) → AreDistinct R.sessions → session_of R id ≡ Some s →
+pub served_is : (R : State) (id : TransactionId) (s : SessionFields) (moment : ℕ) (limit : Bool) → AreDistinct R.sessions → session_of R id ≡ Some s →
     (served : IsServed R id moment limit) → s ≡ served.session
 served_is R id s moment limit d here served =
     let L = Handing.later moment R in
     is_it R id s served.session d here (stage_due L R.sessions served.session limit served.due).0
-    (ap (λ (n : TransactionId). is_same n id) served.named ∙ same_self id)
+    (ap (λ (n : TransactionId). is_same n id) served.named ∙ same_itself id)
 
 ack_is_full : (R : State) (id : TransactionId) (s : SessionFields) (moment : ℕ) → AreDistinct R.sessions → session_of R id ≡ Some s → s.stage ≡ Waiting →
     IsServed R id moment true → R.mib.ack.limit ≤ s.timer.count + 1

@@ -15,7 +15,7 @@ use Rattle.cfdp_retransmission.specs.declared.timer.Timer.{Timer}
 use Rattle.cfdp_sessions.specs.Sessions.{SessionFields, session_id, found, replaced, AreDistinct}
 use Rattle.cfdp_sessions.specs.declared.session.Stage.{Stage}
 use Rattle.cfdp_sessions.specs.declared.session.Stage.TheVariants.{Held, Known, Over as OverStage, Waiting}
-use Rattle.cfdp_sessions.proofs.Names.{same_is, both_of, found_name, replaced_self, member_found, IsMember}
+use Rattle.cfdp_sessions.proofs.Names.{both_of, found_name, replaced_self, member_found, IsMember}
 use Rattle.cfdp_transactions.specs.Admission.{metadata_came}
 use Rattle.cfdp_transactions.specs.Delivery.{data_at, data_came, eof_without_error, eof_came}
 use Rattle.cfdp_transactions.specs.Ending.{ended, ends, cancelled}
@@ -49,6 +49,8 @@ use Rattle.cfdp_receiver.proofs.Shapes.{others_stay}
 use Rattle.cfdp_progress.specs.Concluding.{has_nothing_left, WasConcluded, ConcludedWhenDone, IsSentAndWaits, FinishedIsSent, FinishedIsSentAlone}
 use Rattle.cfdp_receiver.proofs.Others.{other_than, others_keep_entries, run_sound}
 use Rattle.cfdp_progress.proofs.Turns.{heard_is, roused_is}
+use Rattle.cfdp_leases.proofs.Admitted.{same_is}
+use Rattle.cfdp_transactions.proofs.Promises.Carried.{some_same}
 
 -- ---- the entry, at events of its own
 
@@ -477,7 +479,7 @@ turn_of next_sound promised R ForgetAsked id s sound d here known p = Goes_on (k
 
 -- ---- nothing is left
 
-not_true : (b : Bool) → not b ≡ true → b ≡ false
+pub not_true : (b : Bool) → not b ≡ true → b ≡ false
 not_true true h = absurd cc
 not_true false h = refl
 
@@ -490,9 +492,6 @@ runs_by e es false is (inr now) = absurd cc
 abbrev of_entry : Entry → Option Entry → Entry
 of_entry d None = d
 of_entry d (Some e) = e
-
-first_is : (x e : Entry) → Some x ≡ Some e → x ≡ e
-first_is x e h = ap (of_entry x) h
 
 abbrev of_session : SessionFields → Option SessionFields → SessionFields
 of_session d None = d
@@ -510,7 +509,7 @@ found_member (x ∷ xs) id s h = member_by x xs id s (is_same (session_id x) id)
 -- where an item of an entry is next, some item is
 runs : (table : List Entry) (k : ℕ) (e : Entry) → slice_get table k ≡ Some e → is_executing e.phase ≡ true → is_some (next_runnable table) ≡ true
 runs [] k e at h = absurd cc
-runs (x ∷ xs) zero e at h = runs_by x xs (is_executing x.phase) refl (inr (ap (λ (y : Entry). is_executing y.phase) (first_is x e at) ∙ h))
+runs (x ∷ xs) zero e at h = runs_by x xs (is_executing x.phase) refl (inr (ap (λ (y : Entry). is_executing y.phase) (some_same x e at) ∙ h))
 runs (x ∷ xs) (suc k) e at h = runs_by x xs (is_executing x.phase) refl (inl (runs xs k e at h))
 
 over_by : (x : SessionFields) (b : Bool) (later : Option SessionFields) → (is_some later ≡ true) ⊎ (b ≡ true) → is_some (if b then Some x else later) ≡ true

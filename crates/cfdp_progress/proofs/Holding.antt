@@ -16,7 +16,7 @@ use Rattle.cfdp_sessions.specs.Closed.{remembers}
 use Rattle.cfdp_sessions.specs.Sessions.{SessionFields, session_id, found, replaced, AreDistinct}
 use Rattle.cfdp_sessions.specs.declared.session.Stage.{Stage}
 use Rattle.cfdp_sessions.specs.declared.session.Stage.TheVariants.{Held, Known, Over as OverStage, Waiting}
-use Rattle.cfdp_sessions.proofs.Names.{same_self, same_is, both_of, found_name, replaced_self, member_found}
+use Rattle.cfdp_sessions.proofs.Names.{both_of, found_name, replaced_self, member_found}
 use Rattle.cfdp_transactions.specs.Entry.{Entry, id_of}
 use Rattle.cfdp_transactions.specs.declared.reply.Reply.{Reply}
 use Rattle.cfdp_transactions.specs.Next.{run, replies}
@@ -40,8 +40,11 @@ use Rattle.cfdp_receiver.proofs.Shapes.{others_stay}
 use Rattle.cfdp_progress.specs.Awaiting.{is_ignoring, is_given_up, breaks_off}
 use Rattle.cfdp_progress.specs.HeldRounds.{is_eof_held, holds_in, EofHolds, BeginsHeldRound, asks_first, joins_held, comes, StaysHeld}
 use Rattle.cfdp_progress.specs.NakRounds.{is_asking, asks_again, IsServed}
-use Rattle.cfdp_progress.proofs.Openings.{full_of}
 use Rattle.cfdp_progress.proofs.Turns.{Quiet, kept_quiet, put_quiet, quiet_none_if, quiet_prompt, quiet_other, ignored_by, is_ignored, no_error}
+use Rattle.cfdp_receiver.proofs.Serving.{full_of}
+use Rattle.cfdp_progress.proofs.Closing.{served_is}
+use Rattle.cfdp_leases.proofs.Held.{same_itself}
+use Rattle.cfdp_leases.proofs.Admitted.{same_is}
 
 -- ---- a session that holds an EOF PDU
 
@@ -93,7 +96,7 @@ held_metadata R now h m s here held none =
     (λ ours. subst (λ (o : Option SessionFields). Stays R id s false (Turning.metadata_parts L V rs h m o).sessions) (sym here)
     (stays_metadata R now V rs h m s s.stage here held (λ mode.
     both_of (joins_held R id i) none (and_from (Handing.is_ours R h) (is_same id id && (h.acknowledged && there)) ours
-    (and_from (is_same id id) (h.acknowledged && there) (same_self id) (and_from h.acknowledged there mode holds))))))
+    (and_from (is_same id id) (h.acknowledged && there) (same_itself id) (and_from h.acknowledged there mode holds))))))
     (λ foreign. kept)
 
 held_data : (R : State) (now : ℕ) (h : Header) (piece : FileDataFields) (s : SessionFields) → session_of R (id_of h) ≡ Some s → is_eof_held s.stage ≡ true →
@@ -336,20 +339,13 @@ open_eof R id moment h eof some e =
       asks = ap (λ (p : Turning.Parts). asks_first p.answer.naks) parts ∙ stage_asks R.mib h (Held eof) (entry_of R.world (id_of h)) some refl;
     }
 
-it_is : (R : State) (id : TransactionId) (s : SessionFields) (moment : ℕ) (limit : Bool) → AreDistinct R.sessions → session_of R id ≡ Some s →
-    (served : IsServed R id moment limit) → s ≡ served.session
-it_is R id s moment limit d here served =
-    let L = Handing.later moment R in
-    is_it R id s served.session d here (stage_due L R.sessions served.session limit served.due).0
-    (ap (λ (n : TransactionId). is_same n id) served.named ∙ same_self id)
-
 open_expire : (R : State) (id : TransactionId) (moment count : ℕ) → 1 ≤ most_nak_requests R.mib → AreDistinct R.sessions → StillHeld R id count →
     IsServed R id moment false → Opened R (Expire moment) id (count + 1)
 open_expire R id moment count some d h served =
     let i = Expire moment in
     let L = Handing.later moment R in
     let s = h.session in
-    let it = it_is R id s moment false d h.here served in
+    let it = served_is R id s moment false d h.here served in
     let due : Dues.first_due L R.sessions ≡ Dues.Stage_due s false = served.due ∙ ap (λ (y : SessionFields). Dues.Stage_due y false) (sym it) in
     let V = run R.world (Handing.handed R i) in
     let new : SessionFields = record s { timer = passed L.now s.timer Again } in
@@ -378,7 +374,7 @@ limit_is_full : (R : State) (id : TransactionId) (moment count : ℕ) → AreDis
 limit_is_full R id moment count d h served =
     let L = Handing.later moment R in
     let s = h.session in
-    let it = it_is R id s moment true d h.here served in
+    let it = served_is R id s moment true d h.here served in
     let terms : Dues.terms_at R.mib R.world.config.checks s.header.acknowledged s.timer (at_of R.world s) ≡ Some (R.mib.nak.interval, R.mib.nak.limit) =
     ap (Dues.terms_at R.mib R.world.config.checks s.header.acknowledged s.timer) (at_held R.world s h.held) in
     let reached : Dues.expiry_of L s ≡ Limit = ap (Dues.expiry_of L) it ∙ (stage_due L R.sessions served.session true served.due).1 in

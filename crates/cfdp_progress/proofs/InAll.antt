@@ -12,7 +12,7 @@ use Rattle.cfdp_sessions.specs.Closed.{remembers}
 use Rattle.cfdp_sessions.specs.Sessions.{SessionFields, session_id, found, AreDistinct}
 use Rattle.cfdp_sessions.specs.declared.session.Stage.{Stage}
 use Rattle.cfdp_sessions.specs.declared.session.Stage.TheVariants.{Held, Known, Over as OverStage, Waiting}
-use Rattle.cfdp_sessions.proofs.Names.{same_self, replaced_self, gone, member_found}
+use Rattle.cfdp_sessions.proofs.Names.{replaced_self, gone, member_found}
 use Rattle.cfdp_transactions.specs.Entries.{OnlyTakeRemoves, TakeRemoves}
 use Rattle.cfdp_transactions.specs.Entry.{Entry}
 use Rattle.cfdp_transactions.specs.Headline.{NextIsSound, NextIsPromised}
@@ -39,11 +39,13 @@ use Rattle.cfdp_progress.specs.InAll.{EitherRound, as_finished, inputs_of, is_se
 use Rattle.cfdp_receiver.proofs.Others.{run_sound}
 use Rattle.cfdp_progress.proofs.Pieces.{fits_of, few_of}
 use Rattle.cfdp_progress.proofs.Turns.{Before}
-use Rattle.cfdp_progress.proofs.Runs.{still_awaits, sound_all, distinct_all, mib_all, after_both, takes_none}
+use Rattle.cfdp_progress.proofs.Runs.{still_awaits, sound_all, distinct_all, mib_all, after_both}
 use Rattle.cfdp_progress.proofs.Openings.{open_expire, open_first}
 use Rattle.cfdp_progress.proofs.Rounds.{SoFar, Room, is_below, not_enough, round_goes, one_more, lost_more, count_more}
 use Rattle.cfdp_progress.proofs.Closing.{AreLow, IsSafeToSend, over, rounds_close, remembers_it, closed_later, closed_after, closed_before, is_lost_by}
 use Rattle.cfdp_progress.proofs.Concluding.{concluded_when_done, concluded_later}
+use Rattle.cfdp_receiver.proofs.Delivering.{takes_none}
+use Rattle.cfdp_leases.proofs.Held.{same_itself}
 
 -- ---- what is known after several inputs
 
@@ -60,7 +62,7 @@ record HasKnown (R : State) (id : TransactionId) : Type 0 where
   here : session_of R id ≡ Some session
   known : session.stage ≡ Known
 
-known_stage : (stage : Stage) → is_known_session stage ≡ true → stage ≡ Known
+pub known_stage : (stage : Stage) → is_known_session stage ≡ true → stage ≡ Known
 known_stage (Held eof) h = absurd cc
 known_stage Known h = refl
 known_stage (OverStage ending) h = absurd cc
@@ -132,7 +134,7 @@ ends_concluded N rest id lost d watched w =
     let P = after_input G i in
     let apart = distinct_all N w.front d in
     let once : IsSentOnce P id w.back = (once_after N w.front (i ∷ w.back) id (subst (IsSentOnce N id) w.parts watched.once)).1 in
-    let is : concludes G id i ≡ true = ap (is_session_of id) w.over ∙ ap (λ (n : TransactionId). is_same n id) w.named ∙ same_self id in
+    let is : concludes G id i ≡ true = ap (is_session_of id) w.over ∙ ap (λ (n : TransactionId). is_same n id) w.named ∙ same_itself id in
     let comes : lost ≡ false → is_acknowledged P id w.back ≡ true =
     (acknowledged_after lost N w.front (i ∷ w.back) id (subst (IsAcknowledgedAfter lost N id) w.parts watched.acknowledged)).0 is in
     let lift : WasClosed G (i ∷ w.back) id → Ends N rest id lost =

@@ -11,7 +11,7 @@ use Rattle.cfdp_retransmission.specs.Rounds.{spare_round, WholeAfterLosses}
 use Rattle.cfdp_sessions.specs.Sessions.{SessionFields, AreDistinct}
 use Rattle.cfdp_sessions.specs.declared.session.Stage.{Stage}
 use Rattle.cfdp_sessions.specs.declared.session.Stage.TheVariants.{Held, Known, Over as OverStage, Waiting}
-use Rattle.cfdp_sessions.proofs.Names.{same_is, both_of}
+use Rattle.cfdp_sessions.proofs.Names.{both_of}
 use Rattle.cfdp_transactions.specs.Entries.{OnlyTakeRemoves, TakeRemoves}
 use Rattle.cfdp_transactions.specs.Entry.{id_of}
 use Rattle.cfdp_transactions.specs.Headline.{NextIsSound, NextIsPromised}
@@ -28,8 +28,9 @@ use Rattle.cfdp_progress.specs.NakRounds.{MetadataOpens, Opens, FirstRound}
 use Rattle.cfdp_progress.proofs.Closing.{closed_after}
 use Rattle.cfdp_progress.proofs.Holding.{StillHeld, stays_held, Opened, opened_again, opened_first}
 use Rattle.cfdp_progress.proofs.InAll.{known_all, closed_in_all}
-use Rattle.cfdp_progress.proofs.Runs.{sound_all, distinct_all, mib_all}
+use Rattle.cfdp_progress.proofs.Runs.{sound_all, distinct_all, mib_all, joined}
 use Rattle.cfdp_progress.proofs.Unkept.{nothing_kept}
+use Rattle.cfdp_leases.proofs.Admitted.{same_is}
 
 -- ---- a round without the Metadata PDU
 
@@ -126,10 +127,6 @@ came_later R i is id c = record {
 came_after : (R : State) (xs ys : List Input) (id : TransactionId) → MetadataCame (after_all R xs) ys id → MetadataCame R (xs ++ ys) id
 came_after R [] ys id c = c
 came_after R (x ∷ xs) ys id c = came_later R x (xs ++ ys) id (came_after (after_input R x) xs ys id c)
-
-joined : (xs ys zs : List Input) → (xs ++ ys) ++ zs ≡ xs ++ (ys ++ zs)
-joined [] ys zs = refl
-joined (x ∷ xs) ys zs = ap (λ (ws : List Input). x ∷ ws) (joined xs ys zs)
 
 came_before : (R : State) (xs ys : List Input) (id : TransactionId) → MetadataCame R xs id → MetadataCame R (xs ++ ys) id
 came_before R xs ys id c = record {

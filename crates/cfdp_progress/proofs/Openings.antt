@@ -1,8 +1,7 @@
 -- What begins a round: the NAK PDUs of the answer ask for what the transaction lacks.
-use Rattle.std.specs.Prelude.{◌==◌, nat_le}
-use Rattle.std.specs.List.{filter}
+use Rattle.std.specs.Prelude.{◌==◌}
 use Rattle.std.proofs.Common.{◌≡◌, ℕ, ◌+◌, ◌≤◌, Bool, true, false, not, ◌&&◌, ◌||◌, List, [], ◌∷◌, map, Option, Some, refl, sym, ap, subst, ◌∙◌, arith}
-use Rattle.std.proofs.lemmas.Bool.{cond-true, and_from, eq-eqb, le-leb}
+use Rattle.std.proofs.lemmas.Bool.{cond-true, and_from, eq-eqb}
 use Rattle.cfdp_status.specs.declared.transaction.TransactionId.{TransactionId}
 use Rattle.cfdp_leases.specs.Leases.{is_same}
 use Rattle.cfdp_pdus.specs.Values.{MetadataFields}
@@ -11,14 +10,13 @@ use Rattle.cfdp_pdus.specs.declared.header.Header.{Header}
 use Rattle.cfdp_directives.specs.Reading.{NakFields}
 use Rattle.cfdp_retransmission.specs.Naks.{SegmentRequest, Nak, naks}
 use Rattle.cfdp_retransmission.specs.Rounds.{asked_for}
-use Rattle.cfdp_retransmission.specs.Timers.{expiry, passed, restarted}
-use Rattle.cfdp_retransmission.specs.declared.timer.Expiry.TheVariants.{NotDue, Again, Limit}
-use Rattle.cfdp_retransmission.specs.declared.timer.Timer.{Timer}
-use Rattle.cfdp_retransmission.proofs.Waiting.{Early, Due, Over, why}
+use Rattle.cfdp_retransmission.specs.Timers.{passed, restarted}
+use Rattle.cfdp_retransmission.specs.declared.timer.Expiry.TheVariants.{Again, Limit}
+use Rattle.cfdp_retransmission.proofs.Waiting.{Due}
 use Rattle.cfdp_sessions.specs.Sessions.{SessionFields, session_id, found, replaced, AreDistinct}
 use Rattle.cfdp_sessions.specs.declared.session.Stage.{Stage}
 use Rattle.cfdp_sessions.specs.declared.session.Stage.TheVariants.{Known}
-use Rattle.cfdp_sessions.proofs.Names.{same_self, found_name, replaced_self}
+use Rattle.cfdp_sessions.proofs.Names.{found_name, replaced_self}
 use Rattle.cfdp_sessions.proofs.Places.{some_same}
 use Rattle.cfdp_transactions.specs.Entry.{Entry, id_of, gaps, gaps_in, reach, reach_in, awaited}
 use Rattle.cfdp_transactions.specs.Received.{gaps_below}
@@ -40,6 +38,9 @@ use Rattle.cfdp_progress.specs.Awaiting.{EntryAwaits, TransactionAwaits}
 use Rattle.cfdp_progress.specs.NakRounds.{requests_of_each, IsServed, EofOpens, MetadataOpens, Opens}
 use Rattle.cfdp_progress.proofs.Turns.{Before, at_is, at_in, asks_none, heard_is}
 use Rattle.cfdp_progress.proofs.Runs.{before_of}
+use Rattle.cfdp_receiver.proofs.Asking.{from_zero}
+use Rattle.cfdp_receiver.proofs.Serving.{full_of}
+use Rattle.cfdp_leases.proofs.Held.{same_itself}
 
 -- ---- the requests of a sequence for its gaps
 
@@ -49,13 +50,6 @@ with_header h nak = record { header = turned_header h; scope = nak.scope; reques
 requests_are : (h : Header) (xs : List Nak) → requests_of_each (map (with_header h) xs) ≡ map (λ (n : Nak). n.requests) xs
 requests_are h [] = refl
 requests_are h (x ∷ xs) = ap (λ (rest : List (List SegmentRequest)). x.requests ∷ rest) (requests_are h xs)
-
-from_zero : (xs : List SegmentRequest) → filter (λ (g : SegmentRequest). nat_le 0 g.0) xs ≡ xs
-from_zero [] = refl
-from_zero (x ∷ xs) =
-    cond-true (nat_le 0 x.0) (x ∷ filter (λ (g : SegmentRequest). nat_le 0 g.0) xs) (filter (λ (g : SegmentRequest). nat_le 0 g.0) xs)
-    (le-leb 0 x.0 (omega arith))
-    ∙ ap (λ (rest : List SegmentRequest). x ∷ rest) (from_zero xs)
 
 abbrev Requests : ℕ → ℕ → List SegmentRequest → List (List SegmentRequest)
 Requests most high found = map (λ (n : Nak). n.requests) (naks most 0 high found)
@@ -91,7 +85,7 @@ served_is : (R : State) (id : TransactionId) (e : Entry) (eof : Eof) (s : Sessio
 served_is R id e eof s moment limit d b served =
     let L = Handing.later moment R in
     is_it R id s served.session d b.here (stage_due L R.sessions served.session limit served.due).0
-    (ap (λ (n : TransactionId). is_same n id) served.named ∙ same_self id)
+    (ap (λ (n : TransactionId). is_same n id) served.named ∙ same_itself id)
 
 pub open_expire : (R : State) (id : TransactionId) (e : Entry) (eof : Eof) (s : SessionFields) (moment : ℕ) → AreDistinct R.sessions → Before R id e eof s →
     IsServed R id moment false →
@@ -123,13 +117,6 @@ open_expire R id e eof s moment d b served =
       asks = ap requests_of_each sent ∙ sequence_asks R.mib s.header e eof b.core.checks b.core.phase b.core.came;
       few = omega arith;
     }
-
-pub full_of : (interval limit now : ℕ) (timer : Timer) → expiry interval limit now timer ≡ Limit → limit ≤ timer.count + 1
-full_of interval limit now timer limited = elim (why interval limit now timer) [
-  | Early e ↦ let never : NotDue ≡ Limit = sym e ∙ limited in absurd cc
-  | Due e due room ↦ let never : Again ≡ Limit = sym e ∙ limited in absurd cc
-  | Over e due full ↦ full
-]
 
 -- at its limit it has counted that far
 pub limit_is_full : (R : State) (id : TransactionId) (e : Entry) (eof : Eof) (s : SessionFields) (moment : ℕ) → AreDistinct R.sessions →

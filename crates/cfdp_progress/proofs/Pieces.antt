@@ -1,6 +1,6 @@
 -- What a piece does to an entry that waits for octets: the entry goes on waiting with what it keeps of the piece, or the file is delivered.
 use Rattle.std.specs.Prelude.{nat_lt, ◌==◌, slice_get, slice_set}
-use Rattle.std.proofs.Common.{◌≡◌, inl, inr, ℕ, zero, suc, ◌+◌, ◌≤◌, min, true, false, List, [], ◌∷◌, length, replicate, Option, Some, refl, sym, ap, subst, ◌∙◌, arith}
+use Rattle.std.proofs.Common.{◌≡◌, inl, inr, ℕ, ◌+◌, ◌≤◌, min, true, false, List, [], ◌∷◌, length, replicate, Option, Some, refl, sym, ap, subst, ◌∙◌, arith}
 use Rattle.std.proofs.lemmas.Bool.{cond_both, cond-true, cond-false, cases_lt, eq-eqb, ne_eqb, le-ltb, lt-ltb}
 use Rattle.cfdp_status.specs.declared.transaction.TransactionId.{TransactionId}
 use Rattle.cfdp_pdus.specs.Values.{FileDataFields}
@@ -23,12 +23,9 @@ use Rattle.cfdp_transactions.proofs.Finding.{found_name as entry_name}
 use Rattle.cfdp_transactions.proofs.Lookups.{set_own}
 use Rattle.cfdp_transactions.proofs.Places.{set_set_same}
 use Rattle.cfdp_progress.specs.Awaiting.{EntryAwaits, IsDelivered}
+use Rattle.cfdp_receiver.proofs.Small.{zeros}
 
 -- ---- what a sound world gives
-
-zeros : (n : ℕ) → length {A = ℕ} (replicate n 0) ≡ n
-zeros zero = refl
-zeros (suc n) = omega (arith, zeros n)
 
 kept_of : (W : World) (id : TransactionId) (e : Entry) (eof : Eof) → Sound W → EntryAwaits W id e eof → IsKept W.config W.filestore e
 kept_of W id e eof sound a = sound.live (index_of W id) e a.here (ap is_live a.phase)
@@ -49,7 +46,7 @@ pub data Comes (V : World) (id : TransactionId) (eof : Eof) (received : Received
   Is_over : (delivered : IsDelivered V id) → Comes V id eof received
 
 -- an entry that replaces the one of its name
-replaces : (W V : World) (id : TransactionId) (e new : Entry) → entry_of W id ≡ Some e → Entries.name_of new ≡ id →
+pub replaces : (W V : World) (id : TransactionId) (e new : Entry) → entry_of W id ≡ Some e → Entries.name_of new ≡ id →
     V.table ≡ slice_set W.table (index_of W id) new → entry_of V id ≡ Some new
 replaces W V id e new here name table = ap (λ (t : List Entry). slice_get t (place_of id t)) table ∙ set_own W.table id e new name here
 

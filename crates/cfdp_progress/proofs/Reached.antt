@@ -9,9 +9,8 @@ use Rattle.cfdp_pdus.specs.Values.{MetadataFields, FileDataFields}
 use Rattle.cfdp_pdus.specs.declared.eof.Eof.{Eof}
 use Rattle.cfdp_pdus.specs.declared.header.Header.{Header}
 use Rattle.cfdp_verifier.specs.Verdict.{Verdict, Refuse, Grant, verdict}
-use Rattle.cfdp_sessions.specs.declared.session.Stage.{Stage}
-use Rattle.cfdp_sessions.specs.declared.session.Stage.TheVariants.{Held, Known, Over as OverStage, Waiting}
-use Rattle.cfdp_sessions.proofs.Names.{same_is, both_of}
+use Rattle.cfdp_sessions.specs.declared.session.Stage.TheVariants.{Waiting}
+use Rattle.cfdp_sessions.proofs.Names.{both_of}
 use Rattle.cfdp_transactions.specs.Admission.{judged, is_known_checksum, metadata_came, proposal_of, new_entry, refused_entry, with_new}
 use Rattle.cfdp_transactions.specs.Config.{Config}
 use Rattle.cfdp_transactions.specs.Delivery.{is_right_checksum, whole, turned, turns, limit, storing, stores, after_eof, stored, data_at, data_came, eof_came, check_at, checked}
@@ -32,7 +31,7 @@ use Rattle.cfdp_transactions.specs.declared.phase.Phase.{Phase}
 use Rattle.cfdp_transactions.specs.declared.phase.Phase.TheVariants.{Receiving, Awaiting, Executing, Refused, Done, Ended}
 use Rattle.cfdp_transactions.specs.declared.reply.Reply.{Reply}
 use Rattle.cfdp_transactions.proofs.Finding.{found_name as entry_name}
-use Rattle.cfdp_transactions.proofs.Lookups.{set_own, append_own}
+use Rattle.cfdp_transactions.proofs.Lookups.{append_own}
 use Rattle.cfdp_transactions.proofs.Places.{set_set_same}
 use Rattle.cfdp_receiver.specs.State.{begin}
 use Rattle.cfdp_receiver.specs.Turning.{after_all, all_handed}
@@ -41,6 +40,10 @@ use Rattle.cfdp_receiver.proofs.Handing.{hands_on}
 use Rattle.cfdp_progress.specs.Awaiting.{AwaitingAwaits}
 use Rattle.cfdp_receiver.proofs.Others.{other_than}
 use Rattle.cfdp_progress.proofs.Configured.{next_config}
+use Rattle.cfdp_progress.proofs.Concluding.{not_true}
+use Rattle.cfdp_progress.proofs.InAll.{known_stage}
+use Rattle.cfdp_progress.proofs.Pieces.{replaces}
+use Rattle.cfdp_leases.proofs.Admitted.{same_is}
 
 -- an entry that waits for octets
 record Lacks (c : Config) (e : Entry) : Type 0 where
@@ -66,10 +69,6 @@ some_eof d (Some x) = x
 abbrev some_entry : Entry → Option Entry → Entry
 some_entry d None = d
 some_entry d (Some e) = e
-
-pub replaces : (W V : World) (id : TransactionId) (e new : Entry) → entry_of W id ≡ Some e → Entries.name_of new ≡ id →
-    V.table ≡ slice_set W.table (index_of W id) new → entry_of V id ≡ Some new
-replaces W V id e new here name table = ap (λ (t : List Entry). slice_get t (place_of id t)) table ∙ set_own W.table id e new name here
 
 it_is : (c : Config) (V : World) (id : TransactionId) (new : Entry) → entry_of V id ≡ Some new → If_waiting c new → LacksAt c V id
 it_is c V id new here lacks e found = subst (If_waiting c) (ap (some_entry new) (sym here ∙ found)) lacks
@@ -174,10 +173,6 @@ size_fits a b other h = elim (cases_lt a b) [
   | inl low ↦ absurd (both_of (nat_lt a b || other) h (ap (λ (x : Bool). x || other) (lt-ltb a b low)))
   | inr high ↦ high
 ]
-
-not_true : (b : Bool) → not b ≡ true → b ≡ false
-not_true true h = absurd cc
-not_true false h = refl
 
 eof_own : (W : World) (id : TransactionId) (eof : Eof) (o : Option Entry) → LacksAt W.config W id → entry_of W id ≡ o →
     OwnLacks W id (eof_came W (index_of W id) eof o)
@@ -325,12 +320,6 @@ run_lacks removes next_sound promised W [] sound all = all
 run_lacks removes next_sound promised W (v ∷ vs) sound all =
     run_lacks removes next_sound promised (next W v).0 vs (next_sound W v sound) (next_lacks removes promised W v sound all)
 
-known_by : (stage : Stage) → is_known_session stage ≡ true → stage ≡ Known
-known_by (Held eof) h = absurd cc
-known_by Known h = refl
-known_by (OverStage ending) h = absurd cc
-known_by Waiting h = absurd cc
-
 pub awaiting_awaits : TakeRemoves → NextIsSound → NextIsPromised → KnownIsEntry → AwaitingAwaits
 awaiting_awaits removes next_sound promised known mib W inputs id s e checks sound empty here mode there phase =
     let R = after_all (begin mib W) inputs in
@@ -344,7 +333,7 @@ awaiting_awaits removes next_sound promised known mib W inputs id s e checks sou
       record {
         session = s;
         here = here;
-        known = known_by s.stage is;
+        known = known_stage s.stage is;
         acknowledged = mode;
         core = record { checks = checks; here = there; phase = phase; came = l.came; within = l.within; short = l.short };
       },

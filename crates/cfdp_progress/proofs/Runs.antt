@@ -1,8 +1,7 @@
 -- Several turns of a receiver in which a transaction waits for octets.
-use Rattle.std.specs.Prelude.{◌==◌, is_some}
-use Rattle.std.specs.List.{list_all}
-use Rattle.std.proofs.Common.{◌≡◌, ◌⊎◌, inl, inr, ℕ, zero, suc, ◌<◌, ◌≤◌, Bool, true, false, not, List, [], ◌∷◌, ◌++◌, length, Option, Some, None, refl, sym, ap, subst, ◌∙◌, arith}
-use Rattle.std.proofs.lemmas.Bool.{cond_both, cond-false, cases_Bool, cases_lt, and_from, eq-eqb}
+use Rattle.std.specs.Prelude.{◌==◌}
+use Rattle.std.proofs.Common.{◌≡◌, ◌⊎◌, inl, inr, ℕ, ◌<◌, ◌≤◌, true, false, not, List, [], ◌∷◌, ◌++◌, length, Option, Some, None, refl, sym, ap, subst, ◌∙◌, arith}
+use Rattle.std.proofs.lemmas.Bool.{cond_both, cond-false, cases_Bool}
 use Rattle.cfdp_status.specs.declared.transaction.TransactionId.{TransactionId}
 use Rattle.cfdp_leases.specs.Leases.{is_same}
 use Rattle.cfdp_pdus.specs.Values.{FileDataFields}
@@ -13,15 +12,13 @@ use Rattle.cfdp_retransmission.proofs.Hearing.{Within}
 use Rattle.cfdp_sessions.specs.Sessions.{SessionFields, AreDistinct}
 use Rattle.cfdp_sessions.specs.declared.session.Stage.{Stage}
 use Rattle.cfdp_sessions.specs.declared.session.Stage.TheVariants.{Held, Known, Over as OverStage, Waiting}
-use Rattle.cfdp_sessions.proofs.Names.{same_self, same_is, both_of}
+use Rattle.cfdp_sessions.proofs.Names.{both_of}
 use Rattle.cfdp_transactions.specs.Entry.{Entry, id_of, is_awaiting, takes_data}
 use Rattle.cfdp_transactions.specs.Delivery.{data_came, data_at}
 use Rattle.cfdp_transactions.specs.Received.{Received, is_whole, gaps_below}
 use Rattle.cfdp_transactions.specs.ReceivedLaws.{octet_at, IsIn}
 use Rattle.cfdp_transactions.specs.declared.event.Event.{Event}
 use Rattle.cfdp_transactions.specs.declared.event.Event.TheVariants.{Data as DataCame}
-use Rattle.cfdp_transactions.specs.declared.phase.Phase.{Phase}
-use Rattle.cfdp_transactions.specs.declared.phase.Phase.TheVariants.{Executing, Ended}
 use Rattle.cfdp_transactions.specs.declared.reply.Reply.{Reply}
 use Rattle.cfdp_transactions.specs.Headline.{NextIsSound, NextIsPromised}
 use Rattle.cfdp_transactions.specs.Next.{next, run}
@@ -38,6 +35,11 @@ use Rattle.cfdp_progress.specs.NakRounds.{IsAskedOnce}
 use Rattle.cfdp_receiver.proofs.Others.{others_keep_entries, work_keeps_others, run_sound}
 use Rattle.cfdp_progress.proofs.Pieces.{fits_of}
 use Rattle.cfdp_progress.proofs.Turns.{Before, Still, Is_done, step}
+use Rattle.cfdp_progress.proofs.Concluding.{not_true}
+use Rattle.cfdp_retransmission.proofs.Losing.{there_or_not}
+use Rattle.cfdp_receiver.proofs.Delivering.{takes_none, whole_where_all}
+use Rattle.cfdp_leases.proofs.Held.{same_itself}
+use Rattle.cfdp_leases.proofs.Admitted.{same_is}
 
 -- ---- after several inputs
 
@@ -64,7 +66,7 @@ pub was_after : (R : State) (xs ys : List Input) (id : TransactionId) → WasDel
 was_after R [] ys id w = w
 was_after R (x ∷ xs) ys id w = was_later R x (xs ++ ys) id (was_after (after_input R x) xs ys id w)
 
-joined : (xs ys zs : List Input) → (xs ++ ys) ++ zs ≡ xs ++ (ys ++ zs)
+pub joined : (xs ys zs : List Input) → (xs ++ ys) ++ zs ≡ xs ++ (ys ++ zs)
 joined [] ys zs = refl
 joined (x ∷ xs) ys zs = ap (λ (ws : List Input). x ∷ ws) (joined xs ys zs)
 
@@ -127,28 +129,6 @@ over_inputs next_sound promised R (i ∷ is) id e eof s sound d b on within =
 
 -- ---- nothing is missing
 
-all_there : (rs : Received) → ((i : ℕ) → i < length rs → is_some (octet_at rs i) ≡ true) → list_all is_some rs ≡ true
-all_there [] h = refl
-all_there (r ∷ rs) h = and_from (is_some r) (list_all is_some rs) (h zero (omega arith)) (all_there rs (λ i low. h (suc i) (omega (arith, low))))
-
-past : (rs : Received) (i : ℕ) → length rs ≤ i → is_some (octet_at rs i) ≡ false
-past [] i h = refl
-past (r ∷ rs) zero h = absurd (omega (arith, h))
-past (r ∷ rs) (suc i) h = past rs i (omega (arith, h))
-
-whole_where_all : (size : ℕ) (rs : Received) → length rs ≤ size → ((i : ℕ) → i < size → is_some (octet_at rs i) ≡ true) → is_whole size rs ≡ true
-whole_where_all size rs fits all =
-    let long : size ≤ length rs = elim (cases_lt (length rs) size) [
-      | inl short ↦ absurd (both_of (is_some (octet_at rs (length rs))) (past rs (length rs) (omega arith)) (all (length rs) short))
-      | inr enough ↦ enough
-    ] in
-    and_from (length rs == size) (list_all is_some rs) (eq-eqb (length rs) size (omega (arith, fits, long)))
-    (all_there rs (λ i low. all i (omega (arith, low, fits))))
-
-there_or_not : (o : Option ℕ) → (o ≡ None → ⊥) → is_some o ≡ true
-there_or_not None h = absurd (h refl)
-there_or_not (Some x) h = refl
-
 whole_without_gaps : (size : ℕ) (rs : Received) → length rs ≤ size → gaps_below size rs ≡ [] → is_whole size rs ≡ true
 whole_without_gaps size rs fits none =
     whole_where_all size rs fits (λ i low. there_or_not (octet_at rs i) (λ e. elim (subst (IsIn i) none ((gaps_are_missing size rs i).1 (low, e))) [ ]))
@@ -170,10 +150,6 @@ answered_turns next_sound promised whole R inputs id e eof sound d a on within k
     ]
 
 -- ---- once it is delivered
-
-pub takes_none : (phase : Phase) → (phase ≡ Executing 0) ⊎ (phase ≡ Ended 5) → takes_data phase ≡ false
-takes_none phase (inl e) = ap takes_data e
-takes_none phase (inr e) = ap takes_data e
 
 idle_same : (W : World) (h : Header) (piece : FileDataFields) → IsDelivered W (id_of h) → (next W (DataCame h piece)).0 ≡ W
 idle_same W h piece d =
@@ -203,12 +179,8 @@ data_same R now h piece d =
 delivered_same : (V W : World) (id : TransactionId) → entry_of V id ≡ entry_of W id → IsDelivered W id → IsDelivered V id
 delivered_same V W id same d = record { entry = d.entry; here = same ∙ d.here; phase = d.phase }
 
-not_true : (b : Bool) → not b ≡ true → b ≡ false
-not_true true h = absurd cc
-not_true false h = refl
-
 not_named : (id : TransactionId) (o : Option TransactionId) → not (is_named id o) ≡ true → o ≡ Some id → ⊥
-not_named id o h e = both_of (is_named id o) (not_true (is_named id o) h) (ap (is_named id) e ∙ same_self id)
+not_named id o h e = both_of (is_named id o) (not_true (is_named id o) h) (ap (is_named id) e ∙ same_itself id)
 
 stays_one : NextIsSound → NextIsPromised → (R : State) (i : Input) (id : TransactionId) → Sound R.world → IsDelivered R.world id → is_work i ≡ false →
     is_same (touched R i) id ≡ false → IsDelivered (after_input R i).world id

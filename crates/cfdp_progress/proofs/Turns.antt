@@ -16,12 +16,11 @@ use Rattle.cfdp_retransmission.specs.declared.timer.Expiry.TheVariants.{Again}
 use Rattle.cfdp_sessions.specs.Sessions.{SessionFields, session_id, found, replaced, AreDistinct}
 use Rattle.cfdp_sessions.specs.declared.session.Stage.{Stage}
 use Rattle.cfdp_sessions.specs.declared.session.Stage.TheVariants.{Held, Known, Over as OverStage, Waiting}
-use Rattle.cfdp_sessions.proofs.Names.{same_is, both_of, found_name, replaced_self}
+use Rattle.cfdp_sessions.proofs.Names.{both_of, found_name, replaced_self}
 use Rattle.cfdp_transactions.specs.Config.{Config}
 use Rattle.cfdp_transactions.specs.Entry.{Entry, id_of, is_live, is_receiving, is_awaiting}
 use Rattle.cfdp_transactions.specs.Delivery.{eof_without_error, eof_came}
 use Rattle.cfdp_transactions.specs.Ending.{ends}
-use Rattle.cfdp_transactions.specs.Admission.{metadata_came}
 use Rattle.cfdp_transactions.specs.Received.{Received}
 use Rattle.cfdp_transactions.specs.declared.event.Event.{Event}
 use Rattle.cfdp_transactions.specs.declared.event.Event.TheVariants.{Metadata as MetadataCame, Data as DataCame, Eof as EofCame, Check}
@@ -53,6 +52,9 @@ use Rattle.cfdp_progress.proofs.Configured.{run_config}
 use Rattle.cfdp_receiver.proofs.Others.{others_keep_entries, work_keeps_others}
 use Rattle.cfdp_progress.proofs.Apart.{none_runs}
 use Rattle.cfdp_progress.proofs.Pieces.{Comes, Goes_on, Is_over, comes}
+use Rattle.cfdp_receiver.proofs.Serving.{none_known}
+use Rattle.cfdp_receiver.proofs.Again.{known_same}
+use Rattle.cfdp_leases.proofs.Admitted.{same_is}
 
 -- ---- what becomes of it
 
@@ -121,12 +123,6 @@ heard_quiet R L U V id s again here world =
 
 -- ---- PDUs of the transaction that change nothing of it
 
--- that it is there is all that counts
-unmoved_metadata : (W : World) (h : Header) (m : MetadataFields) (e : Entry) → entry_of W (id_of h) ≡ Some e → (next W (MetadataCame h m)).0 ≡ W
-unmoved_metadata W h m e here =
-    cond_both (h.destination == W.config.entity) (metadata_came W h m (entry_of W (id_of h))) (W, Reply.NotForUs) (λ (a : World × Reply). a.0 ≡ W)
-    (λ q. ap (λ (o : Option Entry). (metadata_came W h m o).0) here) (λ q. refl)
-
 unmoved_eof : (W : World) (h : Header) (eof other : Eof) (e : Entry) → EntryAwaits W (id_of h) e eof → other.condition ≡ 0 →
     (next W (EofCame h other)).0 ≡ W
 unmoved_eof W h eof other e a none =
@@ -157,7 +153,7 @@ quiet_metadata_stage R L U rs h m e s (Held eof) here there same k = absurd cc
 quiet_metadata_stage R L U rs h m e s Known here there same k =
     subst (λ (ss : List SessionFields). Quiet R.world (id_of h) s false (next R.world (MetadataCame h m)).0 (replaced ss (Turning.heard_session L U s)))
     (sym same)
-    (heard_quiet R L U (next R.world (MetadataCame h m)).0 (id_of h) s false here (unmoved_metadata R.world h m e there))
+    (heard_quiet R L U (next R.world (MetadataCame h m)).0 (id_of h) s false here (known_same R.world h m e there))
 quiet_metadata_stage R L U rs h m e s (OverStage ending) here there same k = absurd cc
 quiet_metadata_stage R L U rs h m e s Waiting here there same k = absurd cc
 
@@ -268,12 +264,6 @@ at_in W s id e checks known name here phase =
 pub at_is : (R : State) (id : TransactionId) (e : Entry) (eof : Eof) (s : SessionFields) (b : Before R id e eof s) →
     at_of R.world s ≡ At_awaiting b.core.checks
 at_is R id e eof s b = at_in R.world s id e b.core.checks b.known (found_name R.sessions id s b.here) b.core.here b.core.phase
-
-pub none_known : (stage : Stage) → Handing.where_known stage [] ≡ []
-none_known (Held eof) = refl
-none_known Known = refl
-none_known (OverStage ending) = refl
-none_known Waiting = refl
 
 -- below the limit nothing is handed on
 pub asks_none : (R : State) (s : SessionFields) → s.header.acknowledged ≡ true → Handing.due_events R (Dues.Stage_due s false) ≡ []

@@ -1,6 +1,6 @@
 -- Right after the Metadata PDU for which an EOF PDU was held, the core has nothing of the file.
-use Rattle.std.specs.Prelude.{not, ◌&&◌, ◌||◌, ◌==◌, nat_le, nat_lt, is_some, slice_set}
-use Rattle.std.proofs.Common.{◌≡◌, ℕ, Bool, true, false, List, [], ◌∷◌, length, Option, Some, None, refl, sym, ap, subst, ◌∙◌}
+use Rattle.std.specs.Prelude.{not, ◌&&◌, ◌||◌, ◌==◌, nat_le, nat_lt, slice_set}
+use Rattle.std.proofs.Common.{◌≡◌, ℕ, Bool, true, List, [], ◌∷◌, length, Option, Some, None, refl, sym, ap, subst, ◌∙◌}
 use Rattle.std.proofs.lemmas.Bool.{cond_both, cond-true}
 use Rattle.cfdp_status.specs.declared.transaction.TransactionId.{TransactionId}
 use Rattle.cfdp_pdus.specs.Values.{MetadataFields}
@@ -29,7 +29,8 @@ use Rattle.cfdp_receiver.specs.Handing as Handing
 use Rattle.cfdp_receiver.specs.Turning.{after_input}
 use Rattle.cfdp_receiver.specs.Laws.{is_known_session, knows, AreKnown}
 use Rattle.cfdp_progress.specs.NakRounds.{MetadataOpens}
-use Rattle.cfdp_progress.proofs.Reached.{replaces}
+use Rattle.cfdp_progress.proofs.Pieces.{replaces}
+use Rattle.cfdp_receiver.proofs.Concluding.{no_entry}
 
 -- of the entry of this name, if there is one, no octet was received
 abbrev Nil : World → TransactionId → Type 0
@@ -122,10 +123,6 @@ next_metadata W h m none =
 
 -- ---- both
 
-none_of : (o : Option Entry) → is_some o ≡ false → o ≡ None
-none_of None h = refl
-none_of (Some e) h = absurd cc
-
 pub nothing_kept : (R : State) (id : TransactionId) (moment : ℕ) (h : Header) (m : MetadataFields) → AreKnown R → MetadataOpens R id h →
     (e : Entry) → entry_of (after_input R (MetadataPdu moment h m)).world id ≡ Some e → e.received ≡ []
 nothing_kept R id moment h m known opens =
@@ -140,7 +137,7 @@ nothing_kept R id moment h m known opens =
     ∙ ap (Handing.metadata_in_stage h m s) opens.held
     ∙ cond-true h.acknowledged both [] opens.mode in
     let unknown : entry_of R.world id ≡ None =
-    none_of (entry_of R.world id) (known id ∙ ap knows opens.here ∙ ap is_known_session opens.held) in
+    no_entry (entry_of R.world id) (known id ∙ ap knows opens.here ∙ ap is_known_session opens.held) in
     let first : Nil (next R.world (MetadataCame h m)).0 id =
     subst (Nil (next R.world (MetadataCame h m)).0) opens.named (next_metadata R.world h m (ap (entry_of R.world) opens.named ∙ unknown)) in
     let last : Nil (run R.world both) id =

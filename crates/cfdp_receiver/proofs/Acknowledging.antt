@@ -7,7 +7,7 @@ use Rattle.cfdp_pdus.specs.declared.header.Header.{Header}
 use Rattle.cfdp_directives.specs.declared.ack.Ack.{Ack}
 use Rattle.cfdp_sessions.specs.Sessions.{SessionFields, session_id, found, without_session}
 use Rattle.cfdp_sessions.specs.code.Sessions.{IsFound}
-use Rattle.cfdp_sessions.proofs.Names.{same_is, same_self, both_of, no_some, found_name, gone, replaced_none, added_other, without_none}
+use Rattle.cfdp_sessions.proofs.Names.{both_of, no_some, found_name, gone, replaced_none, added_other, without_none}
 use Rattle.cfdp_sessions.specs.declared.session.Stage.TheVariants.{Waiting}
 use Rattle.cfdp_transactions.specs.Entry.{id_of}
 use Rattle.cfdp_receiver.specs.declared.answer.Word.TheVariants as words
@@ -17,6 +17,8 @@ use Rattle.cfdp_receiver.specs.Turning as Turning
 use Rattle.cfdp_receiver.specs.Laws.{due_name, session_name, touched, touched_in, Sent, None_sent, First_sent, Sent_again, sent_for, sent_closed, NoneAfterAck}
 use Rattle.cfdp_receiver.proofs.Finishing.{finished_only}
 use Rattle.cfdp_receiver.proofs.Shapes.{Shape, Keeps, Puts, Adds, Closes, Forgets, shape, closed_in, IsDueOf, due_is, IsOverOf, over_is}
+use Rattle.cfdp_leases.proofs.Held.{same_itself}
+use Rattle.cfdp_leases.proofs.Admitted.{same_is}
 
 -- ---- no session begins while the name is closed
 
@@ -83,5 +85,5 @@ none_after_ack R now h ack s inputs distinct ours directive here waits =
     ∙ gone R.sessions id distinct in
     let closed : is_closed (Turning.after_input R (AckPdu now h ack)) id ≡ true =
     ap (λ (p : Turning.Parts). closed_in p.closed.names id) closes
-    ∙ or_left (is_same (session_id s) id) (closed_in (take 255 R.closed.names) id) (ap (λ (n : TransactionId). is_same n id) name ∙ same_self id) in
+    ∙ or_left (is_same (session_id s) id) (closed_in (take 255 R.closed.names) id) (ap (λ (n : TransactionId). is_same n id) name ∙ same_itself id) in
     (none, closed, none_closed (Turning.after_input R (AckPdu now h ack)) inputs id none)

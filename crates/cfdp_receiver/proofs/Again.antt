@@ -41,7 +41,7 @@ none_again R now h m past =
 
 -- ---- of what the core knows
 
-known_same : (W : World) (h : Header) (m : MetadataFields) (entry : Entry) → entry_of W (id_of h) ≡ Some entry → (next W (MetadataCame h m)).0 ≡ W
+pub known_same : (W : World) (h : Header) (m : MetadataFields) (entry : Entry) → entry_of W (id_of h) ≡ Some entry → (next W (MetadataCame h m)).0 ≡ W
 known_same W h m entry there =
     ap (λ (o : Option Entry). (for_us W h (metadata_came W h m o)).0) there
     ∙ cond_both (h.destination == W.config.entity) (W, replies.Duplicate) (W, replies.NotForUs) (λ (x : World × Reply). x.0 ≡ W) (λ e. refl) (λ e. refl)

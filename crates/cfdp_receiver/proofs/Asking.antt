@@ -44,6 +44,7 @@ use Rattle.cfdp_receiver.specs.Turning as Turning
 use Rattle.cfdp_receiver.specs.Laws.{due_name, session_name, touched_in, Asked, Asks_none, Asks_all, Asks_gaps, Asks_new, is_data, NaksAsk, requests_of_naks, ExactlyMissing, FewNakPdus, FewRequests}
 use Rattle.cfdp_receiver.proofs.Knowing.{added_found, heard_stage}
 use Rattle.cfdp_receiver.proofs.Shapes.{IsDueOf, due_is}
+use Rattle.cfdp_receiver.proofs.Sending.{not_false}
 
 -- ---- by the session
 
@@ -227,10 +228,6 @@ asked_eof_stage R V rs h eof s Known here =
     (λ e. asked_awaiting R.world (with_parts R V p) (id_of h) s (becomes_heard R V (id_of h) s p.answer here))
 asked_eof_stage R V rs h eof s (Over ending) here = Asks_none refl
 asked_eof_stage R V rs h eof s Waiting here = Asks_none refl
-
-not_false : (b : Bool) → not b ≡ false → b ≡ true
-not_false true e = refl
-not_false false e = absurd cc
 
 asked_holds : (R : State) (V : World) (h : Header) (eof : Eof) → session_of R (id_of h) ≡ None → h.acknowledged ≡ true →
     AskedIn R V false (id_of h) (Turning.held_first R h eof)

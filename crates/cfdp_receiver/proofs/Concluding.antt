@@ -147,7 +147,7 @@ finished_in : (R : State) (s : SessionFields) (o : Outcome) → first_over R.wor
     Turning.outcome_for s (entry_of R.world (session_id s)) ≡ o → Turning.finish_parts R (first_over R.world R.sessions) ≡ Turning.finish_session R s o
 finished_in R s o first outcome = ap (Turning.finish_parts R) first ∙ ap (Turning.finish_session R s) outcome
 
-no_entry : (x : Option Entry) → is_some x ≡ false → x ≡ None
+pub no_entry : (x : Option Entry) → is_some x ≡ false → x ≡ None
 no_entry None e = refl
 no_entry (Some entry) e = absurd cc
 

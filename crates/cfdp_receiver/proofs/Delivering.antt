@@ -22,16 +22,18 @@ use Rattle.cfdp_transactions.specs.World.{World, bound, place_of, entry_of, inde
 use Rattle.cfdp_transactions.proofs.Finding.{found_name as entry_name}
 use Rattle.cfdp_transactions.proofs.Lookups.{set_own}
 use Rattle.cfdp_transactions.proofs.Places.{set_set_same}
-use Rattle.cfdp_transactions.proofs.Received.OctetsAndGaps.{first_stays, greatest_end}
+use Rattle.cfdp_transactions.proofs.Received.OctetsAndGaps.{first_stays}
 use Rattle.cfdp_receiver.specs.Laws.{piece_events, AnsweredIsDelivered}
+use Rattle.cfdp_retransmission.proofs.Losing.{there_or_not}
+use Rattle.cfdp_transactions.proofs.Soundness.Receiving.{kept_within}
 
 -- ---- nothing is missing
 
-all_there : (rs : Received) → ((i : ℕ) → i < length rs → is_some (octet_at rs i) ≡ true) → list_all is_some rs ≡ true
+pub all_there : (rs : Received) → ((i : ℕ) → i < length rs → is_some (octet_at rs i) ≡ true) → list_all is_some rs ≡ true
 all_there [] h = refl
 all_there (r ∷ rs) h = and_from (is_some r) (list_all is_some rs) (h zero (omega arith)) (all_there rs (λ i low. h (suc i) (omega (arith, low))))
 
-past : (rs : Received) (i : ℕ) → length rs ≤ i → is_some (octet_at rs i) ≡ false
+pub past : (rs : Received) (i : ℕ) → length rs ≤ i → is_some (octet_at rs i) ≡ false
 past [] i h = refl
 past (r ∷ rs) zero h = absurd (omega (arith, h))
 past (r ∷ rs) (suc i) h = past rs i (omega (arith, h))
@@ -40,7 +42,7 @@ pub never_both : (b : Bool) → b ≡ true → b ≡ false → ⊥
 never_both true t f = absurd cc
 never_both false t f = absurd cc
 
-whole_where_all : (size : ℕ) (rs : Received) → length rs ≤ size → ((i : ℕ) → i < size → is_some (octet_at rs i) ≡ true) → is_whole size rs ≡ true
+pub whole_where_all : (size : ℕ) (rs : Received) → length rs ≤ size → ((i : ℕ) → i < size → is_some (octet_at rs i) ≡ true) → is_whole size rs ≡ true
 whole_where_all size rs fits all =
     let long : size ≤ length rs = elim (cases_lt (length rs) size) [
       | inl short ↦ absurd (never_both (is_some (octet_at rs (length rs))) (all (length rs) short) (past rs (length rs) (omega arith)))
@@ -49,17 +51,13 @@ whole_where_all size rs fits all =
     and_from (length rs == size) (list_all is_some rs) (eq-eqb (length rs) size (omega (arith, fits, long)))
     (all_there rs (λ i low. all i (omega (arith, low, fits))))
 
-there_or_not : (o : Option ℕ) → (o ≡ None → ⊥) → is_some o ≡ true
-there_or_not None h = absurd (h refl)
-there_or_not (Some x) h = refl
-
 -- ---- one piece
 
 abbrev Delivered : World → Header → Type 0
 Delivered W h = (now : Entry) × (entry_of W (id_of h) ≡ Some now) × ((now.phase ≡ Executing 0) ⊎ (now.phase ≡ Ended 5))
 
 -- no data is taken any more
-takes_none : (phase : Phase) → (phase ≡ Executing 0) ⊎ (phase ≡ Ended 5) → takes_data phase ≡ false
+pub takes_none : (phase : Phase) → (phase ≡ Executing 0) ⊎ (phase ≡ Ended 5) → takes_data phase ≡ false
 takes_none phase (inl e) = ap takes_data e
 takes_none phase (inr e) = ap takes_data e
 
@@ -133,10 +131,6 @@ stored_comes W h eof made e received a fits =
     subst (λ (p : Phase). Comes W (stored p V k new).0 h eof made e received) (sym a.phase)
     (subst (λ (o : Option Eof). Comes W (after_eof o V k new).0 h eof made e received) (sym a.eof_is) both)
 
-kept_len : (rs : Received) (at : ℕ) (xs : List ℕ) (size : ℕ) → length rs ≤ size → at + length xs ≤ size → length (kept_with rs at xs) ≤ size
-kept_len rs at [] size h k = h
-kept_len rs at (x ∷ xs) size h k = omega (arith, greatest_end rs at x xs, h, k)
-
 -- no octets
 empty_comes : (W : World) (h : Header) (eof : Eof) (made : ℕ) (e : Entry) (at : ℕ) → Awaits W h eof made e → Comes W W h eof made e (kept_with e.received at [])
 empty_comes W h eof made e at a = Waits e a refl refl
@@ -154,7 +148,7 @@ some_comes W h eof made e at x xs a within few =
     let top : limit e.phase W.config e ≡ min (bound W.config e.metadata) eof.size =
     ap (λ (p : Phase). limit p W.config e) a.phase ∙ ap (λ (o : Option Eof). min (bound W.config e.metadata) (Entries.awaited o)) a.eof_is in
     let last = stored e.phase (stores W k e received) k (storing W.filestore e received) in
-    let fits : length received ≤ eof.size = kept_len e.received at (x ∷ xs) eof.size a.fits (omega (arith, within)) in
+    let fits : length received ≤ eof.size = kept_within e.received at (x ∷ xs) eof.size a.fits (omega (arith, within)) in
     subst P (sym (cond-false (length (x ∷ xs) == 0) (W, _) _ (ne_eqb (length (x ∷ xs)) 0 (λ z. absurd (omega (arith, z)))))) (
     subst P (sym (cond-false (nat_lt (limit e.phase W.config e) end) (ends W k e 6, _) _ (le-ltb (limit e.phase W.config e) end (omega (arith, top, within)))))
     (

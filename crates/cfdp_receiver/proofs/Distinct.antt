@@ -4,12 +4,13 @@ use Rattle.std.proofs.lemmas.Bool.{cases_Bool, or_cases}
 use Rattle.cfdp_status.specs.declared.transaction.TransactionId.{TransactionId}
 use Rattle.cfdp_leases.specs.Leases.{is_same}
 use Rattle.cfdp_sessions.specs.Sessions.{SessionFields, session_id, found, without_session, AreDistinct}
-use Rattle.cfdp_sessions.proofs.Names.{same_is, both_of, replaced_none, replaced_distinct, added_other, added_distinct, without_none, without_distinct, gone}
+use Rattle.cfdp_sessions.proofs.Names.{both_of, replaced_none, replaced_distinct, added_other, added_distinct, without_none, without_distinct, gone}
 use Rattle.cfdp_receiver.specs.State.{State, begin, Input, now_of, is_closed}
 use Rattle.cfdp_receiver.specs.Handing as Handing
 use Rattle.cfdp_receiver.specs.Turning as Turning
 use Rattle.cfdp_receiver.specs.Laws.{touched, ClosedIsOver, SessionsAreDistinct}
 use Rattle.cfdp_receiver.proofs.Shapes.{Shape, Keeps, Puts, Adds, Closes, Forgets, shape, closed_in, taken_is}
+use Rattle.cfdp_leases.proofs.Admitted.{same_is}
 
 none_of_none : false ≡ true → ⊥
 none_of_none e = absurd cc

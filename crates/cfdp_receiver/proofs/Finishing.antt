@@ -106,7 +106,7 @@ quiet_gives_up R s condition handlers.Abandon At_executing = refl
 quiet_gives_up R s condition handlers.Abandon At_over = refl
 
 -- only a session in Waiting is at At_waiting
-waits_phase : (phase : Phase) → at_phase phase ≡ At_waiting → ⊥
+pub waits_phase : (phase : Phase) → at_phase phase ≡ At_waiting → ⊥
 waits_phase Receiving e = absurd cc
 waits_phase (Awaiting checks) e = absurd cc
 waits_phase (Executing next) e = absurd cc
@@ -114,7 +114,7 @@ waits_phase Refused e = absurd cc
 waits_phase Done e = absurd cc
 waits_phase (Ended condition) e = absurd cc
 
-waits_entry : (entry : Option Entry) → at_entry entry ≡ At_waiting → ⊥
+pub waits_entry : (entry : Option Entry) → at_entry entry ≡ At_waiting → ⊥
 waits_entry None e = absurd cc
 waits_entry (Some entry) e = waits_phase entry.phase e
 

@@ -26,6 +26,7 @@ use Rattle.cfdp_receiver.specs.Machine.{MachineFields, AnswerParts, answer_in, l
 use Rattle.cfdp_receiver.specs.code.Machine.{Turns, silent}
 use Rattle.cfdp_receiver.specs.Turning as Turning
 use Rattle.cfdp_receiver.proofs.Turned.{turns_by}
+use Rattle.cfdp_receiver.proofs.Finishing.{waits_entry, waits_phase}
 
 pub fault_small : (acknowledged : Bool) (at : At) → fault_at acknowledged at < 16
 fault_small true At_held = omega arith
@@ -77,15 +78,7 @@ limit_turns M N a s at condition how V ss closed due here cause handler is world
 
 -- ---- by how far the transaction is
 
-not_waiting : (phase : Phase) → at_phase phase ≡ At_waiting → ⊥
-not_waiting phases.Receiving e = absurd cc
-not_waiting (phases.Awaiting made) e = absurd cc
-not_waiting (phases.Executing n) e = absurd cc
-not_waiting phases.Refused e = absurd cc
-not_waiting phases.Done e = absurd cc
-not_waiting (phases.Ended condition) e = absurd cc
-
-not_held : (phase : Phase) → at_phase phase ≡ At_held → ⊥
+pub not_held : (phase : Phase) → at_phase phase ≡ At_held → ⊥
 not_held phases.Receiving e = absurd cc
 not_held (phases.Awaiting made) e = absurd cc
 not_held (phases.Executing n) e = absurd cc
@@ -93,17 +86,13 @@ not_held phases.Refused e = absurd cc
 not_held phases.Done e = absurd cc
 not_held (phases.Ended condition) e = absurd cc
 
-entry_not_waiting : (entry : Option Entry) → at_entry entry ≡ At_waiting → ⊥
-entry_not_waiting None e = absurd cc
-entry_not_waiting (Some x) e = not_waiting x.phase e
-
 entry_not_held : (entry : Option Entry) → at_entry entry ≡ At_held → ⊥
 entry_not_held None e = absurd cc
 entry_not_held (Some x) e = not_held x.phase e
 
 none_waiting : (stage : Stage) (entry : Option Entry) (es : List Event) → At_waiting ≡ at_stage stage entry → where_known stage es ≡ []
 none_waiting (Held eof) entry es e = refl
-none_waiting Known entry es e = absurd (entry_not_waiting entry (sym e))
+none_waiting Known entry es e = absurd (waits_entry entry (sym e))
 none_waiting (Over ending) entry es e = refl
 none_waiting Waiting entry es e = refl
 

@@ -29,7 +29,7 @@ use Rattle.cfdp_retransmission.specs.declared.timer.Expiry.TheVariants.{Again}
 use Rattle.cfdp_sessions.specs.Sessions.{SessionFields, session_id, found, without_session, AreDistinct}
 use Rattle.cfdp_sessions.specs.declared.session.Stage.{Stage}
 use Rattle.cfdp_sessions.specs.declared.session.Stage.TheVariants.{Held, Known, Over as OverStage, Waiting}
-use Rattle.cfdp_sessions.proofs.Names.{same_is, same_self, both_of, found_name, gone, member_found, replaced_self}
+use Rattle.cfdp_sessions.proofs.Names.{both_of, found_name, gone, member_found, replaced_self}
 use Rattle.cfdp_receiver.specs.declared.answer.Became.TheVariants as became
 use Rattle.cfdp_receiver.specs.declared.answer.Word.TheVariants as words
 use Rattle.cfdp_receiver.specs.declared.mib.Handler.{Handler}
@@ -45,6 +45,10 @@ use Rattle.cfdp_receiver.proofs.Shapes.{others_stay}
 use Rattle.cfdp_receiver.proofs.Limits.{stage_due, alive_due, first_over_is}
 use Rattle.cfdp_receiver.proofs.Sending.{heard_name}
 use Rattle.cfdp_transactions.specs.Headline.{NextIsSound, NextIsPromised}
+use Rattle.cfdp_receiver.proofs.Giving.{not_held}
+use Rattle.cfdp_receiver.proofs.Finishing.{waits_phase}
+use Rattle.cfdp_leases.proofs.Held.{same_itself}
+use Rattle.cfdp_leases.proofs.Admitted.{same_is}
 
 -- ---- what the core promises of entries
 
@@ -137,7 +141,7 @@ added_by x xs new id false is none later =
 
 pub added_found : (ss : List SessionFields) (new : SessionFields) (id : TransactionId) → session_id new ≡ id → found ss id ≡ None → found (ss ++ new ∷ []) id
     ≡ Some new
-added_found [] new id name none = cond-true (is_same (session_id new) id) (Some new) None (ap (λ (n : TransactionId). is_same n id) name ∙ same_self id)
+added_found [] new id name none = cond-true (is_same (session_id new) id) (Some new) None (ap (λ (n : TransactionId). is_same n id) name ∙ same_itself id)
 added_found (x ∷ xs) new id name none = added_by x xs new id (is_same (session_id x) id) refl none (added_found xs new id name)
 
 fits_add : (R : State) (id : TransactionId) (es : List Event) (new : World → List Reply → SessionFields) (a : World → List Reply → AnswerFields) →
@@ -320,34 +324,18 @@ limit_stays laws R s false handlers.Cancel sound before = known_stays laws R s s
 limit_stays laws R s true handlers.Abandon sound before = known_stays laws R s s.stage (Cancel (session_id s)) sound refl refl refl before
 limit_stays laws R s false handlers.Abandon sound before = known_stays laws R s s.stage (Cancel (session_id s)) sound refl refl refl before
 
-never_held : (phase : Phase) → at_phase phase ≡ At_held → ⊥
-never_held Receiving e = absurd cc
-never_held (Awaiting made) e = absurd cc
-never_held (Executing n) e = absurd cc
-never_held Refused e = absurd cc
-never_held Done e = absurd cc
-never_held (Ended condition) e = absurd cc
-
-never_waits : (phase : Phase) → at_phase phase ≡ At_waiting → ⊥
-never_waits Receiving e = absurd cc
-never_waits (Awaiting made) e = absurd cc
-never_waits (Executing n) e = absurd cc
-never_waits Refused e = absurd cc
-never_waits Done e = absurd cc
-never_waits (Ended condition) e = absurd cc
-
 -- by how far it is: a session that is held or waits is not known
 at_held : (stage : Stage) (o : Option Entry) → at_stage stage o ≡ At_held → is_known_session stage ≡ false
 at_held (Held eof) o e = refl
 at_held Known None e = absurd cc
-at_held Known (Some entry) e = absurd (never_held entry.phase e)
+at_held Known (Some entry) e = absurd (not_held entry.phase e)
 at_held (OverStage ending) o e = refl
 at_held Waiting o e = refl
 
 at_waits : (stage : Stage) (o : Option Entry) → at_stage stage o ≡ At_waiting → is_known_session stage ≡ false
 at_waits (Held eof) o e = refl
 at_waits Known None e = absurd cc
-at_waits Known (Some entry) e = absurd (never_waits entry.phase e)
+at_waits Known (Some entry) e = absurd (waits_phase entry.phase e)
 at_waits (OverStage ending) o e = refl
 at_waits Waiting o e = refl
 

@@ -23,13 +23,15 @@ use Rattle.cfdp_transactions.specs.declared.reply.Reply.TheVariants as replies
 use Rattle.cfdp_transactions.specs.Execution.{is_install, act_now, entry_after, entry_failed, step_at, step_in, stepped}
 use Rattle.cfdp_transactions.specs.Next.{for_us, next, run}
 use Rattle.cfdp_transactions.specs.Received.{Received, kept_with, pieces, is_whole, brought, staged_of}
-use Rattle.cfdp_transactions.specs.ReceivedLaws.{octet_at, or_offset}
+use Rattle.cfdp_transactions.specs.ReceivedLaws.{octet_at}
 use Rattle.cfdp_transactions.specs.Sound.{Each}
 use Rattle.cfdp_transactions.specs.World.{World, place_of, spare_blocks, leases_of, bound, index_of, entry_of, change_at, free_slot}
 use Rattle.cfdp_transactions.proofs.Finding.{found_name}
 use Rattle.cfdp_transactions.proofs.Lookups.{set_own}
 use Rattle.cfdp_transactions.proofs.Received.OctetsAndGaps.{first_stays}
 use Rattle.cfdp_transactions.proofs.Places.{set_each, append_each, remove_place, before, get_set_same, set_set_same}
+use Rattle.cfdp_transactions.proofs.Promises.Carried.{some_same}
+use Rattle.cfdp_retransmission.proofs.Arriving.{stays}
 
 -- ---- octets
 
@@ -63,14 +65,10 @@ kept_last (None ∷ rs) (suc at) (x ∷ xs) last =
 kept_last (Some r ∷ rs) (suc at) (x ∷ xs) last =
     last_cons (Some r) (kept_with rs at (x ∷ xs)) (kept_last rs at (x ∷ xs) (last_tail (Some r) rs last)) (λ e. absurd (not_empty rs at x xs e))
 
-is_some_first : (o later : Option ℕ) → is_some o ≡ true → is_some (or_offset o later) ≡ true
-is_some_first None later h = absurd cc
-is_some_first (Some x) later h = refl
-
 -- what was joined stays so
 kept_joined : (rs : Received) (at : ℕ) (xs : List ℕ) (low : ℕ) → continues rs low ≡ true → continues (kept_with rs at xs) low ≡ true
 kept_joined rs at xs zero h = refl
-kept_joined rs at xs (suc low) h = ap is_some (first_stays rs at xs low) ∙ is_some_first (octet_at rs low) (brought at xs low) h
+kept_joined rs at xs (suc low) h = ap is_some (first_stays rs at xs low) ∙ stays (octet_at rs low) (brought at xs low) h
 
 -- ---- each event
 
@@ -227,21 +225,18 @@ Joined low e = (continues e.received low ≡ true) ⊎ (gaps e ≡ [])
 abbrev pub JoinedIn : TransactionId → ℕ → World × Reply → Type 0
 JoinedIn id low a = (now : Entry) → entry_of a.0 id ≡ Some now → Joined low now
 
-entry_same : (x y : Entry) → Some x ≡ Some y → x ≡ y
-entry_same x y e = cc
-
 module _ (W : World) (id : TransactionId) (e : Entry) (here : entry_of W id ≡ Some e) (low : ℕ) (joined : continues e.received low ≡ true) where
   abbrev k : ℕ
   k = index_of W id
 
   same_joined : (reply : Reply) → JoinedIn id low (W, reply)
-  same_joined reply now there = inl (ap (λ (x : Entry). continues x.received low) (sym (entry_same e now (sym here ∙ there))) ∙ joined)
+  same_joined reply now there = inl (ap (λ (x : Entry). continues x.received low) (sym (some_same e now (sym here ∙ there))) ∙ joined)
 
   -- a world whose table has this entry in the place of that one
   put_joined : (U : World) (new : Entry) (reply : Reply) → name_of new ≡ id → U.table ≡ slice_set W.table k new → Joined low new → JoinedIn id low (U, reply)
   put_joined U new reply name table j now there =
       let own : entry_of U id ≡ Some new = ap (λ (t : List Entry). slice_get t (place_of id t)) table ∙ set_own W.table id e new name here in
-      subst (Joined low) (entry_same new now (sym own ∙ there)) j
+      subst (Joined low) (some_same new now (sym own ∙ there)) j
 
   named : name_of e ≡ id
   named = found_name W.table id e here

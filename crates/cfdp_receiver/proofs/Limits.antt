@@ -16,7 +16,7 @@ use Rattle.cfdp_retransmission.proofs.Waiting.{Early, Due, Over, why}
 use Rattle.cfdp_sessions.specs.Sessions.{SessionFields, session_id, found, without_session, AreDistinct}
 use Rattle.cfdp_sessions.specs.declared.session.Stage.{Stage}
 use Rattle.cfdp_sessions.specs.declared.session.Stage.TheVariants.{Held, Known, Over as OverStage, Waiting}
-use Rattle.cfdp_sessions.proofs.Names.{same_is, both_of, gone, found_name, IsMember, member_found, replaced_self}
+use Rattle.cfdp_sessions.proofs.Names.{gone, found_name, IsMember, member_found, replaced_self}
 use Rattle.cfdp_transactions.specs.Entry.{id_of}
 use Rattle.cfdp_transactions.specs.declared.reply.Reply.{Reply}
 use Rattle.cfdp_transactions.specs.World.{World, entry_of}
@@ -32,6 +32,8 @@ use Rattle.cfdp_receiver.specs.Turning as Turning
 use Rattle.cfdp_receiver.specs.Laws.{due_name, session_name, touched, touched_in, is_waiting, waits_in, sent_for, sent_while, SentAtMost}
 use Rattle.cfdp_receiver.proofs.Shapes.{others_stay}
 use Rattle.cfdp_receiver.proofs.Distinct.{distinct_after}
+use Rattle.cfdp_receiver.proofs.Delivering.{never_both}
+use Rattle.cfdp_leases.proofs.Admitted.{same_is}
 
 -- ---- whose timer is due, and why
 
@@ -166,15 +168,12 @@ waits_ack R h ack s Waiting d e name w =
 pub at_waiting : (W : World) (s : SessionFields) → s.stage ≡ Waiting → at_of W s ≡ At_waiting
 at_waiting W s w = ap (λ (stage : Stage). at_stage stage (entry_of W (session_id s))) w
 
-not_both : (b : Bool) → b ≡ true → b ≡ false → ⊥
-not_both b h e = both_of b e h
-
 waits_prompt : (R : State) (h : Header) (prompt : Prompt) (s : SessionFields) → found R.sessions (id_of h) ≡ Some s → s.stage ≡ Waiting →
     Waits R (id_of h) s (Turning.prompt_parts R h prompt (Some s))
 waits_prompt R h prompt s e w =
     let takes : Turning.takes_prompts (at_of R.world s) ≡ false = ap Turning.takes_prompts (at_waiting R.world s w) in
     elim (cases_Bool (s.header.acknowledged && Turning.takes_prompts (at_of R.world s))) [
-      | inl both ↦ absurd (not_both (Turning.takes_prompts (at_of R.world s))
+      | inl both ↦ absurd (never_both (Turning.takes_prompts (at_of R.world s))
           (and_parts s.header.acknowledged (Turning.takes_prompts (at_of R.world s)) both).1 takes)
       | inr neither ↦
           subst (Waits R (id_of h) s)
@@ -192,7 +191,7 @@ waits_cancel R rs id s Waiting e w = Same e refl
 
 -- ---- its timer
 
-terms_waiting : (R : State) (acknowledged : Bool) (s : SessionFields) →
+pub terms_waiting : (R : State) (acknowledged : Bool) (s : SessionFields) →
     Dues.terms_at R.mib R.world.config.checks acknowledged s.timer At_waiting ≡ Some (R.mib.ack.interval, R.mib.ack.limit)
 terms_waiting R true s = refl
 terms_waiting R false s = refl
@@ -255,7 +254,7 @@ waits_due R V id s (Dues.Alive_due t) d e name w ne is same =
     let receiving : Dues.is_receiving_at (at_of R.world t) ≡ true = (and_parts t.header.acknowledged (Dues.is_receiving_at (at_of R.world t)) both.0).1 in
     let waiting : Dues.is_receiving_at (at_of R.world t) ≡ false =
     ap (λ (y : SessionFields). Dues.is_receiving_at (at_of R.world y)) (sym it) ∙ ap Dues.is_receiving_at (at_waiting R.world s w) in
-    absurd (not_both (Dues.is_receiving_at (at_of R.world t)) receiving waiting)
+    absurd (never_both (Dues.is_receiving_at (at_of R.world t)) receiving waiting)
 waits_due R V id s (Dues.Stage_due t false) d e name w ne is same =
     let due = stage_due R R.sessions t false is in
     let it : s ≡ t = is_it R id s t d e due.0 same in
@@ -275,7 +274,7 @@ waits_finish R id s (Some t) d e w is same =
     let it : s ≡ t = is_it R id s t d e over.0 same in
     let waiting : Dues.is_over (at_of R.world t) ≡ false = ap (λ (y : SessionFields). Dues.is_over (at_of R.world y)) (sym it)
     ∙ ap Dues.is_over (at_waiting R.world s w) in
-    absurd (not_both (Dues.is_over (at_of R.world t)) over.1 waiting)
+    absurd (never_both (Dues.is_over (at_of R.world t)) over.1 waiting)
 
 -- ---- each input
 

@@ -21,6 +21,7 @@ use Rattle.cfdp_receiver.specs.State.{State, At, At_held, At_receiving, At_await
 use Rattle.cfdp_receiver.specs.Due.{IsSet, expiry_by, has_passed, is_receiving_at, terms_at, Due, Nothing_due, due_by, expiry_of, first_due, is_alive_due}
 use Rattle.cfdp_receiver.specs.Machine.{is_any_due}
 use Rattle.cfdp_receiver.specs.code.Machine.{IsTaking, is_expired, timer_of}
+use Rattle.cfdp_paths.proofs.Scanning.{or_false}
 
 -- ---- the first that is due
 
@@ -77,10 +78,6 @@ any_more R ss i s before after stage alive e was of_stage of_alive both =
     ∙ ap (λ (b : Bool). before || (stage || (b || is_any_due later))) (sym of_alive)
     ∙ either_of before stage alive (is_any_due later)
     ∙ ap (λ (b : Bool). b || is_any_due later) (sym both)
-
-or_false : (b : Bool) → (b || false) ≡ b
-or_false true = refl
-or_false false = refl
 
 pub any_of_all : (R : State) (ss : List SessionFields) (i : ℕ) (come : Bool) → length ss ≤ i →
     is_any_due (first_due R ss) ≡ (come || is_any_due (first_due R (drop i ss))) → come ≡ is_any_due (first_due R ss)

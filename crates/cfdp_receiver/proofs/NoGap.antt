@@ -30,6 +30,7 @@ use Rattle.cfdp_receiver.specs.code.Machine.{begins_no_gap}
 use Rattle.cfdp_receiver.specs.Turning.{asks_at_once, asks_stage, gaps_at, is_immediate, progress_at}
 use Rattle.cfdp_receiver.proofs.InOrder.{none_deferred}
 use Rattle.cfdp_receiver.proofs.Delivering.{neither, never_both, own_name, placed}
+use Rattle.cfdp_retransmission.proofs.Losing.{brings_some}
 
 -- ---- octets
 
@@ -38,16 +39,11 @@ some_there [] i h = absurd (omega arith)
 some_there (x ∷ xs) zero h = refl
 some_there (x ∷ xs) (suc i) h = some_there xs i (omega (arith, h))
 
-brought_there : (at : ℕ) (xs : List ℕ) (i : ℕ) → at ≤ i → i < at + length xs → is_some (brought at xs i) ≡ true
-brought_there zero xs i low high = some_there xs i (omega (arith, high))
-brought_there (suc at) xs zero low high = absurd (omega (arith, low))
-brought_there (suc at) xs (suc i) low high = brought_there at xs i (omega (arith, low)) (omega (arith, high))
-
 -- after the end of what was received nothing is missing of what is received now
 none_missing : (rs : Received) (at x : ℕ) (xs : List ℕ) (i : ℕ) → at ≤ length rs → length rs ≤ i →
     i < length (kept_with rs at (x ∷ xs)) → octet_at (kept_with rs at (x ∷ xs)) i ≡ None → ⊥
 none_missing rs at x xs i from low high missing =
-    let there = brought_there at (x ∷ xs) i (omega (arith, from, low)) (omega (arith, greatest_end rs at x xs, high, low)) in
+    let there = brings_some at (x ∷ xs) i (omega (arith, from, low)) (omega (arith, greatest_end rs at x xs, high, low)) in
     let none = (neither (octet_at rs i) (brought at (x ∷ xs) i) (sym (first_stays rs at (x ∷ xs) i) ∙ missing)).1 in
     never_both (is_some (brought at (x ∷ xs) i)) there (ap is_some none)
 

@@ -17,7 +17,7 @@ use Rattle.cfdp_transactions.specs.World.{World, next_runnable}
 use Rattle.cfdp_sessions.specs.Sessions.{SessionFields, session_id}
 use Rattle.cfdp_sessions.specs.declared.session.Stage.{Stage}
 use Rattle.cfdp_sessions.specs.declared.session.Stage.TheVariants.{Held, Known, Over as OverStage, Waiting}
-use Rattle.cfdp_sessions.proofs.Names.{same_self, both_of, found_name}
+use Rattle.cfdp_sessions.proofs.Names.{both_of, found_name}
 use Rattle.cfdp_receiver.specs.declared.mib.Handler.{Handler}
 use Rattle.cfdp_receiver.specs.declared.mib.Handler.TheVariants as handlers
 use Rattle.cfdp_receiver.specs.State.{State, Input, MetadataPdu, DataPdu, EofPdu, AckPdu, PromptPdu, OtherPdu, Expire, Work, Finish, CancelAsked, ForgetAsked, now_of, session_of, is_closed, is_full, at_of}
@@ -25,6 +25,7 @@ use Rattle.cfdp_receiver.specs.Due as Dues
 use Rattle.cfdp_receiver.specs.Handing as Handing
 use Rattle.cfdp_receiver.specs.Laws.{due_name, session_name, touched_in, touched, is_work, OthersKeepEntries, WorkKeepsOthers}
 use Rattle.cfdp_receiver.proofs.Handing.{entries_stay}
+use Rattle.cfdp_leases.proofs.Held.{same_itself}
 
 abbrev NotAbout : TransactionId → List Event → Type 0
 NotAbout id es = AllByRecursion (λ v. id ≢ about v) es
@@ -44,7 +45,7 @@ not_session id None es h = tt
 not_session id (Some s) es h = not_known id s.stage es h
 
 pub other_than : (n id : TransactionId) → is_same n id ≡ false → id ≢ n
-other_than n id other e = both_of (is_same n id) other (ap (is_same n) e ∙ same_self n)
+other_than n id other e = both_of (is_same n id) other (ap (is_same n) e ∙ same_itself n)
 
 not_metadata_stage : (id : TransactionId) (h : Header) (m : MetadataFields) (s : SessionFields) (stage : Stage) → id ≢ id_of h → session_id s ≡ id_of h →
     NotAbout id (Handing.metadata_in_stage h m s stage)

@@ -16,7 +16,7 @@ use Rattle.cfdp_sessions.specs.Sessions.{SessionFields, session_id, found}
 use Rattle.cfdp_sessions.specs.code.Sessions.{IsFound}
 use Rattle.cfdp_sessions.specs.declared.session.Stage.{Stage}
 use Rattle.cfdp_sessions.specs.declared.session.Stage.TheVariants.{Held, Known, Over, Waiting}
-use Rattle.cfdp_sessions.proofs.Names.{same_self, found_put, found_added}
+use Rattle.cfdp_sessions.proofs.Names.{found_put, found_added}
 use Rattle.cfdp_transactions.specs.Entry.{id_of}
 use Rattle.cfdp_transactions.specs.declared.reply.Reply.{Reply}
 use Rattle.cfdp_transactions.specs.declared.outcome.Outcome.{Outcome}
@@ -31,6 +31,7 @@ use Rattle.cfdp_receiver.specs.Due as Due
 use Rattle.cfdp_receiver.specs.Handing as Handing
 use Rattle.cfdp_receiver.specs.Turning as Turning
 use Rattle.cfdp_receiver.specs.Laws.{FewPdus, FindsNoRoom, AcknowledgedOnce}
+use Rattle.cfdp_leases.proofs.Held.{same_itself}
 
 abbrev Few : AnswerFields → Type 0
 Few a = (length a.acks ≤ 1) × (length a.keep_alives + length a.finished ≤ 1)
@@ -188,7 +189,7 @@ acked_active R h eof p acks f =
 pub heard_name : (R : State) (V : World) (s : SessionFields) → session_id (Turning.heard_session R V s) ≡ session_id s
 heard_name R V s = cond_both (Turning.is_news R.world V s) _ s (λ (t : SessionFields). session_id t ≡ session_id s) (λ e. refl) (λ e. refl)
 
-not_false : (b : Bool) → not b ≡ false → b ≡ true
+pub not_false : (b : Bool) → not b ≡ false → b ≡ true
 not_false true e = refl
 not_false false e = absurd cc
 
@@ -240,7 +241,7 @@ acked_eof R V rs h eof None e =
     let kept = Turning.keeps R (Turning.acks_only h eof (status_of R (id_of h)) (Turning.word_without_session R (id_of h))) in
     cond_both (is_closed R (id_of h) || not (eof.condition == 0) || not h.acknowledged) kept (if is_full R then full else holds) (Acked R h eof) (λ b. inl refl)
     (λ b.
-    acked_full R h eof full holds e (is_first R h eof b) refl (acked_active R h eof holds refl (found_added R.sessions new (id_of h) (same_self (id_of h)))))
+    acked_full R h eof full holds e (is_first R h eof b) refl (acked_active R h eof holds refl (found_added R.sessions new (id_of h) (same_itself (id_of h)))))
 acked_eof R V rs h eof (Some s) e = acked_stage R V rs h eof s s.stage e
 
 pub acknowledged_once : AcknowledgedOnce

@@ -13,7 +13,7 @@ use Rattle.cfdp_retransmission.proofs.Waiting.{Early, Due, Over, why}
 use Rattle.cfdp_sessions.specs.Sessions.{SessionFields, session_id, found, replaced, without_session, AreDistinct}
 use Rattle.cfdp_sessions.specs.declared.session.Stage.{Stage}
 use Rattle.cfdp_sessions.specs.declared.session.Stage.TheVariants.{Held, Known, Over as OverStage, Waiting}
-use Rattle.cfdp_sessions.proofs.Names.{same_self, same_is, both_of, no_some, IsMember, member_found}
+use Rattle.cfdp_sessions.proofs.Names.{both_of, no_some, IsMember, member_found}
 use Rattle.cfdp_transactions.specs.Config.{Config}
 use Rattle.cfdp_transactions.specs.Delivery.{checked, check_at}
 use Rattle.cfdp_transactions.specs.Ending.{cancelled, ended, ends}
@@ -41,6 +41,8 @@ use Rattle.cfdp_receiver.specs.Handing as Handing
 use Rattle.cfdp_receiver.specs.Turning as Turning
 use Rattle.cfdp_receiver.specs.Laws.{is_due, due_of, timers_due, ServedOnce}
 use Rattle.cfdp_receiver.proofs.Limits.{stage_due, alive_due}
+use Rattle.cfdp_leases.proofs.Held.{same_itself}
+use Rattle.cfdp_leases.proofs.Admitted.{same_is}
 
 -- ---- sums over sessions
 
@@ -73,7 +75,7 @@ later_is : (x : SessionFields) (xs : List SessionFields) (s : SessionFields) →
     IsMember s xs
 later_is x xs s (inl e) other = absurd (both_of (is_same (session_id x) (session_id s)) other
     (ap (λ (y : SessionFields). is_same (session_id y) (session_id s)) e
-    ∙ same_self (session_id s)))
+    ∙ same_itself (session_id s)))
 later_is x xs s (inr m) other = m
 
 rest_alike : (N R : State) (x : SessionFields) (xs : List SessionFields) (s : SessionFields) → AreDistinct (x ∷ xs) → is_same (session_id x) (session_id s)
@@ -226,7 +228,7 @@ alike_by R V t config entry =
     ap (λ (c : Config). due_at R t c.checks (at_of V t)) config ∙ ap (λ (o : Option Entry). due_at R t R.world.config.checks (at_stage t.stage o)) entry
 
 other_name : (t s : SessionFields) → is_same (session_id t) (session_id s) ≡ false → session_id t ≢ session_id s
-other_name t s other e = both_of (is_same (session_id t) (session_id s)) other (ap (λ (n : TransactionId). is_same n (session_id s)) e ∙ same_self
+other_name t s other e = both_of (is_same (session_id t) (session_id s)) other (ap (λ (n : TransactionId). is_same n (session_id s)) e ∙ same_itself
     (session_id s))
 
 alike_own : NextIsPromised → (R : State) (s : SessionFields) (es : List Event) → Sound R.world → Own es (session_id s) →
@@ -319,7 +321,7 @@ takes_awaiting W s (OverStage ending) o made known here at = absurd cc
 takes_awaiting W s Waiting o made known here at = absurd cc
 
 -- at the limit of checks the core's count is there
-full_of : (interval limit now : ℕ) (timer : Timer) → expiry interval limit now timer ≡ Limit → limit ≤ timer.count + 1
+pub full_of : (interval limit now : ℕ) (timer : Timer) → expiry interval limit now timer ≡ Limit → limit ≤ timer.count + 1
 full_of interval limit now timer limited = elim (why interval limit now timer) [
   | Early e ↦ let never : NotDue ≡ Limit = sym e ∙ limited in absurd cc
   | Due e due room ↦ let never : Again ≡ Limit = sym e ∙ limited in absurd cc
@@ -358,7 +360,7 @@ fewer_closed R V s a d m alike some = omega (arith, sum_without (in_world R V) R
 abbrev alive_part : State → SessionFields → ℕ
 alive_part R s = one_if (Dues.is_alive_due R s)
 
-none_known : (stage : Stage) → Handing.where_known stage [] ≡ []
+pub none_known : (stage : Stage) → Handing.where_known stage [] ≡ []
 none_known (Held eof) = refl
 none_known Known = refl
 none_known (OverStage ending) = refl

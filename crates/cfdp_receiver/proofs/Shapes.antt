@@ -19,7 +19,7 @@ use Rattle.cfdp_sessions.specs.Sessions.{SessionFields, session_id, found}
 use Rattle.cfdp_sessions.specs.code.Sessions.{IsFound}
 use Rattle.cfdp_sessions.specs.declared.session.Stage.{Stage}
 use Rattle.cfdp_sessions.specs.declared.session.Stage.TheVariants.{Held, Known, Over, Waiting}
-use Rattle.cfdp_sessions.proofs.Names.{same_self, same_is, no_some, found_name, found_first, found_either, found_replaced, found_more, replaced_other, without_other, added_other}
+use Rattle.cfdp_sessions.proofs.Names.{no_some, found_name, found_first, found_either, found_replaced, found_more, replaced_other, without_other, added_other}
 use Rattle.cfdp_transactions.specs.Entry.{id_of}
 use Rattle.cfdp_transactions.specs.declared.reply.Reply.{Reply}
 use Rattle.cfdp_transactions.specs.declared.outcome.Outcome.{Outcome}
@@ -36,6 +36,8 @@ use Rattle.cfdp_receiver.specs.Handing as Handing
 use Rattle.cfdp_receiver.specs.Turning as Turning
 use Rattle.cfdp_receiver.specs.Laws.{due_name, session_name, touched_in, touched, OthersStay, UnrecognizedIsTrue, HadSession, TerminatedIsTrue}
 use Rattle.cfdp_receiver.proofs.Sending.{heard_name}
+use Rattle.cfdp_leases.proofs.Held.{same_itself}
+use Rattle.cfdp_leases.proofs.Admitted.{same_is}
 
 -- one of five, with the name that it is about
 pub data Shape (R : State) (t : TransactionId) (p : Turning.Parts) : Type 0 where
@@ -163,7 +165,7 @@ IsDueOf ss (Due.Alive_due s) = IsFound ss (session_id s)
 IsDueOf ss (Due.Stage_due s limit) = IsFound ss (session_id s)
 
 found_self : (x : SessionFields) (xs : List SessionFields) → IsFound (x ∷ xs) (session_id x)
-found_self x xs = found_first x xs (session_id x) (same_self (session_id x))
+found_self x xs = found_first x xs (session_id x) (same_itself (session_id x))
 
 due_later : (x : SessionFields) (xs : List SessionFields) (due : Due.Due) → IsDueOf xs due → IsDueOf (x ∷ xs) due
 due_later x xs Due.Nothing_due d = tt

@@ -16,7 +16,7 @@ use Rattle.cfdp_states.proofs.NextItem.{blocks-le-peak}
 use Rattle.cfdp_actions.proofs.Weights.{blocks-stages}
 use Rattle.cfdp_transactions.specs.declared.phase.Phase.{Phase}
 use Rattle.cfdp_transactions.specs.declared.phase.Phase.TheVariants.{Receiving, Awaiting, Executing, Refused, Done, Ended}
-use Rattle.cfdp_transactions.specs.Entry.{Entry, is_live, takes_data, rest, gaps, gaps_in, reach, reach_in, progress, awaited}
+use Rattle.cfdp_transactions.specs.Entry.{Entry, takes_data, rest, gaps, gaps_in, reach, reach_in, progress, awaited}
 use Rattle.cfdp_transactions.specs.Received.{Received, gaps_below}
 use Rattle.cfdp_transactions.specs.ReceivedLaws.{AreRuns, IsIn}
 use Rattle.cfdp_transactions.proofs.Received.OctetsAndGaps.{gaps_are_missing, gaps_are_runs}
@@ -24,6 +24,8 @@ use Rattle.cfdp_transactions.specs.World.{World, index_of, entry_of}
 use Rattle.cfdp_transactions.specs.Sound.{Sound, IsKept, longest, longest_in}
 use Rattle.cfdp_receiver.specs.code.Machine.{IsTaking}
 use Rattle.cfdp_receiver.specs.Turning.{progress_at, gaps_after}
+use Rattle.cfdp_transactions.proofs.Soundness.Needs.{data_live}
+use Rattle.cfdp_leases.proofs.Admitted.{some_is}
 
 blocks_fit : (n : ℕ) → n ≤ 120 * blocks_of n
 unfolding blocks_of
@@ -33,15 +35,7 @@ no_blocks : blocks_of 0 ≡ 0
 unfolding blocks_of
 no_blocks = refl
 
-taking_is_live : (phase : Phase) → IsTrue (takes_data phase) → IsTrue (is_live phase)
-taking_is_live Receiving h = refl
-taking_is_live (Awaiting made) h = refl
-taking_is_live (Executing n) h = absurd cc
-taking_is_live Refused h = absurd cc
-taking_is_live Done h = absurd cc
-taking_is_live (Ended condition) h = absurd cc
-
-zeros : (n : ℕ) → length {A = ℕ} (replicate n 0) ≡ n
+pub zeros : (n : ℕ) → length {A = ℕ} (replicate n 0) ≡ n
 zeros n = length-replicate n 0
 
 -- both are at most the longest list that may still come
@@ -57,7 +51,7 @@ within W e (Ended condition) is h fits = absurd cc
 pub small : (W : World) (id : TransactionId) (e : Entry) → Sound W → W.config.blocks ≤ 65536 → entry_of W id ≡ Some e → IsTrue (takes_data e.phase) →
     (progress e < 2 ^ 32) × (reach e < 2 ^ 32)
 small W id e sound few here taking =
-    let kept : IsKept W.config W.filestore e = sound.live (index_of W id) e here (taking_is_live e.phase taking) in
+    let kept : IsKept W.config W.filestore e = sound.live (index_of W id) e here (data_live e.phase taking) in
     let F = W.filestore in
     let x = longest W.config e in
     let given = sound.given (index_of W id) e here in
@@ -118,23 +112,20 @@ pub read_progress : (entry : Option Entry) → unwrap_or (option_map progress en
 read_progress None = refl
 read_progress (Some e) = refl
 
-some_same : {X : Type 0} (x y : X) → Some x ≡ Some y → x ≡ y
-some_same x y e = ap (λ o. unwrap_or o x) e
-
 pub missing_fit : (W : World) (id : TransactionId) (low : ℕ) (entry : Option Entry) (rs : List SegmentRequest) → Sound W → W.config.blocks ≤ 65536 →
     entry_of W id
     ≡ entry →
     Some rs ≡ option_map (gaps_after low) entry → (large : Bool) → All (IsSizedRange large) rs
 missing_fit W id low None rs sound few here made large = absurd cc
 missing_fit W id low (Some e) rs sound few here made large =
-    subst (All (IsSizedRange large)) (sym (some_same rs (gaps_after low e) made))
+    subst (All (IsSizedRange large)) (sym (some_is rs (gaps_after low e) made))
     (All-filter (λ (g : SegmentRequest). nat_le low g.0) (IsSizedRange large) (gaps e) (sized_gaps W id e sound few here large).0)
 
 pub reach_fits : (W : World) (id : TransactionId) (entry : Option Entry) (high : ℕ) → Sound W → W.config.blocks ≤ 65536 → entry_of W id ≡ entry →
     Some high ≡ option_map reach entry → (large : Bool) → high < 256 ^ fss large
 reach_fits W id None high sound few here made large = absurd cc
 reach_fits W id (Some e) high sound few here made large =
-    subst (λ (n : ℕ). n < 256 ^ fss large) (sym (some_same high (reach e) made)) (sized_gaps W id e sound few here large).1
+    subst (λ (n : ℕ). n < 256 ^ fss large) (sym (some_is high (reach e) made)) (sized_gaps W id e sound few here large).1
 
 low_at : (low : ℕ) (g : SegmentRequest) (gs rs : List SegmentRequest) (large kept : Bool) → nat_le low g.0 ≡ kept → rs ≡ (if kept then g ∷ gs else gs) →
     0 < length rs →
@@ -158,4 +149,4 @@ pub low_fits : (W : World) (id : TransactionId) (low : ℕ) (entry : Option Entr
     Some rs ≡ option_map (gaps_after low) entry → 0 < length rs → (large : Bool) → low < 256 ^ fss large
 low_fits W id low None rs sound few here made some large = absurd cc
 low_fits W id low (Some e) rs sound few here made some large =
-    low_in low (gaps e) rs large (some_same rs (gaps_after low e) made) some (missing_fit W id low (Some e) rs sound few here made large)
+    low_in low (gaps e) rs large (some_is rs (gaps_after low e) made) some (missing_fit W id low (Some e) rs sound few here made large)

@@ -7,8 +7,8 @@ use Rattle.std.proofs.Common.{◌≡◌, ◌≢◌, inl, inr, ℕ, zero, suc, �
 use Rattle.std.proofs.Common.{take, drop, Option, Some, None, refl, sym, ap, subst, ◌∙◌, append_assoc, arith}
 use Rattle.std.proofs.Math.Nat.{mul-add-div}
 use Rattle.std.proofs.Math.Seq.{drop-append_seam}
-use Rattle.std.proofs.lemmas.Bool.{cases_lt, cond-true, le-leb, lt-leb, false≢true}
-use Rattle.std.proofs.lemmas.List.{take_all, take_at, take-append-le, drop-append-le, take-append-drop, drop-drop, length-append, length-take, length-drop, length-map}
+use Rattle.std.proofs.lemmas.Bool.{cases_lt, cond-true, lt-leb, false≢true}
+use Rattle.std.proofs.lemmas.List.{take_at, take-append-le, drop-append-le, take-append-drop, drop-drop, length-append, length-take, length-drop, length-map}
 use Rattle.std.proofs.lemmas.Nat.{div-mul-add}
 use Rattle.std.proofs.lemmas.List.Elements.{All-take, All-drop, All-get_or}
 use Rattle.std.proofs.lemmas.Option.{slice_get_past}
@@ -34,20 +34,10 @@ use Rattle.cfdp_receiver.specs.Machine.{AnswerParts, MachineFields, finished_for
 use Rattle.cfdp_receiver.specs.code.Machine.{sequence_of}
 use Rattle.cfdp_receiver.specs.Sent.{IsNotWritten, as_sent, pdus_of, sealed_or}
 use Rattle.cfdp_receiver.specs.code.Sent.{after_ack, nak_octets}
+use Rattle.cfdp_pdus.proofs.CanonicalSteps.{fss_small}
+use Rattle.cfdp_retransmission.proofs.Sequences.{less, last_one, next_one}
 
 -- ---- a sequence of NAK PDUs
-
-last_one : (more most low high : ℕ) (rs : List SegmentRequest) → length rs ≤ most →
-    naks_in (suc more) most low high rs ≡ record { scope = (low, high); requests = rs } ∷ []
-last_one more most low high rs h = rw (le-leb (length rs) most h, take_all most rs h) refl
-
-next_one : (more most low high : ℕ) (rs : List SegmentRequest) → most < length rs →
-    naks_in (suc more) most low high rs
-    ≡ record { scope = (low, front_end most rs); requests = take most rs } ∷ naks_in more most (front_end most rs) high (drop most rs)
-next_one more most low high rs h = rw (lt-leb (length rs) most h) refl
-
-less : (more most : ℕ) (rs : List SegmentRequest) → 1 ≤ most → length rs < suc more → most < length rs → length (drop most rs) < more
-less more most rs some fuel long = omega (arith, length-drop most rs, some, fuel, long)
 
 -- whatever the fuel is, where it is enough
 same_fuel : (a b most low high : ℕ) (rs : List SegmentRequest) → 1 ≤ most → length rs < a → length rs < b → naks_in a most low high rs
@@ -348,12 +338,8 @@ keep_alive_length : (h : Header) (k : KeepAlive) → length (keep_alive_pdu h k)
 unfolding keep_alive_field
 keep_alive_length h k = omega (arith, pdu_len false h (keep_alive_field h.large k), location_len (fss h.large) k.progress)
 
-size_short : (large : Bool) → fss large ≤ 8
-size_short true = omega arith
-size_short false = omega arith
-
 pub keep_alive_short : (h : Header) (k : KeepAlive) → IsHeader h → length (keep_alive_pdu h k) ≤ longest_finished
-keep_alive_short h k is = omega (arith, keep_alive_length h k, size_short h.large, is.id_high, is.number_high)
+keep_alive_short h k is = omega (arith, keep_alive_length h k, fss_small h.large, is.id_high, is.number_high)
 
 field_short : (large : Bool) (n : ℕ) → n ≤ 33 → 1 + pair_len large * (1 + n) ≤ 545
 field_short true n few = omega arith

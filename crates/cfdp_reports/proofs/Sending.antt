@@ -7,7 +7,7 @@ use Rattle.cfdp_receiver.specs.declared.mib.Mib.{Mib}
 use Rattle.cfdp_receiver.specs.Sent.{as_sent}
 use Rattle.cfdp_reports.specs.Reports.{send_line, send_lines}
 
-drop_at : (pdus : List (List ℕ)) (n : ℕ) (octets : List ℕ) → slice_get pdus n ≡ Some octets → drop n pdus ≡ octets ∷ drop (n + 1) pdus
+pub drop_at : (pdus : List (List ℕ)) (n : ℕ) (octets : List ℕ) → slice_get pdus n ≡ Some octets → drop n pdus ≡ octets ∷ drop (n + 1) pdus
 drop_at pdus n octets e =
     drop-cons pdus n octets (slice_get_within pdus n octets e) ∙ ap (λ (x : List ℕ). x ∷ drop (suc n) pdus) (get_or_from_slice_get pdus n octets octets e)
     ∙ (let one_more : suc n ≡ n + 1 = omega arith in ap (λ (k : ℕ). octets ∷ drop k pdus) one_more)

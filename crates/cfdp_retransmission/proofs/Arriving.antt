@@ -7,7 +7,7 @@ use Rattle.cfdp_retransmission.specs.Coming.{Piece, keep, keep_all, AreAllKept, 
 use Rattle.cfdp_transactions.specs.ReceivedLaws.{octet_at, or_offset, IsIn, AreRuns}
 use Rattle.cfdp_retransmission.proofs.Sequences.{asks_for_all}
 use Rattle.std.proofs.lemmas.Bool.{le-leb, lt-leb}
-use Rattle.cfdp_transactions.proofs.Received.OctetsAndGaps.{first_stays, gaps_are_missing, gaps_are_runs}
+use Rattle.cfdp_transactions.proofs.Received.OctetsAndGaps.{first_stays, gaps_are_missing, gaps_are_runs, fewer_pieces}
 
 -- all of it is kept --------------------------------------------------------------------
 
@@ -19,7 +19,7 @@ pub stays : (o later : Option ℕ) → is_some o ≡ true → is_some (or_offset
 stays None later h = absurd cc
 stays (Some x) later h = refl
 
-comes : (o later : Option ℕ) → is_some later ≡ true → is_some (or_offset o later) ≡ true
+pub comes : (o later : Option ℕ) → is_some later ≡ true → is_some (or_offset o later) ≡ true
 comes None later h = h
 comes (Some x) later h = refl
 
@@ -67,17 +67,11 @@ answered_is_whole limit rs ps kept answers =
 
 -- in order -----------------------------------------------------------------------------
 
--- whether the offset before was received makes one piece more at most
-lower : (rs : Received) → pieces_from true rs ≤ pieces_from false rs
-lower [] = omega arith
-lower (None ∷ rs) = omega arith
-lower (Some x ∷ rs) = omega arith
-
 -- what begins after an octet that is there makes no piece more
 after_one : (rs : Received) (octets : List ℕ) → pieces_from true (kept_with rs 0 octets) ≤ pieces_from true rs
 after_one rs [] = omega arith
 after_one [] (x ∷ xs) = after_one [] xs
-after_one (None ∷ rs) (x ∷ xs) = omega (arith, after_one rs xs, lower rs)
+after_one (None ∷ rs) (x ∷ xs) = omega (arith, after_one rs xs, fewer_pieces rs)
 after_one (Some r ∷ rs) (x ∷ xs) = after_one rs xs
 
 pub joins : (inside : Bool) (rs : Received) (at : ℕ) (octets : List ℕ) → is_some (octet_at rs at) ≡ true →
@@ -96,7 +90,7 @@ joins false (Some r ∷ rs) (suc at) (x ∷ xs) h = omega (arith, joins true rs 
 joins_zero : (rs : Received) (octets : List ℕ) → pieces (kept_with rs 0 octets) + zero_missing (kept_with rs 0 octets) ≤ pieces rs + zero_missing rs
 joins_zero rs [] = omega arith
 joins_zero [] (x ∷ xs) = omega (arith, after_one [] xs)
-joins_zero (None ∷ rs) (x ∷ xs) = omega (arith, after_one rs xs, lower rs)
+joins_zero (None ∷ rs) (x ∷ xs) = omega (arith, after_one rs xs, fewer_pieces rs)
 joins_zero (Some r ∷ rs) (x ∷ xs) = omega (arith, after_one rs xs)
 
 same_zero : (rs : Received) (at : ℕ) (octets : List ℕ) → is_some (octet_at rs at) ≡ true → zero_missing (kept_with rs (suc at) octets) ≡ zero_missing rs

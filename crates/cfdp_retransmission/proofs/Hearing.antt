@@ -11,8 +11,9 @@ use Rattle.cfdp_retransmission.specs.Naks.{SegmentRequest, Nak, naks}
 use Rattle.cfdp_retransmission.specs.Coming.{Piece, keep, keep_all, continues, zero_missing, one_if, all_asked}
 use Rattle.cfdp_retransmission.specs.Rounds.{Asking, Sending, Exchange, heard_requests, Covers, AnswersInOrder, IsExchange, arrived, lost, is_any_lost, lost_of, kept_after_round, asked_for, AreRounds, after_rounds, lost_in, spare_round, WholeAfterLosses}
 use Rattle.cfdp_retransmission.proofs.Sequences.{asks_for_all}
-use Rattle.cfdp_retransmission.proofs.Arriving.{kept_is, stays, room, whole_from}
-use Rattle.cfdp_retransmission.proofs.Losing.{holes, few_parts, no_hole, some_right, brings_some, kept_len, spare_is, no_spare, covers_rise, arrived_both, lost_both, from_start, in_rest, there_or_not, one_round}
+use Rattle.cfdp_retransmission.proofs.Arriving.{kept_is, stays, room, whole_from, comes}
+use Rattle.cfdp_retransmission.proofs.Losing.{holes, few_parts, no_hole, brings_some, spare_is, no_spare, covers_rise, arrived_both, lost_both, from_start, in_rest, there_or_not, one_round}
+use Rattle.cfdp_transactions.proofs.Soundness.Receiving.{kept_within}
 
 -- ---- the requests that are heard
 
@@ -169,7 +170,7 @@ fit_one limit rs p fit within = elim (cases_lt 32 (pieces (kept_with rs p.0 p.1)
   | inl over ↦
       let same : keep rs p ≡ rs = rw (lt-ltb 32 (pieces (kept_with rs p.0 p.1)) over) refl in
       subst (IsFit limit) (sym same) fit
-  | inr few ↦ subst (IsFit limit) (sym (kept_is rs p few)) (record { few = few; short = kept_len rs p.0 p.1 limit fit.short within })
+  | inr few ↦ subst (IsFit limit) (sym (kept_is rs p few)) (record { few = few; short = kept_within rs p.0 p.1 limit fit.short within })
 ]
 
 fit_all : (limit : ℕ) (ps : List Piece) (rs : Received) → IsFit limit rs → Within limit ps → IsFit limit (keep_all rs ps)
@@ -194,7 +195,7 @@ continues_after rs at [] c =
 continues_after rs at (x ∷ xs) c =
     continues_by (kept_with rs at (x ∷ xs)) (at + length (x ∷ xs)) (λ a e.
     ap is_some (first_stays rs at (x ∷ xs) a)
-    ∙ some_right (octet_at rs a) (brought at (x ∷ xs) a) (brings_some at (x ∷ xs) a (omega (arith, e)) (omega (arith, e))))
+    ∙ comes (octet_at rs a) (brought at (x ∷ xs) a) (brings_some at (x ∷ xs) a (omega (arith, e)) (omega (arith, e))))
 
 abbrev Grows : Received → Received → ℕ → Type 0
 Grows before rs at = HasRoom before rs × (continues rs at ≡ true)

@@ -5,11 +5,13 @@ use Rattle.std.proofs.Common.{◌≡◌, inl, inr, ℕ, zero, suc, ◌+◌, ◌-
 use Rattle.std.proofs.lemmas.Bool.{cases_lt, cases_Bool, and_left, and_right, not_from_true, lt-ltb, le-ltb, le-leb, lt-leb}
 use Rattle.cfdp_transactions.specs.Received.{Received, kept_with, brought, pieces, pieces_from, gaps_below}
 use Rattle.cfdp_transactions.specs.ReceivedLaws.{octet_at, or_offset, IsIn, AreRuns}
-use Rattle.cfdp_transactions.proofs.Received.OctetsAndGaps.{first_stays, greatest_end, gaps_are_missing, gaps_are_runs}
+use Rattle.cfdp_transactions.proofs.Received.OctetsAndGaps.{first_stays, gaps_are_missing, gaps_are_runs}
 use Rattle.cfdp_retransmission.specs.Naks.{SegmentRequest}
 use Rattle.cfdp_retransmission.specs.Coming.{Piece, keep, keep_all, zero_missing, one_if}
 use Rattle.cfdp_retransmission.specs.Rounds.{Sending, Covers, AnswersInOrder, arrived, lost, spare_round}
-use Rattle.cfdp_retransmission.proofs.Arriving.{room, joins}
+use Rattle.cfdp_retransmission.proofs.Arriving.{room, joins, comes}
+use Rattle.cfdp_transactions.proofs.Soundness.Receiving.{kept_within}
+use Rattle.cfdp_transactions.proofs.Received.Writing.{brought_before}
 
 -- `before`: the offset before was received, or there is none
 abbrev pub holes_from : Bool → ℕ → Received → ℕ
@@ -149,15 +151,6 @@ some_left : (o p : Option ℕ) → p ≡ None → is_some (or_offset o p) ≡ is
 some_left None p e = ap is_some e
 some_left (Some x) p e = refl
 
-pub some_right : (o p : Option ℕ) → is_some p ≡ true → is_some (or_offset o p) ≡ true
-some_right None p e = e
-some_right (Some x) p e = refl
-
-brings_none_below : (at : ℕ) (xs : List ℕ) (i : ℕ) → i < at → brought at xs i ≡ None
-brings_none_below zero xs i h = absurd (omega (arith, h))
-brings_none_below (suc at) xs zero h = refl
-brings_none_below (suc at) xs (suc i) h = brings_none_below at xs i (omega (arith, h))
-
 brings_none_past : (at : ℕ) (xs : List ℕ) (i : ℕ) → at + length xs ≤ i → brought at xs i ≡ None
 brings_none_past zero [] i h = refl
 brings_none_past zero (x ∷ xs) zero h = absurd (omega (arith, h))
@@ -171,10 +164,6 @@ brings_some zero (x ∷ xs) zero low high = refl
 brings_some zero (x ∷ xs) (suc i) low high = brings_some zero xs i (omega arith) (omega (arith, high))
 brings_some (suc at) xs zero low high = absurd (omega (arith, low))
 brings_some (suc at) xs (suc i) low high = brings_some at xs i (omega (arith, low)) (omega (arith, high))
-
-pub kept_len : (rs : Received) (at : ℕ) (xs : List ℕ) (limit : ℕ) → length rs ≤ limit → at + length xs ≤ limit → length (kept_with rs at xs) ≤ limit
-kept_len rs at [] limit h k = h
-kept_len rs at (x ∷ xs) limit h k = omega (arith, greatest_end rs at x xs, h, k)
 
 -- ---- one round
 
@@ -218,9 +207,9 @@ after_kept : (limit : ℕ) (rs now : Received) (x gone : ℕ) (xs : List ℕ) �
 after_kept limit rs now x gone xs inside fits few =
     let new = kept_with now x xs in
     let there : (i : ℕ) → x ≤ i → i < x + length xs → is_some (octet_at new i) ≡ true =
-    λ i low high. ap is_some (first_stays now x xs i) ∙ some_right (octet_at now i) (brought x xs i) (brings_some x xs i low high) in
+    λ i low high. ap is_some (first_stays now x xs i) ∙ comes (octet_at now i) (brought x xs i) (brings_some x xs i low high) in
     let below : (i : ℕ) → i < x → is_some (octet_at new i) ≡ is_some (octet_at now i) =
-    λ i h. ap is_some (first_stays now x xs i) ∙ some_left (octet_at now i) (brought x xs i) (brings_none_below x xs i h) in
+    λ i h. ap is_some (first_stays now x xs i) ∙ some_left (octet_at now i) (brought x xs i) (brought_before x xs i h) in
     record {
       later = λ i h. first_stays now x xs i ∙ ap (or_offset (octet_at now i)) (brings_none_past x xs i h) ∙ or_none (octet_at now i)
           ∙ inside.later i (omega (arith, h));
@@ -232,7 +221,7 @@ after_kept limit rs now x gone xs inside fits few =
         inside.few_holes,
       );
       few = few;
-      short = kept_len now x xs limit inside.short fits;
+      short = kept_within now x xs limit inside.short fits;
       first = λ e. kept_none now x xs (omega (arith, e)) ∙ inside.first (omega (arith, e));
     }
 

@@ -3,21 +3,21 @@
 use Rattle.std.proofs.Common.{◌≡◌, ◌≢◌, ℕ, suc, ◌+◌, ◌-◌, ◌<◌, ◌≤◌, Bool, true, false, cond, List, [], ◌∷◌, length, map, inl, inr, refl, ap, sym, ◌∙◌, subst, arith}
 use Rattle.std.specs.Prelude.{Option, Some, None, is_some, is_none, not, ◌||◌, ◌==◌, if◌then◌else◌}
 use Rattle.std.specs.List.{filter, list_any}
-use Rattle.std.proofs.lemmas.Bool.{cases_Bool, true≢false, lt-ltb, le-ltb}
+use Rattle.std.proofs.lemmas.Bool.{cases_Bool, lt-ltb, le-ltb, or_parts}
 use Rattle.cfdp_paths.specs.Paths.{Name, Path, IsPath, same_path, parent, ancestors}
 use Rattle.cfdp_paths.proofs.Comparing.{same_path-Decides}
 use Rattle.cfdp_actions.specs.Filestore.{Node, Directory, File, Filestore, node_at, weight, blocks, Becomes, changed, is_directory, is_file, is_good, parent_is_good}
 use Rattle.cfdp_actions.specs.Store.{Store, free_blocks}
-use Rattle.cfdp_leases.proofs.Sets.{same_path-itself}
 use Rattle.cfdp_leases.proofs.ChangeFrame.{node_at-changed}
 use Rattle.cfdp_transactions.specs.Beginning.{with_node, put_fault, filestore_fault}
 use Rattle.cfdp_transactions.specs.declared.putting.NotPut.TheVariants.{HasTransactions}
 use Rattle.cfdp_transactions.specs.Config.{Config}
 use Rattle.cfdp_transactions.specs.Restart.{put_all, CanPutAll}
 use Rattle.cfdp_transactions.specs.World.{World, free}
-use Rattle.cfdp_transactions.proofs.Beginnings.PutThere.{no_fault, grown}
+use Rattle.cfdp_transactions.proofs.Beginnings.PutThere.{no_fault, grown, none_of}
 use Rattle.cfdp_run.specs.Putting.{missing, as_directory, is_below_file, needed, with_put, place_wrong, room_wrong}
 use Rattle.cfdp_run.specs.declared.wrong.Wrong.TheVariants.{Taken, ParentIsFile, NoRoom}
+use Rattle.cfdp_actions.proofs.Order.{same_path-refl}
 
 -- ---- what stays
 
@@ -77,10 +77,6 @@ chain_of n (m ∷ p) = (record { above = refl; longer = refl }, chain_under n []
 
 -- ---- they can be put
 
-or_false : (a b : Bool) → (a || b) ≡ false → (a ≡ false) × (b ≡ false)
-or_false true b e = absurd cc
-or_false false b e = (refl, e)
-
 pub record Puts (W : World) (paths : List Path) (p : Path) (node : Node) : Type 0 where
   pub can : CanPutAll W (map as_directory paths)
   pub last : put_fault (put_all W (map as_directory paths)) p node ≡ None
@@ -101,7 +97,7 @@ apart x a longer =
     ]
 
 there : (F : Filestore) (a : Path) → node_at (changed F (Becomes a (Some Directory))) a ≡ Some Directory
-there F a = node_at-changed F (Becomes a (Some Directory)) a ∙ ap (λ b. cond b (Some Directory) (node_at F a)) (same_path-itself a)
+there F a = node_at-changed F (Becomes a (Some Directory)) a ∙ ap (λ b. cond b (Some Directory) (node_at F a)) (same_path-refl a)
 
 elsewhere : (F : Filestore) (a x : Path) → length a < length x → node_at (changed F (Becomes a (Some Directory))) x ≡ node_at F x
 elsewhere F a x longer = node_at-changed F (Becomes a (Some Directory)) x ∙ ap (λ b. cond b (Some Directory) (node_at F x)) (apart x a longer)
@@ -157,7 +153,7 @@ module _ (F : Filestore) (p : Path) (node : Node) (absent : node_at F p ≡ None
     });
   }
   puts_from (a ∷ ps) W q chain none idle good begun room =
-      let parts = or_false (is_file (node_at F a)) (list_any (λ x. is_file (node_at F x)) ps) none in
+      let parts = or_parts (is_file (node_at F a)) (list_any (λ x. is_file (node_at F x)) ps) none in
       puts_by (node_at F a) W q a ps refl parts.0 idle good begun chain.0 room
       (λ V idle good begun room. puts_from ps V a chain.1 parts.1 idle good begun room)
 
@@ -173,10 +169,6 @@ puts W (n ∷ p) node some idle absent none room =
 passed : {A : Type 0} (b : Bool) (x : A) (o : Option A) → (if b then Some x else o) ≡ None → (b ≡ false) × (o ≡ None)
 passed true x o e = absurd cc
 passed false x o e = (refl, e)
-
-none_of : (o : Option Node) → is_some o ≡ false → o ≡ None
-none_of None e = refl
-none_of (Some node) e = absurd (true≢false e)
 
 some_path : (p : Path) → IsPath p → p ≢ []
 some_path [] path = absurd (omega (arith, path.some))

@@ -1,5 +1,5 @@
 -- A filestore that is read out in path order, and put into another entity.
-use Rattle.std.proofs.Common.{◌≡◌, ℕ, zero, suc, ◌+◌, ◌<◌, ◌≤◌, List, [], ◌∷◌, length, map, drop, get_or, refl, ap, sym, ◌∙◌, subst, arith}
+use Rattle.std.proofs.Common.{◌≡◌, ℕ, suc, ◌+◌, ◌<◌, ◌≤◌, List, [], ◌∷◌, length, map, drop, get_or, refl, ap, sym, ◌∙◌, subst, arith}
 use Rattle.std.proofs.Math.Seq.{drop-cons}
 use Rattle.std.proofs.lemmas.List.{get_or-map, drop_all}
 use Rattle.std.specs.Prelude.{Some, None, replicate}
@@ -22,6 +22,7 @@ use Rattle.cfdp_transactions.specs.World.{World, start}
 use Rattle.cfdp_transactions.specs.Entry.{Entry as Row}
 use Rattle.cfdp_run.specs.code.Remaking.{CanCopy}
 use Rattle.cfdp_run.proofs.Puts.{put_all-config, can_put_all-config}
+use Rattle.cfdp_uploads.proofs.Found.{each_at}
 
 abbrev pub nodes_of : Filestore → List (Path × Node)
 nodes_of F = finite.entries F.nodes
@@ -70,11 +71,6 @@ module _ (F : Filestore) where
       subst (λ (nodes : finite.FinMap path_cmp Node). AllByRecursion (λ (e : Path × Node). node_at F e.0 ≡ Some e.1) (finite.entries nodes)) all_kept
       (each_is (tree_at F []) (tree_at-of F []))
 
-at_index : {X : Type 0} (P : X → Type 0) (xs : List X) (i : ℕ) (d : X) → AllByRecursion P xs → i < length xs → P (get_or xs i d)
-at_index P [] i d all lt = absurd (omega (arith, lt))
-at_index P (x ∷ xs) zero d all lt = all.0
-at_index P (x ∷ xs) (suc i) d all lt = at_index P xs i d all.1 (omega (arith, lt))
-
 length-map : {X Y : Type 0} (f : X → Y) (xs : List X) → length (map f xs) ≡ length xs
 length-map f [] = refl
 length-map f (x ∷ xs) = ap suc (length-map f xs)
@@ -99,7 +95,7 @@ listed_at F i entry is within =
       node = e.1;
       cut = drop-cons es i none lt ∙ ap (λ (p : Path). (p, e.1) ∷ drop (suc i) es) (sym path) ∙ ap (λ (k : ℕ). (entry.path, e.1) ∷ drop k es) next;
       is = same ∙ ap (λ (p : Path). listing_entry (p, e.1)) (sym path);
-      there = ap (node_at F) path ∙ at_index (λ (x : Path × Node). node_at F x.0 ≡ Some x.1) es i none (each_of F) lt;
+      there = ap (node_at F) path ∙ each_at (λ (x : Path × Node). node_at F x.0 ≡ Some x.1) es i none (each_of F) lt;
     }
 
 pub listed_in : (F : Filestore) (xs : List Entry) (i : ℕ) (entry : Entry) → xs ≡ listing_of F → entry ≡ get_or xs i entry → i < length xs → IsListed F i entry

@@ -4,7 +4,7 @@
 --     command_fits        a line leaves settings that a receiver takes, where those before it are
 use Rattle.std.proofs.Common.{◌≡◌, ℕ, ◌+◌, ◌≤◌, Bool, true, false, List, [], ◌∷◌, take, drop, refl, ap, sym, ◌∙◌, subst, arith, inl, inr}
 use Rattle.std.specs.Prelude.{Option, Some, None, Result, Ok, Err, ok_or, nat_le, nat_lt, ◌==◌, ◌&&◌, ◌||◌, not, if◌then◌else◌, position, bytes_eq, codes, option_map}
-use Rattle.std.proofs.lemmas.Bool.{cases_Bool, not-false, leb-true, le-ltb, ne_eqb, and_parts}
+use Rattle.std.proofs.lemmas.Bool.{cases_Bool, not-false, leb-true, le-ltb, ne_eqb, and_parts, or_parts}
 use Rattle.cfdp_paths.specs.Paths.{path_of}
 use Rattle.cfdp_lines.specs.Lines.{is_overlong, is_comment}
 use Rattle.cfdp_lines.specs.Words.{number_of, numbers_of, words_of}
@@ -42,21 +42,17 @@ passed : (b : Bool) (fault : MibFault) (o : Option MibFault) → (if b then Some
 passed true fault o e = absurd cc
 passed false fault o e = (refl, e)
 
-neither : (a b : Bool) → (a || b) ≡ false → (a ≡ false) × (b ≡ false)
-neither true b e = absurd cc
-neither false b e = (refl, e)
-
 pub none_fits : (mib : Mib) → mib_fault mib ≡ None → Fits mib
 none_fits mib none =
     let one = passed (lacks_time mib) faults.Interval _ none in
     let two = passed (not (is_limit mib.ack.limit && is_limit mib.nak.limit)) faults.Limit _ one.1 in
     let three = passed (nat_lt mib.longest_nak 72) faults.LongestNak None two.1 in
     let limits = and_parts _ _ (not-false _ two.0) in
-    let e = neither ((mib.ack.interval == 0) || (mib.nak.interval == 0) || (mib.check.interval == 0) || (mib.inactivity.interval == 0))
+    let e = or_parts ((mib.ack.interval == 0) || (mib.nak.interval == 0) || (mib.check.interval == 0) || (mib.inactivity.interval == 0))
     (is_no_time mib.keep_alive) one.0 in
-    let d = neither ((mib.ack.interval == 0) || (mib.nak.interval == 0) || (mib.check.interval == 0)) (mib.inactivity.interval == 0) e.0 in
-    let c = neither ((mib.ack.interval == 0) || (mib.nak.interval == 0)) (mib.check.interval == 0) d.0 in
-    let b = neither (mib.ack.interval == 0) (mib.nak.interval == 0) c.0 in
+    let d = or_parts ((mib.ack.interval == 0) || (mib.nak.interval == 0) || (mib.check.interval == 0)) (mib.inactivity.interval == 0) e.0 in
+    let c = or_parts ((mib.ack.interval == 0) || (mib.nak.interval == 0)) (mib.check.interval == 0) d.0 in
+    let b = or_parts (mib.ack.interval == 0) (mib.nak.interval == 0) c.0 in
     record { ack = b.0; nak = b.1; check = c.1; inactivity = d.1; alive = e.1; ack_limit = limits.0; nak_limit = limits.1; longest = three.0 }
 
 -- ---- one setting

@@ -1,19 +1,12 @@
 -- Sessions by their names.
-use Rattle.std.proofs.Common.{◌≡◌, ◌⊎◌, inl, inr, ℕ, Bool, true, false, ◌==◌, if◌then◌else◌, List, [], ◌∷◌, ◌++◌, Option, Some, None, refl, sym, ap, subst, ◌∙◌}
-use Rattle.std.proofs.lemmas.Bool.{cond-true, cond-false, cases_Bool, and_from, and_parts, eq-eqb, eqb-true}
+use Rattle.std.proofs.Common.{◌≡◌, ◌⊎◌, inl, inr, Bool, true, false, ◌==◌, if◌then◌else◌, List, [], ◌∷◌, ◌++◌, Option, Some, None, refl, sym, ap, subst, ◌∙◌}
+use Rattle.std.proofs.lemmas.Bool.{cond-true, cond-false, cases_Bool}
 use Rattle.cfdp_status.specs.declared.transaction.TransactionId.{TransactionId}
 use Rattle.cfdp_leases.specs.Leases.{is_same}
 use Rattle.cfdp_sessions.specs.Sessions.{SessionFields, session_id, found, replaced, without_session, AreDistinct}
 use Rattle.cfdp_sessions.specs.code.Sessions.{IsFound}
-
-pub same_self : (a : TransactionId) → is_same a a ≡ true
-same_self a = and_from _ _ (eq-eqb a.source a.source refl) (eq-eqb a.number a.number refl)
-
-pub same_is : (a b : TransactionId) → is_same a b ≡ true → a ≡ b
-same_is a b h =
-    let both = and_parts (a.source == b.source) (a.number == b.number) h in
-    ap (λ (x : ℕ). record { source = x; number = a.number }) (eqb-true a.source b.source both.0)
-    ∙ ap (λ (x : ℕ). record { source = b.source; number = x }) (eqb-true a.number b.number both.1)
+use Rattle.cfdp_leases.proofs.Held.{same_itself}
+use Rattle.cfdp_leases.proofs.Admitted.{same_is}
 
 pub both_of : (b : Bool) → b ≡ false → b ≡ true → ⊥
 both_of true e h = absurd cc
@@ -22,7 +15,7 @@ both_of false e h = absurd cc
 -- two names differ either way round
 turned_about : (a b : TransactionId) → is_same a b ≡ false → is_same b a ≡ false
 turned_about a b h = elim (cases_Bool (is_same b a)) [
-  | inl same ↦ absurd (both_of (is_same a b) h (ap (λ (n : TransactionId). is_same n b) (sym (same_is b a same)) ∙ same_self b))
+  | inl same ↦ absurd (both_of (is_same a b) h (ap (λ (n : TransactionId). is_same n b) (sym (same_is b a same)) ∙ same_itself b))
   | inr other ↦ other
 ]
 
@@ -250,7 +243,7 @@ pub member_found : (ss : List SessionFields) (t : SessionFields) → AreDistinct
 member_found [] t d m = elim m [ ]
 member_found (x ∷ xs) t d (inl e) = cond-true (is_same (session_id x) (session_id t)) (Some x) (found xs (session_id t))
     (ap (is_same (session_id x)) (ap session_id (sym e))
-    ∙ same_self (session_id x)) ∙ ap Some e
+    ∙ same_itself (session_id x)) ∙ ap Some e
 member_found (x ∷ xs) t d (inr m) =
     let later = member_found xs t d.1 m in
     elim (cases_Bool (is_same (session_id x) (session_id t))) [
@@ -263,7 +256,7 @@ pub replaced_self : (ss : List SessionFields) (new : SessionFields) (id : Transa
     ≡ Some new
 replaced_self [] new id f e = absurd (no_session id f)
 replaced_self (x ∷ xs) new id f e =
-    let new_is : is_same (session_id new) id ≡ true = ap (λ (n : TransactionId). is_same n id) e ∙ same_self id in
+    let new_is : is_same (session_id new) id ≡ true = ap (λ (n : TransactionId). is_same n id) e ∙ same_itself id in
     elim (cases_Bool (is_same (session_id x) (session_id new))) [
       | inl here ↦
           ap (λ (ys : List SessionFields). found ys id) (cond-true (is_same (session_id x) (session_id new)) (new ∷ xs) (x ∷ replaced xs new) here)

@@ -6,7 +6,9 @@ use Rattle.cfdp_status.specs.declared.transaction.TransactionId.{TransactionId}
 use Rattle.cfdp_leases.specs.Leases.{is_same}
 use Rattle.cfdp_sessions.specs.Sessions.{SessionFields, session_id, found, replaced, without_session, AreDistinct}
 use Rattle.cfdp_sessions.specs.code.Sessions.{IsFound, session_index}
-use Rattle.cfdp_sessions.proofs.Names.{same_self, same_is, found_first, found_either, no_some}
+use Rattle.cfdp_sessions.proofs.Names.{found_first, found_either, no_some}
+use Rattle.cfdp_leases.proofs.Held.{same_itself}
+use Rattle.cfdp_leases.proofs.Admitted.{same_is}
 
 -- by whether the first one has the name
 found_if : (b : Bool) (s : SessionFields) (ss : List SessionFields) (place : ℕ) (rest : Option SessionFields) → rest ≡ slice_get ss place →
@@ -85,7 +87,7 @@ some_same x s e = cc
 pub found_by_name : (ss : List SessionFields) (i : ℕ) (s : SessionFields) → slice_get ss i ≡ Some s → IsFound ss (session_id s)
 found_by_name [] i s e = absurd cc
 found_by_name (x ∷ xs) zero s e =
-    found_first x xs (session_id s) (ap (λ (t : SessionFields). is_same (session_id t) (session_id s)) (some_same x s e) ∙ same_self (session_id s))
+    found_first x xs (session_id s) (ap (λ (t : SessionFields). is_same (session_id t) (session_id s)) (some_same x s e) ∙ same_itself (session_id s))
 found_by_name (x ∷ xs) (suc i) s e = found_either x xs (session_id s) (found_by_name xs i s e)
 
 -- and one of the same name that is set there replaces it
@@ -94,7 +96,7 @@ pub set_replaced : (ss : List SessionFields) (i : ℕ) (s new : SessionFields) �
 set_replaced [] i s new d e same = absurd cc
 set_replaced (x ∷ xs) zero s new d e same =
     let here : is_same (session_id x) (session_id new) ≡ true =
-    ap (λ (n : TransactionId). is_same n (session_id new)) (ap session_id (some_same x s e) ∙ same) ∙ same_self (session_id new) in
+    ap (λ (n : TransactionId). is_same n (session_id new)) (ap session_id (some_same x s e) ∙ same) ∙ same_itself (session_id new) in
     sym (cond-true (is_same (session_id x) (session_id new)) (new ∷ xs) (x ∷ replaced xs new) here)
 set_replaced (x ∷ xs) (suc i) s new d e same = elim (cases_Bool (is_same (session_id x) (session_id new))) [
   | inl here ↦
@@ -110,7 +112,7 @@ pub place_here : (ss : List SessionFields) (i : ℕ) (s : SessionFields) (id : T
     session_index ss id ≡ i
 place_here [] i s id d e same = absurd cc
 place_here (x ∷ xs) zero s id d e same =
-    let here : is_same (session_id x) id ≡ true = ap (λ (n : TransactionId). is_same n id) (ap session_id (some_same x s e) ∙ same) ∙ same_self id in
+    let here : is_same (session_id x) id ≡ true = ap (λ (n : TransactionId). is_same n id) (ap session_id (some_same x s e) ∙ same) ∙ same_itself id in
     cond-true (is_same (session_id x) id) 0 (suc (session_index xs id)) here
 place_here (x ∷ xs) (suc i) s id d e same = elim (cases_Bool (is_same (session_id x) id)) [
   | inl here ↦

@@ -14,7 +14,7 @@ use Rattle.cfdp_states.specs.Laws.{SucceedByStatuses, Appended, OnlyLeased, View
 twice_max : (b p q : ℕ) → max b (max p q) ≡ max (max b p) q
 twice_max b p q = omega arith
 
-grouped : (a b c : ℕ) → a + (b + c) ≡ (a + b) + c
+pub grouped : (a b c : ℕ) → a + (b + c) ≡ (a + b) + c
 grouped a b c = omega arith
 
 pub appended : Appended

@@ -8,7 +8,7 @@
 --     get-rehomed, moved_map             that is what the map has
 --     moved_counted, free_counted        a move keeps them counted;  and the number, where nothing was there
 --     deep-tree                          the test of depth by the names that there are
-use Rattle.std.proofs.Common.{◌≡◌, refl, sym, ◌∙◌, ap, subst, Bool, true, false, cond, not, ◌||◌, T, Option, Some, None, is_some, ℕ, ◌+◌, ◌-◌, ◌*◌, ◌<◌, ◌≤◌, ◌^◌, ◌==◌, nat_lt, List, [], ◌∷◌, length, drop, length-append, length-drop, true≢false, ne_eqb, ltb-true, lt-ltb, arith}
+use Rattle.std.proofs.Common.{◌≡◌, refl, sym, ◌∙◌, ap, subst, Bool, true, false, cond, not, ◌||◌, Option, Some, None, is_some, ℕ, ◌+◌, ◌-◌, ◌*◌, ◌<◌, ◌≤◌, ◌^◌, ◌==◌, nat_lt, List, [], ◌∷◌, length, drop, length-append, length-drop, true≢false, ne_eqb, ltb-true, lt-ltb, arith}
 use Rattle.std.proofs.lemmas.Bool.{and_parts}
 use Rattle.std.specs.List.{list_all, list_any}
 use Rattle.std.specs.FinMap.{empty, empty_of_len, len-entries, get, find, put, insert, remove, entries, from_sorted, entries_sorted, entries-from_sorted, entries-insert, get-from_sorted, get-entries, same_entries_map}
@@ -19,19 +19,18 @@ use Rattle.cfdp_paths.proofs.Moving.{tree_all, tree_ordered}
 use Rattle.cfdp_states.specs.declared.extent.Extent.{Extent}
 use Rattle.cfdp_states.specs.Sketching.{Extents}
 use Rattle.cfdp_states.specs.code.Sketching.{extent_weight, weight_in, total_weight, total_blocks, AreSmall, IsCounted, rehomed}
-use Rattle.cfdp_actions.proofs.Order.{paths_total, paths_exact, same_path-true, same_path-refl}
-use Rattle.cfdp_actions.proofs.Weights.{rises, below_rest, sorted_rest, find_below, find_later, entries-remove, totals, weighed, totals-put, totals-without}
-use Rattle.cfdp_actions.proofs.Prefixes.{append_below, rebased-below, same_rebased}
+use Rattle.cfdp_actions.proofs.Order.{paths_total, same_path-true, same_path-refl}
+use Rattle.cfdp_actions.proofs.Weights.{below_rest, sorted_rest, find_below, find_later, entries-remove, totals, weighed, totals-put, totals-without}
+use Rattle.cfdp_actions.proofs.Prefixes.{rebased-below, same_rebased}
+use Rattle.cfdp_paths.proofs.InOrder.{true_from_T, T_from_true, path_antisym}
+use Rattle.cfdp_leases.proofs.Sets.{by_truth}
+use Rattle.cfdp_paths.proofs.Below.{append_from_at_or_below}
 
 abbrev Entries : Type 0
 Entries = List (Path × Extent)
 
-true_of : (b : Bool) → T b → b ≡ true
-true_of true h = refl
-true_of false h = absurd h
-
 pub ordered : (m : Extents) → IsOrdered (entries m)
-ordered m = true_of _ (entries_sorted m)
+ordered m = true_from_T _ (entries_sorted m)
 
 total-is : (es : Entries) → total_weight es ≡ totals extent_weight es
 total-is [] = refl
@@ -44,16 +43,16 @@ weight-is (Some e) = refl
 -- ---- one entry
 
 pub entries-map : (es : Entries) → IsOrdered es → entries (from_sorted {R = path_cmp} es) ≡ es
-entries-map es s = entries-from_sorted path_cmp es (rises _ s)
+entries-map es s = entries-from_sorted path_cmp es (T_from_true _ s)
 
 pub find-map : (es : Entries) → IsOrdered es → (p : Path) → get (from_sorted {R = path_cmp} es) p ≡ find path_cmp p es
-find-map es s p = get-from_sorted path_cmp es p (rises _ s)
+find-map es s p = get-from_sorted path_cmp es p (T_from_true _ s)
 
 pub put_ordered : (k : Path) (v : Extent) (es : Entries) → IsOrdered es → IsOrdered (put path_cmp k v es)
-put_ordered k v es s = true_of _ (is_sorted-put path_cmp paths_total k v es (rises _ s))
+put_ordered k v es s = true_from_T _ (is_sorted-put path_cmp paths_total k v es (T_from_true _ s))
 
 where_ordered : (test : Path → Bool) (es : Entries) → IsOrdered es → IsOrdered (where_key path_cmp test es)
-where_ordered test es s = true_of _ (is_sorted-where_key path_cmp test es (rises _ s))
+where_ordered test es s = true_from_T _ (is_sorted-where_key path_cmp test es (T_from_true _ s))
 
 pub put_map : (k : Path) (v : Extent) (es : Entries) → IsOrdered es → from_sorted {R = path_cmp} (put path_cmp k v es) ≡ insert (from_sorted es) k v
 put_map k v es s =
@@ -68,12 +67,12 @@ without_map k es s =
 total-put : (k : Path) (v : Extent) (es : Entries) → IsOrdered es → total_weight (put path_cmp k v es) + weight_in (find path_cmp k es) ≡ total_weight es
     + extent_weight v
 total-put k v es s =
-    let sum = totals-put extent_weight k v es (rises _ s) in
+    let sum = totals-put extent_weight k v es (T_from_true _ s) in
     omega (arith, sum, total-is (put path_cmp k v es), total-is es, weight-is (find path_cmp k es))
 
 total-without : (k : Path) (es : Entries) → IsOrdered es → total_weight (without k es) + weight_in (find path_cmp k es) ≡ total_weight es
 total-without k es s =
-    let sum = totals-without extent_weight k es (rises _ s) in
+    let sum = totals-without extent_weight k es (T_from_true _ s) in
     omega (arith, sum, total-is (without k es), total-is es, weight-is (find path_cmp k es))
 
 small-cond : (b : Bool) (a c : Option Extent) → weight_in a ≤ 2 ^ 58 → weight_in c ≤ 2 ^ 58 → weight_in (cond b a c) ≤ 2 ^ 58
@@ -96,7 +95,7 @@ without_counted k es fs used now h is sum =
     subst (λ fs. IsCounted fs now) (sym is) (record {
       ordered = where_ordered (λ q. not (same_path k q)) es h.ordered;
       small = λ p. subst (λ (a : Option Extent). weight_in a ≤ 2 ^ 58) (sym
-          (find-where_key path_cmp (λ q. not (same_path k q)) p (λ x e. ap (λ x. not (same_path k x)) (sym (paths_exact p x e))) es))
+          (find-where_key path_cmp (λ q. not (same_path k q)) p (λ x e. ap (λ x. not (same_path k x)) (sym (path_antisym p x e))) es))
           (small-cond (not (same_path k p)) (find path_cmp p es) None (h.small p) (omega arith));
       counted = omega (arith, sum, h.counted, total-without k es h.ordered);
     })
@@ -110,7 +109,7 @@ small-rest e es s small p =
     elim (same_path p e.0) as (λ b. same_path p e.0 ≡ b → weight_in (cond b (Some e.1) (find path_cmp p es)) ≤ 2 ^ 58 →
     weight_in (find path_cmp p es) ≤ 2 ^ 58) [
       | true ↦ λ t le. let none : weight_in (find path_cmp p es) ≡ 0 = ap (λ x. weight_in (find path_cmp x es)) (same_path-true p e.0 t)
-          ∙ ap weight_in (find_below e.0 es (below_rest e es (rises _ s))) in omega (arith, none)
+          ∙ ap weight_in (find_below e.0 es (below_rest e es (T_from_true _ s))) in omega (arith, none)
       | false ↦ λ t le. le
     ] refl (small p)
 
@@ -118,7 +117,7 @@ pub few_blocks : (es : Entries) → IsOrdered es → AreSmall es → total_weigh
 few_blocks [] s small = omega arith
 few_blocks (e ∷ es) s small =
     let first : extent_weight e.1 ≤ 2 ^ 58 = subst (λ b. weight_in (cond b (Some e.1) (find path_cmp e.0 es)) ≤ 2 ^ 58) (same_path-refl e.0) (small e.0) in
-    let rest = few_blocks es (true_of _ (sorted_rest e es (rises _ s))) (small-rest e es s small) in
+    let rest = few_blocks es (true_from_T _ (sorted_rest e es (T_from_true _ s))) (small-rest e es s small) in
     omega (arith, first, rest)
 
 pub no_entries : from_sorted {K = Path} {X = Extent} {R = path_cmp} [] ≡ empty
@@ -144,12 +143,12 @@ find-puts : (es ms : Entries) (x : Path) → IsOrdered ms → find path_cmp x (p
     ≡ cond (is_some (find path_cmp x ms)) (find path_cmp x ms) (find path_cmp x es)
 find-puts es [] x s = refl
 find-puts es (m ∷ ms) x s =
-    find-puts (put path_cmp m.0 m.1 es) ms x (true_of _ (sorted_rest m ms (rises _ s)))
+    find-puts (put path_cmp m.0 m.1 es) ms x (true_from_T _ (sorted_rest m ms (T_from_true _ s)))
     ∙ ap (λ v. cond (is_some (find path_cmp x ms)) (find path_cmp x ms) v) (find-put path_cmp paths_total x m.0 m.1 es)
     ∙ elim (same_path x m.0) as (λ b. same_path x m.0 ≡ b →
     cond (is_some (find path_cmp x ms)) (find path_cmp x ms) (cond b (Some m.1) (find path_cmp x es))
     ≡ cond (is_some (cond b (Some m.1) (find path_cmp x ms))) (cond b (Some m.1) (find path_cmp x ms)) (find path_cmp x es)) [
-      | true ↦ λ t. ap (λ v. cond (is_some v) v (Some m.1)) (find_later m ms (rises _ s) x t)
+      | true ↦ λ t. ap (λ v. cond (is_some v) v (Some m.1)) (find_later m ms (T_from_true _ s) x t)
       | false ↦ λ t. refl
     ] refl
 
@@ -175,11 +174,11 @@ puts_ordered es [] s = s
 puts_ordered es (m ∷ ms) s = puts_ordered (put path_cmp m.0 m.1 es) ms (put_ordered m.0 m.1 es s)
 
 find-tree : (p : Path) (es : Entries) (x : Path) → find path_cmp x (tree_in p es) ≡ cond (is_at_or_below x p) (find path_cmp x es) None
-find-tree p es x = find-where_key path_cmp (λ q. is_at_or_below q p) x (λ y e. ap (λ z. is_at_or_below z p) (sym (paths_exact x y e))) es
+find-tree p es x = find-where_key path_cmp (λ q. is_at_or_below q p) x (λ y e. ap (λ z. is_at_or_below z p) (sym (path_antisym x y e))) es
 
 find-rest : (p : Path) (es : Entries) (x : Path) → find path_cmp x (rest_in p es) ≡ cond (is_at_or_below x p) None (find path_cmp x es)
 find-rest p es x =
-    find-where_key path_cmp (λ q. not (is_at_or_below q p)) x (λ y e. ap (λ z. not (is_at_or_below z p)) (sym (paths_exact x y e))) es
+    find-where_key path_cmp (λ q. not (is_at_or_below q p)) x (λ y e. ap (λ z. not (is_at_or_below z p)) (sym (path_antisym x y e))) es
     ∙ elim (is_at_or_below x p) as (λ b. cond (not b) (find path_cmp x es) None ≡ cond b None (find path_cmp x es)) [ true ↦ refl | false ↦ refl ]
 
 -- the entries once each p/r is at q/r
@@ -254,14 +253,14 @@ total-puts es (m ∷ ms) s t apart =
     let next = put path_cmp m.0 m.1 es in
     let here : is_some (find path_cmp m.0 (m ∷ ms)) ≡ true = ap (λ b. is_some (cond b (Some m.1) (find path_cmp m.0 ms))) (same_path-refl m.0) in
     let first = total-put m.0 m.1 es s in
-    let rest = total-puts next ms (put_ordered m.0 m.1 es s) (true_of _ (sorted_rest m ms (rises _ t))) others in
+    let rest = total-puts next ms (put_ordered m.0 m.1 es s) (true_from_T _ (sorted_rest m ms (T_from_true _ t))) others in
     omega (arith, first, ap weight_in (apart m.0 here), rest)
   where
     others : (x : Path) → is_some (find path_cmp x ms) ≡ true → find path_cmp x (put path_cmp m.0 m.1 es) ≡ None
     others x there =
         find-put path_cmp paths_total x m.0 m.1 es
         ∙ elim (same_path x m.0) as (λ b. same_path x m.0 ≡ b → cond b (Some m.1) (find path_cmp x es) ≡ None) [
-          | true ↦ λ e. absurd (true≢false (sym there ∙ ap is_some (find_later m ms (rises _ t) x e)))
+          | true ↦ λ e. absurd (true≢false (sym there ∙ ap is_some (find_later m ms (T_from_true _ t) x e)))
           | false ↦ λ e. apart x (ap (λ b. is_some (cond b (Some m.1) (find path_cmp x ms))) e ∙ there)
         ] refl
 
@@ -293,19 +292,13 @@ none_of (e ∷ es) zero = absurd (true≢false (sym zero ∙ ne_eqb (length (e �
 
 -- ---- depth
 
--- two tests answer alike, where each gives the other
-agree : (a b : Bool) → (a ≡ true → b ≡ true) → (b ≡ true → a ≡ true) → a ≡ b
-agree true b f g = sym (f refl)
-agree false true f g = g refl
-agree false false f g = refl
-
 -- whether a path is too deep, where it is at or below p
 deep-is : (p q x : Path) → is_at_or_below x p ≡ true → nat_lt (8 + length p) (length x + length q) ≡ nat_lt 8 (length (rebased p q x))
 deep-is p q x below =
     let long : length (rebased p q x) ≡ length q + (length x - length p) = length-append q (drop (length p) x)
     ∙ ap (λ n. length q + n) (length-drop (length p) x) in
-    let whole : length x ≡ length p + length (drop (length p) x) = ap length (append_below x p below) ∙ length-append p (drop (length p) x) in
-    agree _ _
+    let whole : length x ≡ length p + length (drop (length p) x) = ap length (append_from_at_or_below x p below) ∙ length-append p (drop (length p) x) in
+    by_truth _ _
     (λ e. let lt : 8 + length p < length x + length q = ltb-true (8 + length p) (length x + length q) e in lt-ltb 8 (length (rebased p q x)) (omega arith))
     (λ e. let lt : 8 < length (rebased p q x) = ltb-true 8 (length (rebased p q x)) e in lt-ltb (8 + length p) (length x + length q) (omega arith))
 

@@ -3,9 +3,9 @@
 --     is_filler       the rest of a long path, put below a path
 use Rattle.std.proofs.Common.{◌≡◌, ap, true, ◌&&◌, ℕ, zero, suc, ◌<◌, ◌≤◌, [], ◌∷◌, length, take, arith, length-take}
 use Rattle.cfdp_paths.specs.Paths.{Path, is_at_or_below, rebased}
-use Rattle.cfdp_paths.proofs.Below.{is_below-Decides, length-rebased}
-use Rattle.cfdp_states.specs.code.Closed.{IsFiller}
-use Rattle.cfdp_actions.proofs.Prefixes.{same_name-refl, below_root, rebased-below}
+use Rattle.cfdp_paths.proofs.Below.{is_below-Decides, length-rebased, same_name-refl}
+use Rattle.cfdp_states.specs.code.Sparse.{IsFiller}
+use Rattle.cfdp_actions.proofs.Prefixes.{below_root, rebased-below}
 
 pub prefix_take : (x : Path) (k n : ℕ) → k ≤ n → is_at_or_below (take n x) (take k x) ≡ true
 prefix_take x zero n le = below_root (take n x)

@@ -12,10 +12,10 @@ use Rattle.cfdp_leases.specs.Laws.{FrameOfReads, IsOwn, OwnChanges}
 use Rattle.cfdp_states.specs.Alone.{statuses, growths, steps, peak, reached, alone}
 use Rattle.cfdp_states.specs.Views.{only}
 use Rattle.cfdp_states.specs.Laws.{OnlyLeased}
-use Rattle.cfdp_actions.proofs.Order.{paths_exact}
 use Rattle.cfdp_actions.proofs.Weights.{blocks-becomes, blocks-stages}
 use Rattle.cfdp_states.proofs.Alike.{IsSame, same-changed, same-after, RunsAlike}
 use Rattle.cfdp_states.proofs.AnySlot.{staged_more}
+use Rattle.cfdp_paths.proofs.InOrder.{path_antisym}
 
 exclusive-covered : (fp : Footprint) (p : Path) → IsTrue (is_exclusive fp p) → IsTrue (is_covered fp p)
 exclusive-covered fp p e = ap (λ b. b || is_shared fp p) e
@@ -84,7 +84,7 @@ pub only_leased : FrameOfReads → OwnChanges → OnlyLeased
 only_leased reads owns prefixes fp F x items within =
     let H = alone (only fp F) x in
     let K = alone F x in
-    let kept : Keeps H K fp = λ p covered. get-retain_keys F.nodes (λ p. is_covered fp p) p (λ y e. ap (λ p. is_covered fp p) (sym (paths_exact p y e)))
+    let kept : Keeps H K fp = λ p covered. get-retain_keys F.nodes (λ p. is_covered fp p) p (λ y e. ap (λ p. is_covered fp p) (sym (path_antisym p y e)))
     ∙ ap (λ b. cond b (node_at F p) None) covered in
     let one : 0 < length (x ∷ []) = omega arith in
     let same : IsSame fp 0 H K = record { alike = record { kept = kept; staged = refl }; held_F = one; held_G = one } in

@@ -12,9 +12,10 @@ use Rattle.std.specs.FinMap.Entries.{below_all, is_sorted, find}
 use Rattle.cfdp_paths.specs.Paths.{Path, path_cmp, same_path, is_at_or_below, is_below, parent, rebased}
 use Rattle.cfdp_actions.specs.Filestore.{Node, Directory, File, Filestore, node_at, staged_in, blocks_of, weight, weights, blocks, Change, Becomes, Stages, changed, after, inside, has_entries, is_directory, is_good, is_root, parent_is_good, tree_at}
 use Rattle.cfdp_actions.specs.Actions.{vacating, settled, is_tree_too_deep}
-use Rattle.cfdp_actions.proofs.Order.{paths_total, paths_exact, same_path-refl, node_at-becomes}
+use Rattle.cfdp_actions.proofs.Order.{paths_total, same_path-refl, node_at-becomes}
 use Rattle.cfdp_actions.proofs.Weights.{below_rest, sorted_rest, below_less, find_below, find_later}
 use Rattle.cfdp_actions.proofs.Growth.{blocks_of-le}
+use Rattle.cfdp_paths.proofs.InOrder.{path_antisym}
 
 pub data Longer : Option Node → Option Node → Type 0 where
   nothing : Longer None None
@@ -67,7 +68,7 @@ longer_entries (e ∷ es) (f ∷ fs) sorted_e sorted_f longer =
       | Greater ↦ λ p. absurd (true≢false (ap is_some (sym (find_here f fs)) ∙ sym (longer-is_some (longer f.0))
           ∙ ap is_some (missed f e es (paths_total.antisymm f.0 e.0 ∙ ap ordering_reverse p) sorted_e)))
       | Equal ↦ λ p.
-          let keys : e.0 ≡ f.0 = paths_exact e.0 f.0 p in
+          let keys : e.0 ≡ f.0 = path_antisym e.0 f.0 p in
           let there : find path_cmp e.0 (f ∷ fs) ≡ Some f.1 = ap (λ r. cond (is_eq r) (Some f.1) (find path_cmp e.0 fs)) p in (
             keys,
             subst (λ (b : Option Node). Longer (Some e.1) b) there (subst (λ (a : Option Node). Longer a (find path_cmp e.0 (f ∷ fs))) (find_here e es)
@@ -244,7 +245,7 @@ module _ (slot other m n : ℕ) (F G : Filestore) (h : IsLonger slot other m n F
       (longer-cond (test q) (node_at F q) (node_at G q) None None (h.nodes q) nothing)))
     where
       kept : (H : Filestore) (q : Path) → find path_cmp q (entries (retain_keys H.nodes test)) ≡ cond (test q) (node_at H q) None
-      kept H q = sym (get-entries (retain_keys H.nodes test) q) ∙ get-retain_keys H.nodes test q (λ x e. ap test (sym (paths_exact q x e)))
+      kept H q = sym (get-entries (retain_keys H.nodes test) q) ∙ get-retain_keys H.nodes test q (λ x e. ap test (sym (path_antisym q x e)))
 
   pub tree-longer : (p : Path) → LongerEntries (tree_at F p) (tree_at G p)
   tree-longer p = kept-longer (λ q. is_at_or_below q p)

@@ -18,11 +18,12 @@ use Rattle.cfdp_actions.specs.Actions.{Request, Performed, Outcome, vacating, se
 use Rattle.cfdp_states.specs.declared.extent.Extent.{Extent}
 use Rattle.cfdp_states.specs.Sketching.{extent_of, extent_in, extent_at, Extents}
 use Rattle.cfdp_states.specs.code.Sketching.{rehomed, is_folder, good_among, good_parent, IsOutline, Does}
-use Rattle.cfdp_actions.proofs.Order.{paths_total, paths_exact, node_at-becomes, same_path-true}
+use Rattle.cfdp_actions.proofs.Order.{paths_total, node_at-becomes, same_path-true}
 use Rattle.cfdp_actions.proofs.Weights.{entries-retain_keys}
 use Rattle.cfdp_actions.proofs.Prefixes.{rebased-below}
 use Rattle.cfdp_actions.proofs.Moves.{after-append, tree_at-all, tree_at-sorted, find-tree_at, node_at-vacated, node_at-settled, node_at-settled_apart, moved}
 use Rattle.cfdp_states.proofs.Counted.{get-rehomed}
+use Rattle.cfdp_paths.proofs.InOrder.{path_antisym}
 
 -- ---- the extent of a node
 
@@ -85,7 +86,7 @@ any-outlines test (e ∷ es) =
 
 pub entries-outlined : (m : Extents) (F : Filestore) → IsOutline m F → entries m ≡ outlines (entries F.nodes)
 entries-outlined m F h =
-    same_entries path_cmp paths_total paths_exact _ _ (entries_sorted m) (subst T (sym (sorted-outlines (entries F.nodes))) (entries_sorted F.nodes))
+    same_entries path_cmp paths_total path_antisym _ _ (entries_sorted m) (subst T (sym (sorted-outlines (entries F.nodes))) (entries_sorted F.nodes))
     (λ x. sym (get-entries m x) ∙ h.found x ∙ ap extent_in (get-entries F.nodes x) ∙ sym (find-outlines x (entries F.nodes)))
 
 module _ (m : Extents) (F : Filestore) (h : IsOutline m F) where
@@ -103,7 +104,7 @@ module _ (m : Extents) (F : Filestore) (h : IsOutline m F) where
   entries-is p =
       ap (any_below p) (entries-outlined m F h)
       ∙ any-outlines (λ q. is_below q p) (entries F.nodes)
-      ∙ ap (λ es. not (length es == 0)) (sym (entries-retain_keys paths_total paths_exact F.nodes (λ q. is_below q p)))
+      ∙ ap (λ es. not (length es == 0)) (sym (entries-retain_keys paths_total path_antisym F.nodes (λ q. is_below q p)))
       ∙ ap (λ n. not (n == 0)) (sym (len-entries (inside F p)))
 
   pub depth-is : (p q : Path) → is_deep p q (tree_in p (entries m)) ≡ is_tree_too_deep p q (tree_at F p)
@@ -111,7 +112,7 @@ module _ (m : Extents) (F : Filestore) (h : IsOutline m F) where
       ap (λ es. is_deep p q (tree_in p es)) (entries-outlined m F h)
       ∙ ap (is_deep p q) (where-outlines (λ x. is_at_or_below x p) (entries F.nodes))
       ∙ deep-outlines p q (where_key path_cmp (λ x. is_at_or_below x p) (entries F.nodes))
-      ∙ ap (is_tree_too_deep p q) (sym (entries-retain_keys paths_total paths_exact F.nodes (λ x. is_at_or_below x p)))
+      ∙ ap (is_tree_too_deep p q) (sym (entries-retain_keys paths_total path_antisym F.nodes (λ x. is_at_or_below x p)))
 
 -- ---- no change, and one path that changes
 

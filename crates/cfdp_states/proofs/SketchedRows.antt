@@ -63,7 +63,8 @@ module _ (m : Extents) (request : Request) (allowed : (F : Filestore) → IsOutl
   removes m' p now F h o answer false some changes =
       follows-one m m' F o (Successful (action_in request)) p None h answer changes (λ x. ap (λ m'. get m' x) now ∙ get-remove paths_total m p x)
 
-  goes : (m' : Extents) (p : Path) → (request ≡ DeleteFile p) ⊎ (request ≡ RemoveDirectory p) → m' ≡ remove m p → Does m m' request (Successful (action_in request))
+  goes : (m' : Extents) (p : Path) → (request ≡ DeleteFile p) ⊎ (request ≡ RemoveDirectory p) → m' ≡ remove m p → Does m m' request
+      (Successful (action_in request))
   goes m' p e now = does-at m m' request (Successful (action_in request)) (λ F h.
       let went = removed F request p (allowed F h) e in
       removes m' p now F h (table F request) (answer F h) false (present (node_at F p) went.present) went.row.changes)

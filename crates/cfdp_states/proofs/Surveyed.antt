@@ -12,15 +12,16 @@ use Rattle.cfdp_states.specs.Alone.{alone}
 use Rattle.cfdp_states.specs.Sketching.{extent_in, Extents}
 use Rattle.cfdp_states.specs.code.Sketching.{total_blocks, IsOutline, AddsWhere, IsSurvey}
 use Rattle.cfdp_states.specs.Views.{most_count, most_need, only, IsViewOf}
-use Rattle.cfdp_actions.proofs.Order.{paths_total, paths_exact}
+use Rattle.cfdp_actions.proofs.Order.{paths_total}
 use Rattle.cfdp_actions.proofs.Weights.{entries-retain_keys}
 use Rattle.cfdp_states.proofs.Counting.{enough, blocks-counted}
 use Rattle.cfdp_states.proofs.Viewing.{sketch, nothing_staged}
 use Rattle.cfdp_states.proofs.Trees.{weights-kept}
 use Rattle.cfdp_states.proofs.Surveys.{below_one, one_of, adds_as, surveyed}
+use Rattle.cfdp_paths.proofs.InOrder.{path_antisym}
 
 -- the paths of a footprint, as it lends them
-pub covered-lent : (xs ys : List Path) (fp : Footprint) (p : Path) → set.from_list xs ≡ fp.exclusive → set.from_list ys ≡ fp.shared → is_covered fp p
+covered-lent : (xs ys : List Path) (fp : Footprint) (p : Path) → set.from_list xs ≡ fp.exclusive → set.from_list ys ≡ fp.shared → is_covered fp p
     ≡ (below_one xs p || list_any (same_path p) ys)
 covered-lent xs ys fp p exclusive shared =
     (λ i. any_in (sym exclusive i) (λ e. is_at_or_below p e) || set.contains (sym shared i) p)
@@ -37,7 +38,7 @@ pub only-small : (fp : Footprint) (F : Filestore) → blocks F ≤ 65536 → blo
 unfolding blocks
 only-small fp F le =
     let kept : weights (entries (retain_keys F.nodes (λ p. is_covered fp p))) ≡ weights (where_key path_cmp (λ p. is_covered fp p) (entries F.nodes)) =
-    ap weights (entries-retain_keys paths_total paths_exact F.nodes (λ p. is_covered fp p)) in
+    ap weights (entries-retain_keys paths_total path_antisym F.nodes (λ p. is_covered fp p)) in
     let fewer : weights (where_key path_cmp (λ p. is_covered fp p) (entries F.nodes)) ≤ weights (entries F.nodes) =
     weights-kept (λ p. is_covered fp p) (entries F.nodes) in
     let none = nothing_staged in
@@ -47,7 +48,7 @@ pub survey-outlines : (m : Extents) (fp : Footprint) (F : Filestore) → IsSurve
 survey-outlines m fp F survey = record {
   found = λ x.
       survey x ∙ through (is_covered fp x) (node_at F x)
-      ∙ ap extent_in (sym (get-retain_keys F.nodes (λ p. is_covered fp p) x (λ y e. ap (λ p. is_covered fp p) (sym (paths_exact x y e)))));
+      ∙ ap extent_in (sym (get-retain_keys F.nodes (λ p. is_covered fp p) x (λ y e. ap (λ p. is_covered fp p) (sym (path_antisym x y e)))));
 }
   where
     through : (b : Bool) (a : Option Node) → cond b (extent_in a) None ≡ extent_in (cond b a None)
@@ -57,7 +58,7 @@ survey-outlines m fp F survey = record {
 start-is : (total now : ℕ) → min total enough ≡ min now enough → now ≤ 65536 → total ≡ now
 start-is total now one two = omega arith
 
-none_yet : (n most : ℕ) → 0 ≡ min (n - n) most
+pub none_yet : (n most : ℕ) → 0 ≡ min (n - n) most
 none_yet n most = omega arith
 
 pub view_of : (fp : Footprint) (F : Filestore) (prefixes : List Path) (m : Extents) (base : ℕ) → IsSurvey m (is_covered fp) F → blocks F ≤ 65536 → base

@@ -11,9 +11,10 @@ use Rattle.cfdp_actions.specs.Store.{standing_of, standings_of}
 use Rattle.cfdp_states.specs.declared.extent.Extent.TheVariants as extent
 use Rattle.cfdp_states.specs.Sketching.{most_octets, extent_of, extent_in, Extents}
 use Rattle.cfdp_states.specs.code.Sketching.{extent_standing, added, AddsWhere}
-use Rattle.cfdp_actions.proofs.Order.{paths_total, paths_exact}
+use Rattle.cfdp_actions.proofs.Order.{paths_total}
 use Rattle.cfdp_actions.proofs.Weights.{entries-retain_keys, sorted_rest, find_later}
 use Rattle.cfdp_actions.proofs.Moves.{tree_at-sorted, find-tree_at}
+use Rattle.cfdp_paths.proofs.InOrder.{path_antisym}
 
 pub short : (n : ℕ) → 1 + blocks_of n ≤ 65536 → n ≡ min n most_octets
 unfolding blocks_of
@@ -60,7 +61,7 @@ tree-small : (F : Filestore) (root : Path) → blocks F ≤ 65536 → weights (t
 tree-small F root le =
     let test = λ (q : Path). is_at_or_below q root in
     let kept : weights (tree_at F root) ≡ weights (where_key path_cmp test (entries F.nodes)) =
-    ap weights (entries-retain_keys paths_total paths_exact F.nodes test) in
+    ap weights (entries-retain_keys paths_total path_antisym F.nodes test) in
     let fewer = weights-kept test (entries F.nodes) in
     let all = weights-small F le in
     omega (arith, kept, fewer, all)

@@ -1,6 +1,6 @@
 pub mod Alone
-pub mod Closed
 pub mod Laws
 pub mod Sketching
+pub mod Sparse
 pub mod Views
 pub mod code

@@ -1,4 +1,4 @@
 -- What only the proofs of the code need: no clause of a public function cites it.
-pub mod Closed
 pub mod Sketching
+pub mod Sparse
 pub mod Views

@@ -6,15 +6,16 @@
 #![tactic(auto)]
 
 mod changes;
-mod closed;
-mod closed_survey;
 mod extent;
 mod extent_kinds;
 mod extents;
 pub mod laws;
+mod origins;
 mod performing;
+mod sparse;
+mod sparse_survey;
 mod surveying;
 mod view;
 
-pub use closed::ClosedView;
+pub use sparse::SparseView;
 pub use view::View;

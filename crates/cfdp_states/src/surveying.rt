@@ -59,7 +59,7 @@ fn is_inside(roots: &[Path], earlier: usize, place: usize) -> bool
 }
 
 /// Adds what is at the path and below it.
-pub fn add_tree<S: Filestore>(
+fn add_tree<S: Filestore>(
     alloc: Global,
     extents: &mut Extents,
     store: &S,
@@ -87,22 +87,27 @@ fn add_all(extents: &mut Extents, found: Vec<Standing>) -> Result<(), Memory>
 }
 
 /// Adds what is at the paths.
-pub fn add_paths<S: Filestore>(
-    extents: &mut Extents,
-    store: &S,
-    paths: &[Path],
-) -> Result<(), Memory>
+fn add_paths<S: Filestore>(extents: &mut Extents, store: &S, paths: &[Path]) -> Result<(), Memory>
     requires { blocks (S.state store.now).filestore ≤ 65536 }
     ensures { OnOk result (AddsWhere (λ path. list_any (same_path path) paths.now)
         (S.state store.now).filestore extents.old extents.new) }
 {
     for path in paths {
-        let Some(extent) = extent_at(store, path) else {
-            continue;
-        };
-        extents.put(path, extent)?;
+        add_extent(extents, store, path)?;
     }
     Ok(())
+}
+
+/// Adds what is at the path.
+pub fn add_extent<S: Filestore>(extents: &mut Extents, store: &S, path: &Path) -> Result<(), Memory>
+    requires { blocks (S.state store.now).filestore ≤ 65536 }
+    ensures { OnOk result (AddsWhere (λ other. same_path other path.now)
+        (S.state store.now).filestore extents.old extents.new) }
+{
+    match extent_at(store, path) {
+        None => Ok(()),
+        Some(extent) => extents.put(path, extent),
+    }
 }
 
 /// What is at the path, if anything is.

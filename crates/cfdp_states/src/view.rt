@@ -1,6 +1,6 @@
 //! The view: a list of filestore requests is run on it to be judged.
 
-ghost use Rattle.std.specs.Prelude.{◌≡◌, ◌+◌, ◌-◌, ◌≤◌, min, max, not, nat_lt, ◌^◌, false, Some, None, [], IfOk, OnOk, OnErr, IsFalse, Ok};
+ghost use Rattle.std.specs.Prelude.{◌≡◌, ◌+◌, ◌-◌, ◌≤◌, min, max, not, nat_lt, ◌^◌, false, is_some, Some, None, [], IfOk, OnOk, OnErr, IsFalse, Ok};
 ghost use Rattle.std.specs.FinMap as finite;
 ghost use Rattle.cfdp_actions.specs.Filestore.{blocks};
 ghost use Rattle.cfdp_actions.specs.Actions.{Perform, Performed};
@@ -98,6 +98,13 @@ impl<'a> View<'a> {
             need: 0,
             steps: 0,
         }
+    }
+
+    /// Whether it has anything at the path. Takes no memory. Cost: one search.
+    pub(crate) fn has(&self, path: &Path) -> bool
+        ensures { result ≡ is_some (finite.get self.now.extents path.now) }
+    {
+        self.extents.get(path).is_some()
     }
 
     /// Whether it has anything strictly below the path. Takes no memory. Cost: two searches.

@@ -48,7 +48,7 @@ abbrev pub AllRows : {A : Type 0} → (ℕ → A → Type 0) → List (ℕ × A)
 AllRows P [] = Unit {0}
 AllRows P (row ∷ rows) = P row.0 row.1 × AllRows P rows
 
-chosen : {A : Type 0} (b : Bool) (x y z : A) → cond b x y ≡ z → ((b ≡ true) × (x ≡ z)) ⊎ ((b ≡ false) × (y ≡ z))
+pub chosen : {A : Type 0} (b : Bool) (x y z : A) → cond b x y ≡ z → ((b ≡ true) × (x ≡ z)) ⊎ ((b ≡ false) × (y ≡ z))
 chosen true x y z e = inl (refl, e)
 chosen false x y z e = inr (refl, e)
 

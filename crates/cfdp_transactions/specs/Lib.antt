@@ -20,7 +20,7 @@ pub mod Pieces
 pub mod PieceLaws
 pub mod Needs
 pub mod Books
-pub mod Issuing
+pub mod FinishedInBuffer
 pub mod Engine
 pub mod Beside
 pub mod Fitting

@@ -9,5 +9,5 @@ pub mod Books
 pub mod Adding
 pub mod Items
 pub mod Taking
-pub mod Issuing
+pub mod FinishedInBuffer
 pub mod Engine

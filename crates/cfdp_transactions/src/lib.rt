@@ -15,7 +15,7 @@ mod entry;
 mod equality;
 mod event;
 mod file_data;
-mod issuing;
+mod finished_in_buffer;
 mod item;
 pub mod laws;
 mod outcome;
@@ -31,7 +31,7 @@ mod the_core;
 
 pub use config::{Config, ConfigFault};
 pub use event::{Event, NotOurs, event_of, read_event, transaction_of};
-pub use issuing::{ShortBuffer, TakenFinished};
+pub use finished_in_buffer::{ShortBuffer, TakenFinished};
 pub use outcome::{Outcome, SharedOutcome};
 pub use phase::Phase;
 pub use putting::NotPut;

@@ -8,7 +8,7 @@ ghost use Rattle.cfdp_transactions.specs.Sound.{Sound};
 ghost use Rattle.cfdp_transactions.specs.World.{leases_of, next_outcome, next_runnable, spare_blocks, start};
 ghost use Rattle.cfdp_transactions.specs.Events.{Cancel, Check, DataCame, EofCame, MetadataCame, Step, Take};
 ghost use Rattle.cfdp_pdus.specs.Placing.{filled};
-ghost use Rattle.cfdp_transactions.specs.Issuing.{sent, taken_by};
+ghost use Rattle.cfdp_transactions.specs.FinishedInBuffer.{sent, taken_by};
 ghost use Rattle.cfdp_transactions.specs.Next.{next};
 ghost use Rattle.cfdp_transactions.specs.Writable.{IsWritable};
 ghost use Rattle.cfdp_transactions.specs.Needs.{Follows, may_want_memory};

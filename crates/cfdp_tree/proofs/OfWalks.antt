@@ -4,3 +4,5 @@ pub mod SurveyLaws
 pub mod DeepestLaws
 pub mod ListingLaws
 pub mod InOrderLaws
+pub mod OtherLaws
+pub mod BesideLaws

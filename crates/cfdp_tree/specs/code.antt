@@ -15,8 +15,10 @@
 --     Changes      what is made
 --     Walk         walks over what is below a place, in path order
 --     Survey       the nodes of what is there
+--     Beside       the entries of a directory but for some of them
 --     Text         the octets of a path
 --     Orders       the entries of a directory and of the root, in order of their names
+pub mod Beside
 pub mod Block
 pub mod Changes
 pub mod Contents

@@ -5,6 +5,7 @@ ghost use Rattle.cfdp_actions.specs.Filestore.{Becomes, node_at, parent_is_good}
 ghost use Rattle.cfdp_actions.specs.Store.{empty_store, free_blocks, with_changes};
 ghost use Rattle.cfdp_tree.specs.code.Changes.{empty_node};
 
+use crate::beside::{Others, any_beside, deepest_beside};
 use crate::contents::{Contents, contents_of, held_by};
 use crate::files::{find_file, set_contents};
 use crate::index;
@@ -48,8 +49,11 @@ use std::marker::Model;
 /// unless the first one's size is a multiple of 4. `read`, `read_staged` and `stage_put` find the offset in at most 3
 /// steps for each binary digit of the number of blocks, so 48 in a file of 65,536 blocks, in whatever order its octets
 /// came and are read. `deepest` and `standing` go through what is at and below the path, and `listing` through
-/// everything but the octets, in time linear in it; they sort nothing. `next_entry` compares at most 45 names in each
-/// directory on the way, and looks its names up in the orders, not in the index.
+/// everything but the octets, in time linear in it; they sort nothing. `has_beside` looks at the entries of the
+/// directory that are among the others and at one more, and `deepest_beside` goes through all that is below the path.
+/// Where the others are in path order, they compare each of them at most 2 and 9 times; else `has_beside` may compare
+/// each entry that it looks at with each of them. `next_entry` compares at most 45 names in each directory on the way,
+/// and looks its names up in the orders, not in the index.
 #[derive(Drop)]
 pub struct TreeStore {
     pub(crate) arena: Arena,
@@ -153,6 +157,20 @@ impl Filestore for TreeStore {
         }
     }
 
+    fn has_beside(&self, path: &Path, others: &[Path]) -> bool {
+        match find_path(&self.arena, &self.heads, &self.orders, path) {
+            Some(node) => {
+                let entries = self.orders.of(&Some(node));
+                let left_out = Others {
+                    directory: path,
+                    paths: others,
+                };
+                any_beside(&self.arena, &self.orders, entries, &left_out, &mut 0)
+            }
+            None => false,
+        }
+    }
+
     fn size(&self, path: &Path) -> u64 {
         let node = find_path(&self.arena, &self.heads, &self.orders, path).unwrap();
         u64::from(size_of(self.arena.bytes(node)))
@@ -175,6 +193,20 @@ impl Filestore for TreeStore {
         let entries = self.orders.of(&Some(node));
         let below = deepest_in(&self.arena, &self.orders, entries, depth + 1);
         depth.max(below) as u8
+    }
+
+    fn deepest_beside(&self, path: &Path, others: &[Path]) -> u8 {
+        match find_path(&self.arena, &self.heads, &self.orders, path) {
+            Some(node) => {
+                let entries = self.orders.of(&Some(node));
+                let left_out = Others {
+                    directory: path,
+                    paths: others,
+                };
+                deepest_beside(&self.arena, &self.orders, entries, &left_out, &mut 0, 0) as u8
+            }
+            None => 0,
+        }
     }
 
     fn staged_size(&self, slot: u8) -> u64 {

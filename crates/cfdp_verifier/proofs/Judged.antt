@@ -8,7 +8,7 @@
 --     all_done, one_failed           the verdict after the requests
 use Rattle.std.proofs.Common.{◌≡◌, refl, sym, ◌∙◌, ap, subst, IsTrue, Bool, true, false, cond, ℕ, ◌+◌, ◌-◌, ◌≤◌, min, max, List, [], ◌∷◌, length, map, Option, Some, None, Result, Ok, Err, replicate, arith}
 use Rattle.std.proofs.lemmas.List.{length-replicate}
-use Rattle.std.specs.Prelude.{IfNone, IfSome}
+use Rattle.std.specs.Prelude.{IfNone}
 use Rattle.cfdp_paths.specs.Paths.{Path}
 use Rattle.cfdp_actions.specs.Filestore.{Filestore, blocks}
 use Rattle.cfdp_actions.specs.Actions.{Item, Install, Perform, Request, Installed, succeeded, row}
@@ -16,13 +16,13 @@ use Rattle.cfdp_leases.specs.Items.{performed, step_bound, items_of}
 use Rattle.cfdp_leases.specs.Footprint.{Footprint, footprint_of}
 use Rattle.cfdp_states.specs.Alone.{statuses, steps, peak, alone, statuses_alone, need_alone, steps_alone}
 use Rattle.cfdp_states.specs.Views.{most_need, Sketch, IsViewOf, TellsInstall, only, installed_if}
-use Rattle.cfdp_states.specs.Closed.{IsPartViewOf, TellsPartInstall}
+use Rattle.cfdp_states.specs.Sparse.{IsSparseViewOf, TellsSparseInstall}
 use Rattle.cfdp_verifier.specs.declared.refusal.NotGranted.{NotGranted}
 use Rattle.cfdp_verifier.specs.declared.refusal.NotGranted.TheVariants as no
 use Rattle.cfdp_verifier.specs.Verdict.{DestinationNotAllowed, Refuse, first_failure, destination_allowed, judged_items, judged_apart, capped}
 use Rattle.cfdp_verifier.specs.code.Judging.{EndsSo, JudgesAlone}
 use Rattle.cfdp_verifier.proofs.Covered.{covered}
-use Rattle.cfdp_verifier.proofs.Running.{low, some_of}
+use Rattle.cfdp_verifier.proofs.Running.{low}
 
 abbrev pub InstallGoes : (Filestore → ℕ → ℕ → ℕ → Type 0) → (Filestore → ℕ → ℕ → ℕ → Type 0) → List Path → Path → ℕ → Bool → Type 0
 InstallGoes Seen Next prefixes p size done =
@@ -41,12 +41,12 @@ pub installed_at : (prefixes : List Path) (v w : Sketch) (p : Path) (size : ℕ)
     InstallGoes (IsViewOf v) (IsViewOf w) prefixes p size done
 installed_at prefixes v w p size done same tells = subst (λ (ps : List Path). InstallGoes (IsViewOf v) (IsViewOf w) ps p size done) same tells
 
-pub installed_at_closed : (known : Bool) (prefixes : List Path) (v w : Sketch) (cs : List Path) (p : Path) (size : ℕ) (done : Bool) → v.prefixes ≡ prefixes →
-    TellsPartInstall known v w cs p size done →
-    InstallGoes (IsPartViewOf known v cs) (IsPartViewOf known w cs) prefixes p size done
-installed_at_closed known prefixes v w cs p size done same tells = subst (λ (ps : List Path). InstallGoes (IsPartViewOf known v cs)
-    (IsPartViewOf known w cs) ps p size done)
-    same tells
+pub installed_at_sparse : (prefixes : List Path) (v w : Sketch) (items : List Item) (p : Path) (size : ℕ) (done : Bool) → v.prefixes ≡ prefixes →
+    TellsSparseInstall v w p size done →
+    InstallGoes (IsSparseViewOf v (Install p ∷ items)) (IsSparseViewOf w items) prefixes p size done
+installed_at_sparse prefixes v w items p size done same tells = subst (λ (ps : List Path). InstallGoes (IsSparseViewOf v (Install p ∷ items))
+    (IsSparseViewOf w items) ps p size done)
+    same (tells items)
 
 pub runs_at : {X : Type 0} (Seen : Filestore → ℕ → ℕ → ℕ → Type 0) (prefixes : List Path) (v w : Sketch) (items : List Item) (result : Result X NotGranted) →
     v.prefixes ≡ prefixes → Runs Seen v.prefixes w items result → Runs Seen prefixes w items result
@@ -176,25 +176,31 @@ module _ (prefixes : List Path) (F : Filestore) (bound : ℕ) (d : Option Path) 
       (sym e) (λ is none. subst (λ n. AtRequests prefixes F (replicate n 0) (map Perform requests) requests Seen) (sym none)
       (without_file prefixes F requests fp Seen is seen)) is none
 
--- and of a view with closed directories, which may not be able to say
-module _ (known : Bool) (prefixes : List Path) (F : Filestore) (bound : ℕ) (d : Option Path) (requests : List Request) (fp : Footprint) (v w : Sketch)
-    (cs : List Path) (same : v.prefixes ≡ prefixes)
-    (seen : IsPartViewOf known v cs (alone (only fp F) []) (blocks (alone (only fp F) [])) (blocks (alone (only fp F) [])) 0) (p : Path) (done : Bool)
-    (told : Option Bool) (is_told : told ≡ Some done) (tells : IfSome told (λ done. (known : Bool) → TellsPartInstall known v w cs p bound done)) where
-  install_told : InstallGoes (IsPartViewOf known v cs) (IsPartViewOf known w cs) prefixes p bound done
-  install_told = installed_at_closed known prefixes v w cs p bound done same (some_of
-      (λ done. (known : Bool) → TellsPartInstall known v w cs p bound done) told done is_told tells known)
+-- and of a view of what the list sees
+module _ (prefixes : List Path) (F : Filestore) (bound : ℕ) (d : Option Path) (requests : List Request) (fp : Footprint) (v : Sketch)
+    (same : v.prefixes ≡ prefixes)
+    (seen : IsSparseViewOf v (items_of d requests) (alone (only fp F) []) (blocks (alone (only fp F) [])) (blocks (alone (only fp F) [])) 0) where
+  seen_by : (p : Path) → d ≡ Some p →
+      IsSparseViewOf v (Install p ∷ map Perform requests) (alone (only fp F) []) (blocks (alone (only fp F) [])) (blocks (alone (only fp F) [])) 0
+  seen_by p e = subst (λ (d : Option Path). IsSparseViewOf v (items_of d requests) (alone (only fp F) []) (blocks (alone (only fp F) []))
+      (blocks (alone (only fp F) [])) 0) e seen
 
-  pub refused_at_closed : d ≡ Some p → fp ≡ footprint_of (items_of d requests) → done ≡ false →
-      (spare : ℕ) → judged_apart prefixes F spare (replicate bound 0) (items_of d requests) None ≡ Refuse DestinationNotAllowed
-  refused_at_closed e is failed spare = refused_at prefixes F bound d requests fp (IsPartViewOf known v cs) seen
-      (IsPartViewOf known w cs) p done install_told e is failed spare
+  pub refused_at_sparse : (w : Sketch) (p : Path) (done : Bool) → TellsSparseInstall v w p bound done → d ≡ Some p → fp ≡ footprint_of (items_of d requests) →
+      done ≡ false → (spare : ℕ) → judged_apart prefixes F spare (replicate bound 0) (items_of d requests) None ≡ Refuse DestinationNotAllowed
+  refused_at_sparse w p done tells e is failed spare = refused_at prefixes F bound d requests fp (IsSparseViewOf v (Install p ∷ map Perform requests))
+      (seen_by p e) (IsSparseViewOf w (map Perform requests)) p done
+      (installed_at_sparse prefixes v w (map Perform requests) p bound done same tells) e is failed spare
 
-  pub file_at_closed : (ds : List Path) → ds ≡ cs → d ≡ Some p → fp ≡ footprint_of (items_of d requests) → done ≡ true →
-      AtRequests prefixes F (replicate bound 0) (items_of d requests) requests (IsPartViewOf known w ds)
-  file_at_closed ds stay e is ok =
-      subst (λ (cs : List Path). AtRequests prefixes F (replicate bound 0) (items_of d requests) requests (IsPartViewOf known w cs)) (sym stay)
-      (file_at prefixes F bound d requests fp (IsPartViewOf known v cs) seen (IsPartViewOf known w cs) p done install_told e is ok)
+  pub file_at_sparse : (w : Sketch) (p : Path) (done : Bool) → TellsSparseInstall v w p bound done → d ≡ Some p → fp ≡ footprint_of (items_of d requests) →
+      done ≡ true → AtRequests prefixes F (replicate bound 0) (items_of d requests) requests (IsSparseViewOf w (map Perform requests))
+  file_at_sparse w p done tells e is ok = file_at prefixes F bound d requests fp (IsSparseViewOf v (Install p ∷ map Perform requests)) (seen_by p e)
+      (IsSparseViewOf w (map Perform requests)) p done (installed_at_sparse prefixes v w (map Perform requests) p bound done same tells) e is ok
+
+  pub no_file_at_sparse : d ≡ None → fp ≡ footprint_of (items_of d requests) → IfNone d (bound ≡ 0) →
+      AtRequests prefixes F (replicate bound 0) (items_of d requests) requests (IsSparseViewOf v (map Perform requests))
+  no_file_at_sparse e is none = no_file_at prefixes F bound d requests fp (IsSparseViewOf v (map Perform requests))
+      (subst (λ (d : Option Path). IsSparseViewOf v (items_of d requests) (alone (only fp F) []) (blocks (alone (only fp F) []))
+      (blocks (alone (only fp F) [])) 0) e seen) e is none
 
 module _ (prefixes : List Path) (F : Filestore) (x : List ℕ) (items : List Item) (requests : List Request) (Seen : Filestore → ℕ → ℕ → ℕ → Type 0) (w : Sketch)
     (at : AtRequests prefixes F x items requests Seen) where

@@ -4,7 +4,7 @@
 --     GoesOn          so far each request was successful, and the rest of the list goes from here as the list from its start
 --     Counts          the view has the need and the steps that it describes
 --     begins, goes, fails, ends      the first index, the next index, a request that is not successful, the last index
-use Rattle.std.proofs.Common.{◌≡◌, refl, sym, ◌∙◌, ap, subst, Bool, true, false, cond, Result, Err, None, IfOk, ℕ, suc, ◌+◌, ◌-◌, ◌≤◌, min, max, List, [], ◌∷◌, Some, Ok, zero, map, drop, length, get_or, Option, IfSome, ◌<◌, arith, add-zero, add-one}
+use Rattle.std.proofs.Common.{◌≡◌, refl, sym, ◌∙◌, ap, subst, true, false, cond, ℕ, suc, ◌+◌, ◌-◌, ◌≤◌, min, max, List, [], ◌∷◌, Some, Ok, zero, map, drop, length, get_or, Option, IfSome, ◌<◌, arith, add-zero, add-one}
 use Rattle.std.proofs.Math.Seq.{drop-cons}
 use Rattle.cfdp_status.specs.declared.status.Status.{Status}
 use Rattle.cfdp_status.specs.Codes.{is_successful}
@@ -14,9 +14,10 @@ use Rattle.cfdp_actions.specs.Actions.{Item, Perform, Request, Performed, Answer
 use Rattle.cfdp_leases.specs.Items.{performed, step_bound}
 use Rattle.cfdp_states.specs.Alone.{statuses, steps, peak}
 use Rattle.cfdp_states.specs.Views.{most_need, Sketch, IsViewOf, Tells}
-use Rattle.cfdp_states.specs.Closed.{IsPartViewOf, TellsPart}
+use Rattle.cfdp_states.specs.Sparse.{IsSparseViewOf, TellsSparse}
 use Rattle.cfdp_verifier.specs.Verdict.{capped, first_failure}
 use Rattle.cfdp_verifier.specs.code.Judging.{EndsSo}
+use Rattle.cfdp_states.proofs.Appending.{grouped}
 
 abbrev pub Goes : (Filestore → ℕ → ℕ → ℕ → Type 0) → (Filestore → ℕ → ℕ → ℕ → Type 0) → List Path → Item → Answer → Type 0
 Goes Seen Next prefixes item answer =
@@ -49,37 +50,20 @@ low prefixes F (item ∷ items) = omega arith
 raised : (m b c p : ℕ) → b ≤ m → c ≤ p → max m (max b p) ≡ max (max m c) p
 raised m b c p before after = omega arith
 
-added : (t n s : ℕ) → t + (n + s) ≡ (t + n) + s
-added t n s = omega arith
-
 -- what is said of what an answer may be
 pub some_of : {A : Type 0} (P : A → Type 0) (o : Option A) (a : A) → o ≡ Some a → IfSome o P → P a
 some_of P o a is h = subst (λ o. IfSome o P) is h
-
--- what is said of it where enough is known
-pub said_of : {A E : Type 0} (Q : Bool → Type 0) (T : Bool → A → Type 0) (known : Bool) (r : Result (Option A) E) →
-    IfOk r (λ o. IfSome o (λ a. (k : Bool) → Q k → T k a)) → Q known → IfOk r (λ o. IfSome o (T known))
-said_of Q T known (Ok None) h q = tt
-said_of Q T known (Ok (Some a)) h q = h known q
-said_of Q T known (Err e) h q = tt
 
 -- what a view says of an item, at the list's prefixes
 pub told_at : (prefixes : List Path) (v w : Sketch) (item : Item) (answer : Answer) → v.prefixes ≡ prefixes → Tells v w item answer →
     Goes (IsViewOf v) (IsViewOf w) prefixes item answer
 told_at prefixes v w item answer same tells = subst (λ (ps : List Path). Goes (IsViewOf v) (IsViewOf w) ps item answer) same tells
 
-pub told_at_closed : (known : Bool) (prefixes : List Path) (v w : Sketch) (cs ds : List Path) (item : Item) (answer : Answer) → v.prefixes ≡ prefixes →
-    TellsPart known v cs w ds item answer →
-    Goes (IsPartViewOf known v cs) (IsPartViewOf known w ds) prefixes item answer
-told_at_closed known prefixes v w cs ds item answer same tells = subst (λ (ps : List Path). Goes (IsPartViewOf known v cs)
-    (IsPartViewOf known w ds) ps item answer) same
-    tells
-
 pub view_counts : (w : Sketch) → Counts (IsViewOf w) w
 view_counts w G start most spent seen = (seen.need, seen.steps)
 
-pub closed_view_counts : (known : Bool) (w : Sketch) (cs : List Path) → Counts (IsPartViewOf known w cs) w
-closed_view_counts known w cs G start most spent c = (c.tells.need ∙ ap (λ n. min n most_need) (as_far most c.most start c.first c.peaks), c.tells.steps)
+pub sparse_counts : (w : Sketch) (items : List Item) → Counts (IsSparseViewOf w items) w
+sparse_counts w items G start most spent c = (c.tells.need ∙ ap (λ n. min n most_need) (as_far most c.most start c.first c.peaks), c.tells.steps)
   where
     as_far : (peak most start first : ℕ) → peak + first ≡ most + start → most - first ≡ peak - start
     as_far peak most start first e = omega arith
@@ -100,6 +84,22 @@ next_of_them requests number request more is =
     ap (map Perform) (drop-cons requests number request more)
     ∙ ap (λ (r : Request). Perform r ∷ map Perform (drop (suc number) requests)) (sym is)
     ∙ ap (λ n. Perform request ∷ map Perform (drop n requests)) (sym (add-one number))
+
+-- where the request is successful
+abbrev pub AfterSparse : Sketch → List Item → Status → Filestore → ℕ → ℕ → ℕ → Type 0
+AfterSparse w items status G start most spent = is_successful status ≡ true → IsSparseViewOf w items G start most spent
+
+-- what a view of what a list sees says of its next request
+pub told_at_sparse : (prefixes : List Path) (v w : Sketch) (requests : List Request) (number : ℕ) (request : Request) (status : Status) →
+    number < length requests → request ≡ get_or requests number request → v.prefixes ≡ prefixes → TellsSparse v w request status →
+    Goes (IsSparseViewOf v (map Perform (drop number requests))) (AfterSparse w (map Perform (drop (number + 1) requests)) status) prefixes
+    (Perform request) (Performed status)
+told_at_sparse prefixes v w requests number request status more is same tells =
+    subst (λ (items : List Item). Goes (IsSparseViewOf v items) (AfterSparse w (map Perform (drop (number + 1) requests)) status) prefixes
+    (Perform request) (Performed status)) (sym (next_of_them requests number request more is))
+    (subst (λ (ps : List Path). Goes (IsSparseViewOf v (Perform request ∷ map Perform (drop (number + 1) requests)))
+    (AfterSparse w (map Perform (drop (number + 1) requests)) status) ps (Perform request) (Performed status)) same
+    (tells (map Perform (drop (number + 1) requests))))
 
 drop-past : (requests : List Request) (number : ℕ) → length requests ≤ number → drop number requests ≡ []
 drop-past [] zero le = refl
@@ -127,7 +127,7 @@ module _ (prefixes : List Path) (F : Filestore) (items : List Item) (start high 
         failure = g.failure ∙ first_of_them prefixes g.here number request rest status told.0
             ∙ ap (λ b. cond b (first_failure (number + 1) (statuses prefixes next 0 rest)) (Some (number, status))) done;
         peaks = g.peaks ∙ raised g.most (blocks g.here) (blocks next) (peak prefixes next 0 rest) g.within (low prefixes next rest);
-        counts = g.counts ∙ added g.spent (1 + step_bound g.here (Perform request)) (steps prefixes next 0 rest);
+        counts = g.counts ∙ grouped g.spent (1 + step_bound g.here (Perform request)) (steps prefixes next 0 rest);
       }
 
   pub fails : (Seen Next : Filestore → ℕ → ℕ → ℕ → Type 0) (number : ℕ) (request : Request) (rest : List Item) (status : Status) →
@@ -138,6 +138,21 @@ module _ (prefixes : List Path) (F : Filestore) (items : List Item) (start high 
       let next = performed prefixes g.here 0 (Perform request) in
       g.failure ∙ first_of_them prefixes g.here number request rest status told.0
       ∙ ap (λ b. cond b (first_failure (number + 1) (statuses prefixes next 0 rest)) (Some (number, status))) failed
+
+  -- said in another way
+  pub goes_as : (Seen Next : Filestore → ℕ → ℕ → ℕ → Type 0) (number : ℕ) (rest : List Item) →
+      ((G : Filestore) (start most spent : ℕ) → Seen G start most spent → Next G start most spent) →
+      GoesOn prefixes F items start high taken Seen number rest → GoesOn prefixes F items start high taken Next number rest
+  goes_as Seen Next number rest said g = record {
+    here = g.here;
+    most = g.most;
+    spent = g.spent;
+    seen = said g.here start g.most g.spent g.seen;
+    within = g.within;
+    failure = g.failure;
+    peaks = g.peaks;
+    counts = g.counts;
+  }
 
   -- the next request of a list of requests
   pub goes_on : (Seen Next : Filestore → ℕ → ℕ → ℕ → Type 0) (requests : List Request) (number : ℕ) (request : Request) (status : Status) →

@@ -1,4 +1,4 @@
 -- What only the proofs of the code need: no clause of a public function cites it.
 pub mod Answers
 pub mod Judging
-pub mod ClosedJudging
+pub mod SparseJudging

@@ -30,9 +30,9 @@ use std::alloc::{AllocError, Global};
 ///
 /// Out of memory, which a list of more than 64 requests does not take. Cost: that of reading the names, of
 /// `footprint`, `Leases::conflict` and `View::of` on what they name, and of one `View::install` and a `View::apply` for
-/// each request. A list with an exclusive path that is a directory with entries takes a `ClosedView` instead, and the
-/// `View` only if that can't say, and one `kind` for each rename; the depths of directories are found out only if one
-/// of the renames moves a directory. Each list takes one `has_entries` for each exclusive path.
+/// each request. A list with an exclusive path that is a directory with entries takes a `SparseView` instead, so that
+/// what it costs does not grow with the entries of a directory that the list does not move; it takes the `View` only if
+/// that can't say. Each list takes one `has_entries` for each exclusive path.
 pub fn verify<S: Filestore>(
     alloc: Global,
     store: &S,

@@ -6,6 +6,7 @@ use Rattle.hex.specs.Hex.{encode_lower}
 use Rattle.byteorder.specs.Endian.{big_bytes}
 use Rattle.cfdp_status.specs.Codes.{octet_of, code_of, action_of}
 use Rattle.cfdp_tlv.specs.Values.{RequestFields, ResponseFields}
+use Rattle.cfdp_pdus.specs.Codes.{nak_code}
 use Rattle.cfdp_pdus.specs.First.{pdu_at}
 use Rattle.cfdp_pdus.specs.Texts.{pdu_fault_text}
 use Rattle.cfdp_pdus.specs.Messages.{messages_at}
@@ -217,7 +218,7 @@ nak_text style len crc (Err fault) = damaged style len (nak_fault_words fault)
 
 abbrev pub other_text : Style → ℕ → Bool → List ℕ → ℕ → List ℕ
 other_text style len crc octets code =
-    if code == 8 then nak_text style len crc (nak_within 8190 octets)
+    if code == nak_code then nak_text style len crc (nak_within 8190 octets)
     else directive_text style len crc (directive_spelled octets)
 
 abbrev pub read_text : Style → ℕ → Bool → List ℕ → Result Pdu PduFault → List ℕ

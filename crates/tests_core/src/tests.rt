@@ -3,7 +3,6 @@
 //! workers. Worked lists and transactions whose answers say all are text, in `.ci/cases`. `scene` has what lists are
 //! judged on, and `entity` a receiving entity that is handed events.
 
-mod closed_views;
 mod engine;
 mod entity;
 mod finished;
@@ -16,6 +15,7 @@ mod put_back;
 mod refused_views;
 mod scene;
 mod settings;
+mod sparse_views;
 mod transfers;
 mod verdicts;
 mod views;

@@ -24,7 +24,7 @@ use Rattle.cfdp_paths.specs.Paths.{Path, path_cmp, parent}
 use Rattle.cfdp_paths.specs.PathMaps.{IsOrdered, tree_in, rest_in, moved_to, puts}
 use Rattle.std.specs.declared.alloc.AllocError.{AllocError}
 use Rattle.cfdp_status.specs.declared.status.Status.{Status}
-use Rattle.cfdp_actions.specs.Filestore.{Directory, File, Filestore, blocks_of, after}
+use Rattle.cfdp_actions.specs.Filestore.{Filestore, blocks_of, after}
 use Rattle.cfdp_actions.specs.Actions.{Request, Item, Perform, Performed, succeeded, is_protected, table, row}
 use Rattle.cfdp_actions.specs.Store.{is_file_kind}
 use Rattle.cfdp_actions.specs.declared.kind.Standing.{Standing}

@@ -6,7 +6,6 @@ use Rattle.std.specs.FinMap as finite
 use Rattle.cfdp_paths.specs.Paths.{Path}
 use Rattle.cfdp_states.specs.declared.extent.Extent.{Extent}
 use Rattle.cfdp_states.specs.Sketching.{Extents}
-use Rattle.cfdp_states.specs.Alone.{steps}
 use Rattle.cfdp_states.specs.Views.{Sketch}
 
 abbrev pub sketch_code : Coded Extent → Coded Sketch

@@ -13,10 +13,8 @@ use Rattle.std.specs.FinMap.Entries.{below_all, is_sorted, find}
 use Rattle.std.proofs.lemmas.Bool.{cases_Bool, and_parts}
 use Rattle.cfdp_paths.specs.Paths.{Name, Path, path_cmp, same_path, is_at_or_below, parent}
 use Rattle.cfdp_paths.proofs.Comparing.{path_cmp-total, same_path-Decides}
-use Rattle.cfdp_paths.proofs.InOrder.{path_antisym, less_by, less_itself}
+use Rattle.cfdp_paths.proofs.InOrder.{path_antisym, less_by, less_itself, true_from_T}
 use Rattle.cfdp_actions.specs.Filestore.{Node, Filestore, node_at, empty_filestore, weight, weights, blocks, Becomes, changed, is_directory, is_root, is_good, parent_is_good, IsRooted, tree_at}
-use Rattle.cfdp_actions.proofs.StoreLaws.{true_from_T}
-use Rattle.cfdp_leases.proofs.Sets.{same_path-itself}
 use Rattle.cfdp_leases.proofs.ReadFrame.{get_kept}
 use Rattle.cfdp_leases.proofs.ChangeFrame.{node_at-changed}
 use Rattle.cfdp_leases.proofs.Rooted.{Of, tree_at-of}
@@ -25,6 +23,7 @@ use Rattle.cfdp_transactions.specs.Beginning.{start_with}
 use Rattle.cfdp_transactions.specs.Restart.{put_all, CanPutAll, PutBackIsSame}
 use Rattle.cfdp_transactions.proofs.Beginnings.Starting.{blocks-empty, nowhere}
 use Rattle.cfdp_transactions.proofs.Beginnings.PutThere.{CanPut, no_fault, no_root, grown}
+use Rattle.cfdp_actions.proofs.Order.{same_path-refl}
 
 abbrev Entry : Type 0
 Entry = Path × Node
@@ -89,7 +88,7 @@ module _ (c : Config) (F : Filestore) (rooted : IsRooted F) where
 
   module _ (e : Entry) (left : List Entry) (G : Filestore) (after : below_all path_cmp e.0 left ≡ true) (is : IsOf e) (rest : IsLeft (e ∷ left) G) where
     absent : node_at G e.0 ≡ None
-    absent = rest e.0 ∙ ap (λ b. cond (is_some (cond b (Some e.1) (find path_cmp e.0 left))) None (node_at F e.0)) (same_path-itself e.0)
+    absent = rest e.0 ∙ ap (λ b. cond (is_some (cond b (Some e.1) (find path_cmp e.0 left))) None (node_at F e.0)) (same_path-refl e.0)
 
     good : parent_is_good F e.0 ≡ true
     good = rooted e.0 (ap is_some is)

@@ -30,7 +30,7 @@ pub record CanPut (W : World) (p : Path) (node : Node) : Type 0 where
   pub parent : parent_is_good W.filestore p ≡ true
   pub room : weight (Some node) ≤ free W
 
-none_of : (x : Option Node) → is_some x ≡ false → x ≡ None
+pub none_of : (x : Option Node) → is_some x ≡ false → x ≡ None
 none_of None h = refl
 none_of (Some node) h = absurd (true≢false h)
 

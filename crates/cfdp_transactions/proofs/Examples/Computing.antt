@@ -2,7 +2,7 @@
 --     Listed, nodes_of es       what exists, as a list in path order, and the finite map of it
 --     none_of, node_of, entries_of, len_of      the empty map;  what is at a path;  the list back, and how long it is
 --     with_of, without_of, where_of     the map after something was put at a path, or taken from it; those that pass a test
---     any_in_none, any_in_with, any_in_both     whether a path of a set passes a test
+--     any_in_none, any_in_with                  whether a path of a set passes a test
 --     look_ups, conflicts       these
 use Rattle.std.proofs.Common.{◌≡◌, List, [], ◌∷◌, length, Bool, true, false, not, ◌||◌, if◌then◌else◌, Option, None, refl, ap, sym, ◌∙◌}
 use Rattle.std.specs.FinMap as finite
@@ -10,14 +10,14 @@ use Rattle.std.specs.FinMap.{find, put, is_sorted}
 use Rattle.std.specs.FinMap.Entries.{where_key}
 use Rattle.std.specs.FinSet as set
 use Rattle.std.specs.Ordering.{eq_by_cmp}
-use Rattle.std.specs.declared.cmp.Ordering.TheVariants.{Equal}
 use Rattle.std.proofs.lemmas.Float.{T_from_true}
 use Rattle.cfdp_paths.specs.Paths.{Path, path_cmp}
 use Rattle.cfdp_actions.specs.Filestore.{Node}
-use Rattle.cfdp_actions.proofs.StoreLaws.{insert_is, retain_is}
+use Rattle.cfdp_actions.proofs.StoreLaws.{insert_is, retain_is, alike}
 use Rattle.cfdp_leases.specs.Footprint.{PathSet, any_in}
-use Rattle.cfdp_leases.proofs.Sets.{path_cmp_total, path_cmp-IsAntisymmetric, any_in-from_list, any_in-union}
+use Rattle.cfdp_leases.proofs.Sets.{path_cmp_total, any_in-from_list, any_in-union}
 use Rattle.cfdp_transactions.proofs.Beginnings.Starting.{no_entries}
+use Rattle.cfdp_paths.proofs.InOrder.{path_antisym}
 
 -- what exists ---------------------------------------------------------------------------
 
@@ -45,9 +45,6 @@ with_of es p node s = insert_is es p node s
 pub where_of : (es : Listed) (test : Path → Bool) → is_sorted path_cmp es ≡ true → finite.retain_keys (nodes_of es) test ≡ nodes_of (where_key path_cmp test es)
 where_of es test s = retain_is es test s
 
-alike : (test : Path → Bool) (q x : Path) → path_cmp q x ≡ Equal → test x ≡ test q
-alike test q x e = ap test (sym (path_cmp-IsAntisymmetric q x e))
-
 turned : (b : Bool) (o : Option Node) → (if b then None else o) ≡ (if not b then o else None)
 turned true o = refl
 turned false o = refl
@@ -55,7 +52,7 @@ turned false o = refl
 pub without_of : (es : Listed) (p : Path) → is_sorted path_cmp es ≡ true → finite.remove (nodes_of es) p
     ≡ nodes_of (where_key path_cmp (λ q. not (eq_by_cmp path_cmp q p)) es)
 without_of es p s =
-    finite.same_map path_cmp_total path_cmp-IsAntisymmetric _ _
+    finite.same_map path_cmp_total path_antisym _ _
     (λ q. finite.get-remove path_cmp_total (nodes_of es) p q ∙ turned (eq_by_cmp path_cmp q p) (finite.get (nodes_of es) q)
     ∙ sym (finite.get-retain_keys (nodes_of es) (λ x. not (eq_by_cmp path_cmp x p)) q (alike (λ x. not (eq_by_cmp path_cmp x p)) q)))
     ∙ where_of es (λ q. not (eq_by_cmp path_cmp q p)) s
@@ -66,15 +63,12 @@ pub any_in_none : (test : Path → Bool) → any_in set.empty test ≡ false
 any_in_none test = any_in-from_list test []
 
 of_items : (s : PathSet) → s ≡ set.from_list (set.items s)
-of_items s = set.same_set path_cmp_total path_cmp-IsAntisymmetric s (set.from_list (set.items s)) (λ q. set.contains-items s q
+of_items s = set.same_set path_cmp_total path_antisym s (set.from_list (set.items s)) (λ q. set.contains-items s q
     ∙ sym (set.contains-from_list path_cmp_total (set.items s) q))
 
 pub any_in_with : (s : PathSet) (p : Path) (test : Path → Bool) → any_in (set.insert s p) test ≡ (test p || any_in s test)
 any_in_with s p test = ap (λ (t : PathSet). any_in (set.insert t p) test) (of_items s) ∙ any_in-from_list test (p ∷ set.items s)
 
-pub any_in_both : (s t : PathSet) (test : Path → Bool) → any_in (set.union s t) test ≡ (any_in s test || any_in t test)
-any_in_both s t test = any_in-union s t test
-
 pub ruleset look_ups = (none_of, node_of, entries_of, len_of, with_of, without_of, where_of)
 
-pub ruleset conflicts = (any_in_none, any_in_with, any_in_both)
+pub ruleset conflicts = (any_in_none, any_in_with, any_in-union)

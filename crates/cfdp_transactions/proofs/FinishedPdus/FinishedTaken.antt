@@ -6,15 +6,15 @@ use Rattle.cfdp_actions.specs.Store.{Store}
 use Rattle.cfdp_pdus.specs.Placing.{filled}
 use Rattle.cfdp_transactions.specs.code.Books.{world_of}
 use Rattle.cfdp_transactions.specs.declared.books.Books.{Books}
-use Rattle.cfdp_transactions.specs.declared.issuing.ShortBuffer.{ShortBuffer}
-use Rattle.cfdp_transactions.specs.declared.issuing.TakenFinished.{TakenFinished}
+use Rattle.cfdp_transactions.specs.declared.finished_in_buffer.ShortBuffer.{ShortBuffer}
+use Rattle.cfdp_transactions.specs.declared.finished_in_buffer.TakenFinished.{TakenFinished}
 use Rattle.cfdp_transactions.specs.declared.outcome.Outcome.{Outcome}
 use Rattle.cfdp_transactions.specs.Ending.{taken_out}
 use Rattle.cfdp_transactions.specs.Engine.{outcome_in}
 use Rattle.cfdp_transactions.specs.Entry.{Entry, is_live}
 use Rattle.cfdp_transactions.specs.Events.{Reply, Take}
-use Rattle.cfdp_transactions.specs.Issuing.{sent, taken_by}
-use Rattle.cfdp_transactions.specs.code.Issuing.{FallsShort, Issues}
+use Rattle.cfdp_transactions.specs.FinishedInBuffer.{sent, taken_by}
+use Rattle.cfdp_transactions.specs.code.FinishedInBuffer.{FallsShort, Issues}
 use Rattle.cfdp_transactions.specs.Next.{next}
 use Rattle.cfdp_transactions.specs.Outcome.{outcome_of}
 use Rattle.cfdp_transactions.specs.code.TableEntries.{kept_place}

@@ -4,7 +4,7 @@ use Rattle.std.proofs.lemmas.List.{length-append, length-take-le, take-append-le
 use Rattle.cfdp_pdus.specs.Canonical.{header_octets, pdu_octets}
 use Rattle.cfdp_pdus.specs.Placing.{filled, with_octets_at}
 use Rattle.cfdp_pdus.specs.declared.header.Header.{Header}
-use Rattle.cfdp_pdus.proofs.Placing.{length-header_octets}
+use Rattle.cfdp_pdus.proofs.Placing.{length-header_octets, at_front}
 
 pub before : (buffer now new xs ys : List ℕ) (at next : ℕ)
     → next ≤ length buffer → now ≡ with_octets_at buffer next ys → new ≡ with_octets_at now at xs
@@ -27,9 +27,6 @@ before buffer now new xs ys at next within is_now is_new same =
     ∙ ap (λ (t : List ℕ). t ++ (xs ++ drop (at + length xs) now)) front
     ∙ ap (λ (t : List ℕ). take at buffer ++ (xs ++ t)) after
     ∙ ap (λ (t : List ℕ). take at buffer ++ t) (sym (append_assoc xs ys rest))
-
-at_front : (buffer xs : List ℕ) → with_octets_at buffer 0 xs ≡ filled xs buffer
-at_front buffer xs = ap (λ (n : ℕ). xs ++ drop n buffer) (omega arith)
 
 -- a header that is put before its data field
 pub header_before : (header : Header) (buffer now new field : List ℕ) (len at : ℕ)

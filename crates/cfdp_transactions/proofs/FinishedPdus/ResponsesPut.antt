@@ -10,11 +10,11 @@ use Rattle.cfdp_pdus.specs.Values.{FinishedFields}
 use Rattle.cfdp_pdus.specs.Canonical.{finished_fits, is_short_response, response_field}
 use Rattle.cfdp_pdus.specs.Placing.{with_octets_at}
 use Rattle.cfdp_pdus.proofs.Placing.{overwritten-overwritten}
-use Rattle.cfdp_pdus.proofs.WriteSteps.{and_true}
-use Rattle.cfdp_transactions.specs.code.Issuing.{unperformed_field}
+use Rattle.cfdp_transactions.specs.code.FinishedInBuffer.{unperformed_field}
 use Rattle.cfdp_transactions.specs.Outcome.{answered, responses_of}
 use Rattle.cfdp_transactions.specs.code.Taking.{statuses_of}
 use Rattle.cfdp_transactions.proofs.KeptTable.EntryTakenOut.{one_response, status_at}
+use Rattle.cfdp_pdus.proofs.OutcomeSteps.{and_true}
 
 -- the responses to the requests from an index on
 abbrev pub responses_from : List RequestFields → ℕ → ℕ → List ResponseFields

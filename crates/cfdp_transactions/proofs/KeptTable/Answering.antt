@@ -1,6 +1,6 @@
 -- The replies to events of a transaction that is there, by what the program did.
 use Rattle.std.proofs.Common.{◌≡◌, ℕ, ◌+◌, ◌-◌, ◌≤◌, ◌<◌, refl, arith}
-use Rattle.std.specs.Prelude.{Bool, true, false, ◌||◌, nat_le, Some, slice_get, IsTrue}
+use Rattle.std.specs.Prelude.{true, false, ◌||◌, nat_le, Some, slice_get, IsTrue}
 use Rattle.std.proofs.lemmas.Bool.Decides.{nat_tests}
 use Rattle.cfdp_actions.specs.Store.{Store}
 use Rattle.cfdp_transactions.specs.Entry.{Phase, Awaiting, Executing, is_live, Entry}
@@ -16,6 +16,7 @@ use Rattle.cfdp_transactions.specs.Execution.{replied}
 use Rattle.cfdp_transactions.specs.declared.books.Books.{Books}
 use Rattle.cfdp_transactions.proofs.Places.{get_same}
 use Rattle.cfdp_transactions.proofs.KeptTable.WorldOfTable.{row_at}
+use Rattle.cfdp_paths.proofs.Scanning.{or_false}
 
 pub live_at : (s : Store) (b : Books) (k : ℕ) (r : TableEntry) → slice_get b.table k ≡ Some r → IsTrue (is_live r.phase) → IsLiveAt (world_of s b) k
 live_at s b k r at live = (entry_in s.filestore r, row_at s.filestore b.table k r at, live)
@@ -27,10 +28,6 @@ entry_is s b k r at e there = get_same (world_of s b).table k k e (entry_in s.fi
 pub phase_is : (s : Store) (b : Books) (k : ℕ) (r : TableEntry) → slice_get b.table k ≡ Some r → (e : Entry) → slice_get (world_of s b).table k ≡ Some e →
     (phase : Phase) → r.phase ≡ phase → e.phase ≡ phase
 phase_is s b k r at e there phase is = rw (entry_is s b k r at e there) is
-
-or_false : (b : Bool) → (b || false) ≡ b
-or_false true = refl
-or_false false = refl
 
 pub plain_end : (W V : World) (k condition : ℕ) → EndsAt W V k false condition → (e : Entry) → slice_get W.table k ≡ Some e → V ≡ ends W k e condition
 plain_end W V k condition ended e at = rw (or_false e.ended_by_eof) at (ended e at)

@@ -1,5 +1,5 @@
 -- The replies to an EOF of a transaction that is there, by what the program did.
-use Rattle.std.proofs.Common.{◌≡◌, ℕ, suc, List, [], ◌∷◌, length, refl, ap, sym, ◌∙◌}
+use Rattle.std.proofs.Common.{◌≡◌, ℕ, List, [], ◌∷◌, length, refl, ap, sym, ◌∙◌}
 use Rattle.std.specs.Prelude.{Bool, true, false, not, ◌||◌, ◌==◌, if◌then◌else◌, nat_lt, Some, slice_get, IsTrue}
 use Rattle.cfdp_pdus.specs.declared.eof.Eof.{Eof}
 use Rattle.cfdp_actions.specs.Filestore.{staged_in}
@@ -11,7 +11,7 @@ use Rattle.cfdp_transactions.specs.World.{World, bound}
 use Rattle.cfdp_transactions.specs.Delivery.{turns, is_right_checksum, whole, eof_without_error, eof_came}
 use Rattle.cfdp_transactions.specs.Ending.{ends}
 use Rattle.cfdp_transactions.specs.Received.{is_whole}
-use Rattle.cfdp_transactions.specs.Pieces.{Ranges, received_in, received_from}
+use Rattle.cfdp_transactions.specs.Pieces.{received_in}
 use Rattle.cfdp_transactions.specs.code.Pieces.{is_all}
 use Rattle.cfdp_transactions.specs.Sound.{Sound}
 use Rattle.cfdp_transactions.specs.code.TableEntries.{TableEntry, entry_in}
@@ -20,10 +20,8 @@ use Rattle.cfdp_transactions.specs.declared.books.Books.{Books}
 use Rattle.cfdp_transactions.proofs.KeptTable.Answering.{plain_end}
 use Rattle.cfdp_transactions.proofs.Received.RangeSteps.{all_is_whole}
 use Rattle.cfdp_transactions.proofs.KeptTable.EntryChanged.{kept_row}
-
-or_true : (b : Bool) → (b || true) ≡ true
-or_true true = refl
-or_true false = refl
+use Rattle.cfdp_paths.proofs.Scanning.{or_true}
+use Rattle.cfdp_transactions.proofs.Received.Writing.{length-received}
 
 pub eof_idle : (W : World) (k : ℕ) (eof : Eof) (e : Entry) → is_live e.phase ≡ false → eof_came W k eof (Some e) ≡ (W, Reply.Idle)
 eof_idle W k eof e final = rw final refl
@@ -91,10 +89,6 @@ eof_whole W k eof e some file right all = by_tests W k e eof false true false tr
 
 -- what the row's ranges and the staged list say of what was received ---------------------
 
-received_long : (from : ℕ) (ranges : Ranges) (xs : List ℕ) → length (received_from from ranges xs) ≡ length xs
-received_long from ranges [] = refl
-received_long from ranges (x ∷ xs) = ap suc (received_long (suc from) ranges xs)
-
 module _ (s : Store) (b : Books) (sound : Sound (world_of s b)) (booked : IsBooked s b) (k : ℕ) (r : TableEntry) (at : slice_get b.table k ≡ Some r)
     (live : IsTrue (is_live r.phase)) where
   abbrev e : Entry
@@ -107,7 +101,7 @@ module _ (s : Store) (b : Books) (sound : Sound (world_of s b)) (booked : IsBook
   is_received = rw live refl
 
   pub received_size : length e.received ≡ length xs
-  received_size = rw is_received (received_long 0 r.ranges xs)
+  received_size = rw is_received (length-received 0 r.ranges xs)
 
   pub whole_row : (size : ℕ) → is_whole size e.received ≡ is_all size r.ranges
   whole_row size = rw is_received (all_is_whole size r.ranges xs (booked.pieces k r at live).pieces (booked.pieces k r at live).to_end)

@@ -33,16 +33,12 @@ use Rattle.cfdp_transactions.proofs.Soundness.RowAnswers.{row_of_request, row_of
 use Rattle.cfdp_transactions.proofs.KeptTable.EntryChanged.{entry_at_k, kept_row, least_spent, most_spent, reserve_open, in_use, table_now, booked_now}
 use Rattle.cfdp_transactions.proofs.Soundness.Stepping.{noted_none, noted_one, enough, succeeded_now, takes_within, steps_within, gone, honest_now, rest_is}
 use Rattle.cfdp_transactions.proofs.Soundness.Turning.{live_counted, reserve_live, empty_by_length}
+use Rattle.cfdp_transactions.proofs.Places.{get_inside}
 
 pub drop_get : {X : Type 0} (n : ℕ) (xs : List X) (x : X) → slice_get xs n ≡ Some x → drop n xs ≡ x ∷ drop (suc n) xs
 drop_get n [] x h = absurd cc
 drop_get zero (y ∷ xs) x h = let q : y ≡ x = cc in rw q refl
 drop_get (suc n) (y ∷ xs) x h = drop_get n xs x h
-
-pub get_below : {X : Type 0} (xs : List X) (n : ℕ) (x : X) → slice_get xs n ≡ Some x → n < length xs
-get_below [] n x h = absurd cc
-get_below (y ∷ xs) zero x h = omega arith
-get_below (y ∷ xs) (suc n) x h = omega (arith, get_below xs n x h)
 
 drop_length : {X : Type 0} (xs : List X) (n : ℕ) → length (drop n xs) ≡ length xs - n
 drop_length [] zero = omega arith
@@ -150,7 +146,7 @@ module _ (laws : LowerLaws) (s : Store) (b : Books) (sound : Sound (world_of s b
 
   -- counters
   number_below : n < length r.items
-  number_below = get_below r.items n item there
+  number_below = get_inside r.items n item there
 
   pub few_items : length r.items < 256
   few_items = let h = (sound.honest k e at_k).limits in omega (arith, h.of_items, h.of_requests)

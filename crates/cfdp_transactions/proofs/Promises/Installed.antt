@@ -10,10 +10,7 @@ use Rattle.cfdp_transactions.specs.Outcome.{is_refused}
 use Rattle.cfdp_transactions.specs.Beside.{HasItsFile, DoneIsInstalled}
 use Rattle.cfdp_transactions.specs.Beginning.{DoneIsInstalledFrom}
 use Rattle.cfdp_transactions.proofs.Promises.ItemOrder.{IsInOrder, ordered_from}
-
-or_false : (a : Bool) → (a || false) ≡ a
-or_false true = refl
-or_false false = refl
+use Rattle.cfdp_paths.proofs.Scanning.{or_false}
 
 retained_or_none : (file refused : Bool) → ◌≡◌ {A = ℕ} (if not file then 3 else if file then 2 else if refused then 1 else 0) (if file then 2 else 3)
 retained_or_none true refused = refl

@@ -82,7 +82,7 @@ left_behind : (n : ℕ) (all items : List Item) (item : Item) → drop n all ≡
 left_behind n all [] item left = refl
 left_behind n all (next ∷ items) item left = drop_next n all (next ∷ items) item left
 
-or_assoc : (a b c : Bool) → ((a || b) || c) ≡ (a || (b || c))
+pub or_assoc : (a b c : Bool) → ((a || b) || c) ≡ (a || (b || c))
 or_assoc true b c = refl
 or_assoc false b c = refl
 

@@ -173,7 +173,7 @@ gaps_count (suc left) at start [] = ((gaps_count left (at + 1) start []).0, (gap
 gaps_count (suc left) at start (None ∷ rs) = ((gaps_count left (at + 1) start rs).0, (gaps_count left (at + 1) at rs).0)
 gaps_count (suc left) at start (Some r ∷ rs) = let later = (gaps_count left (at + 1) at rs).1 in (omega arith, later)
 
-fewer_pieces : (rs : Received) → pieces_from true rs ≤ pieces_from false rs
+pub fewer_pieces : (rs : Received) → pieces_from true rs ≤ pieces_from false rs
 fewer_pieces [] = omega arith
 fewer_pieces (None ∷ rs) = omega arith
 fewer_pieces (Some r ∷ rs) = omega arith

@@ -10,6 +10,7 @@ use Rattle.cfdp_transactions.specs.Pieces.{Ranges, is_in, received_from, receive
 use Rattle.cfdp_transactions.specs.PieceLaws.{AreWithin, ArePieces, AreWritten, WholeHasNone, RangeIsAdded, RangesKeep, StagedAreKept}
 use Rattle.cfdp_transactions.proofs.Received.OctetsAndGaps.{first_stays, greatest_end}
 use Rattle.cfdp_transactions.proofs.Received.PieceRanges.{is_inside, inside_true, before_false, behind_false, runs_sooner, gaps_are_between}
+use Rattle.cfdp_transactions.proofs.Promises.ItemOrder.{or_assoc}
 
 -- what is at an offset ------------------------------------------------------------------
 
@@ -38,7 +39,7 @@ same_received (x ∷ a) (y ∷ b) e h =
     let others : a ≡ b = same_received a b (omega arith) (λ i below. h (suc i) (omega arith)) in
     cc
 
-brought_before : (at : ℕ) (octets : List ℕ) (i : ℕ) → i < at → brought at octets i ≡ None
+pub brought_before : (at : ℕ) (octets : List ℕ) (i : ℕ) → i < at → brought at octets i ≡ None
 brought_before zero octets i h = absurd (omega arith)
 brought_before (suc at) octets zero h = refl
 brought_before (suc at) octets (suc i) h = brought_before at octets i (omega arith)
@@ -48,7 +49,7 @@ get_there [] j h = absurd (omega arith)
 get_there (x ∷ xs) zero h = refl
 get_there (x ∷ xs) (suc j) h = get_there xs j (omega arith)
 
-get_behind : (xs : List ℕ) (j : ℕ) → length xs ≤ j → slice_get xs j ≡ None
+pub get_behind : (xs : List ℕ) (j : ℕ) → length xs ≤ j → slice_get xs j ≡ None
 get_behind [] j h = refl
 get_behind (x ∷ xs) zero h = absurd (omega arith)
 get_behind (x ∷ xs) (suc j) h = get_behind xs j (omega arith)
@@ -87,10 +88,6 @@ or_swap true false z = refl
 or_swap false true z = refl
 or_swap false false z = refl
 
-or_regroup : (x y z : Bool) → ((x || y) || z) ≡ (x || (y || z))
-or_regroup true y z = refl
-or_regroup false y z = refl
-
 members_added : (a b from i : ℕ) (ranges : Ranges) → a < b → AreRuns from ranges → is_in i (with_range a b ranges) ≡ (is_inside a b i || is_in i ranges)
 members_added a b from i [] ab runs = refl
 members_added a b from i ((s, e) ∷ rs) ab runs =
@@ -100,7 +97,7 @@ members_added a b from i ((s, e) ∷ rs) ab runs =
     (λ _. refl)
     (λ sb. members_added (min a s) (max b e) (e + 1) i rs (omega arith) runs.2 ∙
     ap (λ (here : Bool). here || is_in i rs) (touching a b s e i (ltb-false _ _ ae) (ltb-false _ _ sb) ab runs.1)
-    ∙ or_regroup (is_inside a b i) (is_inside s e i) (is_in i rs)))
+    ∙ or_assoc (is_inside a b i) (is_inside s e i) (is_in i rs)))
 
 runs_added : (a b from : ℕ) (ranges : Ranges) → from ≤ a → a < b → AreRuns from ranges → AreRuns from (with_range a b ranges)
 runs_added a b from [] fa ab runs = (fa, ab, tt)

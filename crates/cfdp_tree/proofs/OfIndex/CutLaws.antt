@@ -13,7 +13,8 @@ use Rattle.cfdp_arena.specs.Arena.{Blocks}
 use Rattle.cfdp_tree.specs.declared.index.Head.{Head}
 use Rattle.cfdp_tree.specs.code.Tree.{IsNode, node_fields_at}
 use Rattle.cfdp_tree.specs.code.Index.{index_chain, list_of, without_node}
-use Rattle.cfdp_tree.proofs.OfIndex.IndexLaws.{chain_some, has_longer, own_first, own_rest, rest_has, has_later, has_first, once_first, once_rest, kept_chain}
+use Rattle.cfdp_tree.proofs.OfIndex.IndexLaws.{chain_some, has_longer, own_first, rest_has, has_later, has_first, once_first, kept_chain}
+use Rattle.cfdp_arena.proofs.GivenChains.{rest_all, rest_once}
 
 module _ (b : ℕ) where
   pub without_other : (x : ℕ) (xs : List ℕ) → x ≢ b → without_node b (x ∷ xs) ≡ x ∷ without_node b xs
@@ -23,7 +24,7 @@ module _ (b : ℕ) where
   without_all [] apart = refl
   without_all (x ∷ xs) apart =
       let P : ℕ → Type 0 = λ c. b ≢ c in
-      without_other x xs (λ e. own_first P x xs apart (sym e)) ∙ ap (λ rest. x ∷ rest) (without_all xs (own_rest P x xs apart))
+      without_other x xs (λ e. own_first P x xs apart (sym e)) ∙ ap (λ rest. x ∷ rest) (without_all xs (rest_all P x xs apart))
 
   pub without_first : (xs : List ℕ) → All (λ c. b ≢ c) xs → without_node b (b ∷ xs) ≡ xs
   without_first xs apart = ap (λ is. cond (not is) (b ∷ without_node b xs) (without_node b xs)) (eq-eqb b b refl) ∙ without_all xs apart
@@ -48,7 +49,7 @@ module _ (b : ℕ) where
     | inr other ↦ omega (
       arith,
       ap (λ (ys : List ℕ). length ys) (without_other x xs other),
-      length_without xs (once_rest x xs once) (rest_has x xs b has other),
+      length_without xs (rest_once x xs once) (rest_has x xs b has other),
     )
   ]
 
@@ -76,10 +77,10 @@ module _ (old : Blocks) (p b : ℕ) (before : (node_fields_at old p).same_head �
         let rest = index_chain old m (node_fields_at old y).same_head in
         let rest_is : rest ≡ index_chain old m z = ap (λ c. index_chain old m (node_fields_at old c).same_head) y_is in
         let first = once_first x (y ∷ rest) once in
-        let second = once_first y rest (once_rest x (y ∷ rest) once) in
+        let second = once_first y rest (rest_once x (y ∷ rest) once) in
         let P : ℕ → Type 0 = λ c. p ≢ c in
         let B : ℕ → Type 0 = λ c. b ≢ c in
-        let p_apart : All P (index_chain old m z) = subst (All P) rest_is (subst (λ q. All (λ c. q ≢ c) rest) e (own_rest (λ c. x ≢ c) y rest first)) in
+        let p_apart : All P (index_chain old m z) = subst (All P) rest_is (subst (λ q. All (λ c. q ≢ c) rest) e (rest_all (λ c. x ≢ c) y rest first)) in
         let b_apart : All B rest = subst (λ q. All (λ c. q ≢ c) rest) y_is second in
         let x_other : x ≢ b = (λ same. own_first (λ c. x ≢ c) y rest first (same ∙ sym y_is)) in
         let cut : without_node b (y ∷ rest) ≡ rest = ap (λ c. without_node b (c ∷ rest)) y_is ∙ without_first b rest b_apart in
@@ -99,7 +100,7 @@ module _ (old : Blocks) (p b : ℕ) (before : (node_fields_at old p).same_head �
           let first = once_first x list once in
           let x_other : x ≢ b = All-contains (λ c. x ≢ c) list b first (links_after (suc m) x has) in
           ap (λ c. x ∷ index_chain new m c) (others x (λ e. other (sym e)))
-          ∙ ap (λ xs. x ∷ xs) (cut_chain m y (once_rest x list once) behind)
+          ∙ ap (λ xs. x ∷ xs) (cut_chain m y (rest_once x list once) behind)
           ∙ sym (without_other b x list x_other))
     ]
 

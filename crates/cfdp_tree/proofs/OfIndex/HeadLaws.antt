@@ -1,5 +1,5 @@
 -- One head of the index changes.
---     all_left, pairs_left     of the first of two lists
+--     pairs_left               of the first of two lists
 --     once_last                one more at the end of a list in which no node is twice
 --     length_chain             how long a list is
 --     head_here                the head that is read is the one of the index
@@ -7,7 +7,7 @@
 --     index_set                the index, once each head has its nodes
 use Rattle.std.proofs.Common.{◌≡◌, ◌≢◌, ℕ, suc, zero, ◌+◌, ◌<◌, List, [], ◌∷◌, ◌++◌, length, length-set, set, get_or, Option, refl, sym, ap, ◌∙◌, subst, inl, inr, arith}
 use Rattle.std.proofs.lemmas.List.{get_or-set_same, get_or-set_other, get_or_default}
-use Rattle.std.proofs.lemmas.List.Elements.{All-nil, All-cons, All-head, All-tail, All-push}
+use Rattle.std.proofs.lemmas.List.Elements.{All-nil, All-head, All-tail, All-push}
 use Rattle.std.proofs.lemmas.List.Kept.{AllPairs-cons}
 use Rattle.std.proofs.lemmas.List.Sums.{sum_by-set}
 use Rattle.std.proofs.lemmas.Bool.{cases_eq}
@@ -16,23 +16,21 @@ use Rattle.cfdp_arena.specs.Arena.{Blocks, live_count}
 use Rattle.cfdp_tree.specs.declared.index.Head.{Head}
 use Rattle.cfdp_tree.specs.code.Tree.{node_fields_at}
 use Rattle.cfdp_tree.specs.code.Index.{Heads, index_chain, no_head, list_of, head_count, HasHead, IsHead, count_out, IsIndex}
-use Rattle.cfdp_tree.proofs.OfIndex.IndexLaws.{once_first, once_rest}
-
-pub all_left : (P : ℕ → Type 0) (xs ys : List ℕ) → All P (xs ++ ys) → All P xs
-all_left P [] ys all = All-nil P
-all_left P (x ∷ xs) ys all = All-cons P x xs (All-head P x (xs ++ ys) all) (all_left P xs ys (All-tail P x (xs ++ ys) all))
+use Rattle.cfdp_tree.proofs.OfIndex.IndexLaws.{once_first}
+use Rattle.cfdp_arena.proofs.GivenChains.{rest_once}
+use Rattle.cfdp_order.proofs.SplitLaws.{All_front}
 
 pub pairs_left : (xs ys : List ℕ) → AllPairs (λ b c. b ≢ c) (xs ++ ys) → AllPairs (λ b c. b ≢ c) xs
 pairs_left [] ys once = (λ i j d before less. absurd (omega (arith, less)))
 pairs_left (x ∷ xs) ys once =
-    AllPairs-cons (λ b c. b ≢ c) x xs (all_left (λ c. x ≢ c) xs ys (once_first x (xs ++ ys) once)) (pairs_left xs ys (once_rest x (xs ++ ys) once))
+    AllPairs-cons (λ b c. b ≢ c) x xs (All_front (λ c. x ≢ c) xs ys (once_first x (xs ++ ys) once)) (pairs_left xs ys (rest_once x (xs ++ ys) once))
 
 pub once_last : (b : ℕ) (xs : List ℕ) → All (λ c. b ≢ c) xs → AllPairs (λ x y. x ≢ y) xs → AllPairs (λ x y. x ≢ y) (xs ++ b ∷ [])
 once_last b [] apart once = AllPairs-cons (λ x y. x ≢ y) b [] (All-nil (λ c. b ≢ c)) once
 once_last b (x ∷ xs) apart once =
     AllPairs-cons (λ x y. x ≢ y) x (xs ++ b ∷ [])
     (All-push (λ c. x ≢ c) xs b (once_first x xs once) (λ e. All-head (λ c. b ≢ c) x xs apart (sym e)))
-    (once_last b xs (All-tail (λ c. b ≢ c) x xs apart) (once_rest x xs once))
+    (once_last b xs (All-tail (λ c. b ≢ c) x xs apart) (rest_once x xs once))
 
 pub length_chain : (nodes : Blocks) (n b : ℕ) → length (index_chain nodes n b) ≡ n
 length_chain nodes zero b = refl

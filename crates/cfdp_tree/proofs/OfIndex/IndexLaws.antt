@@ -1,10 +1,10 @@
 -- The lists of the index.
 --     chain_more       a list's first node, and those after it
 --     no_entry         what was denied
---     own_first, own_rest, rest_has      of all of its nodes, of the first one, and of those after it
+--     own_first, rest_has                of all of its nodes, of the first one, and of those after it
 --     has_later, has_first, has_longer, chain_some     a node that is in it
 --     chain_one                a list of one node
---     once_first, once_rest    no node is in it twice
+--     once_first               no node is in it twice
 --     kept_links               a list of nodes whose links have stayed
 --     kept_chain               a list without the node whose link has changed
 use Rattle.std.proofs.Common.{◌≡◌, ◌≢◌, ℕ, suc, zero, ◌<◌, List, [], ◌∷◌, length, get_or, refl, ap, ◌∙◌, subst, inl, inr, arith, Bool, false}
@@ -14,15 +14,13 @@ use Rattle.cfdp_arena.specs.Arena.{Blocks}
 use Rattle.cfdp_tree.specs.code.Tree.{node_fields_at}
 use Rattle.cfdp_tree.specs.code.Index.{index_chain}
 use Rattle.cfdp_tree.specs.code.Lists as lists
+use Rattle.cfdp_arena.proofs.GivenChains.{rest_all, rest_once}
 
 pub chain_more : (nodes : Blocks) (n m b : ℕ) → n ≡ suc m → index_chain nodes n b ≡ b ∷ index_chain nodes m (node_fields_at nodes b).same_head
 chain_more nodes n m b e = ap (λ k. index_chain nodes k b) e
 
 pub own_first : (P : ℕ → Type 0) (b : ℕ) (rest : List ℕ) → All P (b ∷ rest) → P b
 own_first P b rest all = all 0 b (omega arith)
-
-pub own_rest : (P : ℕ → Type 0) (b : ℕ) (rest : List ℕ) → All P (b ∷ rest) → All P rest
-own_rest P b rest all k d within = all (suc k) d (omega arith)
 
 pub rest_has : (b : ℕ) (rest : List ℕ) (c : ℕ) → Contains (b ∷ rest) c → b ≢ c → Contains rest c
 rest_has b rest c has other = at_place has.0 has.1 has.2
@@ -63,9 +61,6 @@ has_longer nodes (suc n) b c has =
 pub once_first : (b : ℕ) (rest : List ℕ) → AllPairs (λ x y. x ≢ y) (b ∷ rest) → All (λ c. b ≢ c) rest
 once_first b rest once k d within = once 0 (suc k) d (omega arith) (omega arith)
 
-pub once_rest : (b : ℕ) (rest : List ℕ) → AllPairs (λ x y. x ≢ y) (b ∷ rest) → AllPairs (λ x y. x ≢ y) rest
-once_rest b rest once i j d before within = once (suc i) (suc j) d (omega arith) (omega arith)
-
 -- P is of the nodes whose links have stayed
 module _ (P : ℕ → Type 0) (old new : ℕ → ℕ) (same : (c : ℕ) → P c → new c ≡ old c) where
   pub kept_links : (n b : ℕ) → All P (lists.chain old n b) → lists.chain new n b ≡ lists.chain old n b
@@ -73,7 +68,7 @@ module _ (P : ℕ → Type 0) (old new : ℕ → ℕ) (same : (c : ℕ) → P c 
   kept_links (suc n) b own =
       let rest = lists.chain old n (old b) in
       ap (λ c. b ∷ lists.chain new n c) (same b (own_first P b rest own))
-      ∙ ap (λ xs. b ∷ xs) (kept_links n (old b) (own_rest P b rest own))
+      ∙ ap (λ xs. b ∷ xs) (kept_links n (old b) (rest_all P b rest own))
 
 -- the link of one node has changed
 module _ (old new : Blocks) (b : ℕ) (others : (c : ℕ) → b ≢ c → (node_fields_at new c).same_head ≡ (node_fields_at old c).same_head) where

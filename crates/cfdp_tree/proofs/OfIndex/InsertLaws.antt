@@ -12,16 +12,17 @@ use Rattle.cfdp_tree.specs.declared.index.Head.{Head}
 use Rattle.cfdp_tree.specs.code.NodeFields.{node_fields_of, node_name}
 use Rattle.cfdp_tree.specs.code.Tree.{IsNode, name_at, home_in, home}
 use Rattle.cfdp_tree.specs.code.Index.{Heads, head_place, index_chain, no_head, list_of, head_count, HasHead, IsHead, IsIndex}
-use Rattle.cfdp_tree.proofs.OfRuns.Counts.{live_count-written}
 use Rattle.cfdp_tree.proofs.OfNodes.PlaceLaws.{kept_by}
 use Rattle.cfdp_tree.proofs.OfNodes.LinkLaws.{next_here, next_other}
 use Rattle.cfdp_tree.proofs.OfIndex.IndexLaws.{chain_more, has_later, has_first, kept_chain}
-use Rattle.cfdp_tree.proofs.OfIndex.HeadLaws.{all_left, once_last, head_kept, index_set}
+use Rattle.cfdp_tree.proofs.OfIndex.HeadLaws.{once_last, head_kept, index_set}
+use Rattle.cfdp_arena.proofs.Laws.{live_count-written}
+use Rattle.cfdp_order.proofs.SplitLaws.{All_front}
 
-none_some : {x : ℕ} → None ≡ Some x → ⊥
+pub none_some : {x : ℕ} → None ≡ Some x → ⊥
 none_some e = cc
 
-some_same : {x y : ℕ} → Some x ≡ Some y → x ≡ y
+pub some_same : {x y : ℕ} → Some x ≡ Some y → x ≡ y
 some_same e = cc
 
 module _ (nodes : Blocks) (n b : ℕ) where
@@ -120,7 +121,7 @@ module _ (nodes : Blocks) (heads : Heads) (b k : ℕ) (within : k < length heads
     kept_list : (j : ℕ) (h : Head) → IsHead nodes (Some b) (length heads) j h → list_of new h ≡ list_of nodes h
     kept_list j h is =
         kept_chain nodes new b (next_other nodes b block node) h.listed h.first
-        (apart nodes (length heads) b j (list_of nodes h) (all_left (HasHead nodes (Some b) (length heads) j) (list_of nodes h) is.rest is.own))
+        (apart nodes (length heads) b j (list_of nodes h) (All_front (HasHead nodes (Some b) (length heads) j) (list_of nodes h) is.rest is.own))
 
     list_here : list_of new first ≡ b ∷ list_of nodes head
     list_here =

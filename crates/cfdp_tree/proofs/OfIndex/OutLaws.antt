@@ -12,9 +12,12 @@ use Rattle.cfdp_tree.specs.code.NodeFields.{node_fields_of, node_name}
 use Rattle.cfdp_tree.specs.code.Nodes.{only_node, nodes_in}
 use Rattle.cfdp_tree.specs.code.Tree.{IsNode, node_fields_at, name_at, home_in, home, SamePlaces}
 use Rattle.cfdp_tree.specs.code.Index.{Heads, head_place, index_chain, no_head, list_of, count_out, HasHead, IsHead, IsIndex}
-use Rattle.cfdp_tree.proofs.OfRuns.Counts.{live_count-taken, live_count-written, live_count-given, live_count-same}
+use Rattle.cfdp_tree.proofs.OfRuns.Counts.{live_count-taken, live_count-same}
 use Rattle.cfdp_tree.proofs.OfIndex.IndexLaws.{kept_chain}
-use Rattle.cfdp_tree.proofs.OfIndex.HeadLaws.{all_left, head_kept}
+use Rattle.cfdp_tree.proofs.OfIndex.HeadLaws.{head_kept}
+use Rattle.cfdp_arena.proofs.Laws.{live_count-written, live_count-given}
+use Rattle.cfdp_order.proofs.SplitLaws.{All_front}
+use Rattle.cfdp_tree.proofs.OfIndex.InsertLaws.{none_some, some_same}
 
 module _ (old new : Blocks) (b : ℕ) (heads : Heads) (was now : Option ℕ) (others : (c : ℕ) → c ≢ b → octets_at new c ≡ octets_at old c)
     (was_out : IsNode old b → was ≡ Some b) (now_out : IsNode new b → now ≡ Some b) (was_no_other : (c : ℕ) → c ≢ b → was ≢ Some c) (no_other : (c : ℕ) → c
@@ -34,7 +37,7 @@ module _ (old new : Blocks) (b : ℕ) (heads : Heads) (was now : Option ℕ) (ot
 
   list_same : (k : ℕ) (head : Head) → IsHead old was (length heads) k head → list_of new head ≡ list_of old head
   list_same k head is =
-      let listed = all_left (HasHead old was (length heads) k) (list_of old head) is.rest is.own in
+      let listed = All_front (HasHead old was (length heads) k) (list_of old head) is.rest is.own in
       kept_chain old new b links_other head.listed head.first
       (λ i d less e. head_other k (get_or (list_of old head) i d) (listed i d less) (sym e))
 
@@ -56,13 +59,7 @@ module _ (old new : Blocks) (b : ℕ) (heads : Heads) (was now : Option ℕ) (ot
     counted = omega (arith, index.counted, counts);
   }
 
-none_some : {x : ℕ} → None ≡ Some x → ⊥
-none_some e = cc
-
-some_same : {x y : ℕ} → Some x ≡ Some y → x ≡ y
-some_same e = cc
-
-no_node : {x : Option (List ℕ)} → x ≡ None → IsSome x → ⊥
+pub no_node : {x : Option (List ℕ)} → x ≡ None → IsSome x → ⊥
 no_node none some = cc
 
 pub index_created : (old : Blocks) (heads : Heads) (b : ℕ) (block : List ℕ) → b < length old → octets_at old b ≡ None → IsIndex old heads None →

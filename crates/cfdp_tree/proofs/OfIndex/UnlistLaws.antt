@@ -12,12 +12,7 @@ use Rattle.cfdp_tree.specs.code.Tree.{IsNode, name_at, home, SamePlaces}
 use Rattle.cfdp_tree.specs.code.Index.{Heads, head_place, no_head, list_of, without_node, head_count, HasHead, IsHead, IsIndex}
 use Rattle.cfdp_tree.proofs.OfIndex.CutLaws.{without_has, length_without}
 use Rattle.cfdp_tree.proofs.OfIndex.HeadLaws.{length_chain, head_kept, index_set}
-
-none_some : {x : ℕ} → None ≡ Some x → ⊥
-none_some e = cc
-
-some_same : {x y : ℕ} → Some x ≡ Some y → x ≡ y
-some_same e = cc
+use Rattle.cfdp_tree.proofs.OfIndex.InsertLaws.{none_some, some_same}
 
 module _ (nodes new : Blocks) (heads : Heads) (b k : ℕ) (within : k < length heads) (index : IsIndex nodes heads None) (node : IsNode nodes b) (head : Head)
     (place : head_place (home nodes b) (name_at nodes b) (length heads) ≡ k) (same : SamePlaces nodes new) (small : head.first < 65536)

@@ -1,10 +1,9 @@
 -- What is below a directory.
---     has_some, has_none             the filestore has something below a path, or nothing
+--     got, has_some, has_none        what is at the paths that pass a test:  something, or nothing
 --     entry_below                    where something is below a directory, it has an entry
 --     order_some, order_none, absent_none     by the order of a path's node
 use Rattle.std.proofs.Common.{◌≡◌, ℕ, zero, suc, ◌+◌, ◌<◌, ◌≤◌, ◌==◌, Bool, true, false, not, cond, [], ◌∷◌, ◌++◌, length, length-append, take, drop, get_or, Option, Some, None, refl, sym, ap, ◌∙◌, subst, inl, inr, arith}
 use Rattle.std.proofs.lemmas.Bool.{cases_lt}
-use Rattle.std.proofs.lemmas.Bool.Decides.{nat_tests}
 use Rattle.std.proofs.lemmas.List.{take_all, take_at, take_more}
 use Rattle.std.specs.Prelude.{Contains}
 use Rattle.std.specs.FinMap as finite
@@ -14,7 +13,7 @@ use Rattle.cfdp_paths.proofs.Below.{is_below-Decides, append_from_at_or_below, a
 use Rattle.cfdp_paths.proofs.Comparing.{path_cmp-total}
 use Rattle.cfdp_paths.proofs.InOrder.{path_antisym}
 use Rattle.cfdp_arena.specs.Arena.{Blocks, octets_of}
-use Rattle.cfdp_actions.specs.Filestore.{Node, Filestore, node_at, inside, has_entries}
+use Rattle.cfdp_actions.specs.Filestore.{Node, Filestore, node_at, has_entries}
 use Rattle.cfdp_order.specs.Orders.{links_at, left_of, right_of, times_in}
 use Rattle.cfdp_order.specs.Orders.{nodes as nodes_of}
 use Rattle.cfdp_order.proofs.Counts.{one_self, times_middle}
@@ -27,43 +26,46 @@ use Rattle.cfdp_tree.specs.code.Kept.{node_of, Shows}
 use Rattle.cfdp_tree.proofs.OfNodes.TreeLaws.{last_same}
 use Rattle.cfdp_tree.proofs.OfNodes.ClimbLaws.{path_by_home, same_place, beginning}
 use Rattle.cfdp_tree.proofs.OfOrders.OrderLaws.{member_at}
+use Rattle.cfdp_actions.proofs.StoreLaws.{some_more}
 
 -- the filestore
 
-some_more : (n : ℕ) → not (suc n == 0) ≡ true
-some_more n = grind (arith, nat_tests)
+-- the paths that pass a test
+module _ (F : Filestore) (test : Path → Bool) where
+  abbrev passing : finite.FinMap path_cmp Node
+  passing = finite.retain_keys F.nodes test
 
-module _ (F : Filestore) (p : Path) where
-  got : (q : Path) → finite.get (inside F p) q ≡ cond (is_below q p) (node_at F q) None
-  got q = get-retain_keys F.nodes (λ x. is_below x p) q (λ x e. ap (λ y. is_below y p) (sym (path_antisym q x e)))
+  pub got : (q : Path) → finite.get (finite.retain_keys F.nodes test) q ≡ cond (test q) (node_at F q) None
+  got q = get-retain_keys F.nodes test q (λ x e. ap test (sym (path_antisym q x e)))
 
-  pub has_some : (q : Path) (node : Node) → node_at F q ≡ Some node → is_below q p ≡ true → has_entries F p ≡ true
-  has_some q node e below = by_length (finite.len (inside F p)) refl
+  pub has_some : (q : Path) (node : Node) → node_at F q ≡ Some node → test q ≡ true → not (finite.len (finite.retain_keys F.nodes test) == 0) ≡ true
+  has_some q node e passes = by_length (finite.len passing) refl
     where
-      absent : finite.len (inside F p) ≡ 0 → None ≡ Some node
+      absent : finite.len passing ≡ 0 → None ≡ Some node
       absent none =
-          sym (get-empty path_cmp q) ∙ sym (ap (λ m. finite.get m q) (empty_of_len (inside F p) none)) ∙ got q
-          ∙ ap (λ b. cond b (node_at F q) None) below ∙ e
+          sym (get-empty path_cmp q) ∙ sym (ap (λ m. finite.get m q) (empty_of_len passing none)) ∙ got q
+          ∙ ap (λ b. cond b (node_at F q) None) passes ∙ e
 
-      by_length : (n : ℕ) → finite.len (inside F p) ≡ n → has_entries F p ≡ true
+      by_length : (n : ℕ) → finite.len passing ≡ n → not (finite.len passing == 0) ≡ true
       by_length zero none = absurd (none_some (absent none))
         where
           none_some : {A : Type 0} {x : A} → None ≡ Some x → ⊥
           none_some e = cc
       by_length (suc n) some = ap (λ k. not (k == 0)) some ∙ some_more n
 
-  pub has_none : ((q : Path) (node : Node) → node_at F q ≡ Some node → is_below q p ≡ true → ⊥) → has_entries F p ≡ false
-  has_none none = ap (λ m. not (finite.len m == 0)) (same_map path_cmp-total path_antisym (inside F p) finite.empty (λ q. got q
-      ∙ absent q (is_below q p) (node_at F q) refl refl ∙ sym (get-empty path_cmp q))) ∙ ap (λ k. not (k == 0)) (len-empty path_cmp Node)
+  pub has_none : ((q : Path) (node : Node) → node_at F q ≡ Some node → test q ≡ true → ⊥)
+      → not (finite.len (finite.retain_keys F.nodes test) == 0) ≡ false
+  has_none none = ap (λ m. not (finite.len m == 0)) (same_map path_cmp-total path_antisym passing finite.empty (λ q. got q
+      ∙ absent q (test q) (node_at F q) refl refl ∙ sym (get-empty path_cmp q))) ∙ ap (λ k. not (k == 0)) (len-empty path_cmp Node)
     where
-      absent : (q : Path) (below : Bool) (o : Option Node) → is_below q p ≡ below → node_at F q ≡ o → cond (is_below q p) (node_at F q) None ≡ None
+      absent : (q : Path) (b : Bool) (o : Option Node) → test q ≡ b → node_at F q ≡ o → cond (test q) (node_at F q) None ≡ None
       absent q true None is e = (λ i. cond (is i) (e i) None)
       absent q true (Some node) is e = absurd (none q node e is)
       absent q false o is e = ap (λ b. cond b (node_at F q) None) is
 
 module _ (nodes : Blocks) (tree : IsTree nodes) where
   pub entry_below : (b c : ℕ) (p : Path) → IsNode nodes b → path_of_node nodes b ≡ p → IsNode nodes c → is_below (path_of_node nodes c) p ≡ true
-      → (e : ℕ) × IsNode nodes e × (home nodes e ≡ Some b)
+      → (e : ℕ) × IsNode nodes e × (home nodes e ≡ Some b) × (path_of_node nodes e ≡ take (length p + 1) (path_of_node nodes c))
   entry_below b c p node way other below =
       let q = path_of_node nodes c in
       let parts = (is_below-Decides q p).0 below in
@@ -81,6 +83,7 @@ module _ (nodes : Blocks) (tree : IsTree nodes) where
         entry.1,
         same_place nodes tree (home nodes entry.0) (Some b) (λ d there. (tree.homes entry.0 d entry.1 there).node)
             (λ d is. subst (IsNode nodes) (some_same is) node) (same.0 ∙ sym way),
+        entry.2,
       )
     where
       some_same : {x y : ℕ} → Some x ≡ Some y → x ≡ y
@@ -101,12 +104,12 @@ module _ (nodes : Blocks) (tree : IsTree nodes) where
       -- something where it has one
       pub entry_some : (e : ℕ) → IsNode nodes e → home nodes e ≡ Some b → has_entries F p ≡ true
       entry_some e entry there =
-          has_some F p (path_of_node nodes e) (node_of arena (octets_of nodes e)) (shows.each e entry)
+          has_some F (λ x. is_below x p) (path_of_node nodes e) (node_of arena (octets_of nodes e)) (shows.each e entry)
           (ap (is_below (path_of_node nodes e)) (sym way) ∙ below_by_entry b e entry there)
 
       -- nothing is below it where it has no entry
       pub entry_none : ((e : ℕ) → IsNode nodes e → home nodes e ≡ Some b → ⊥) → has_entries F p ≡ false
-      entry_none none = has_none F p (λ q other is below.
+      entry_none none = has_none F (λ x. is_below x p) (λ q other is below.
           (let at = shows.only q other is in
           let entry = entry_below b at.0 p node way at.1 (ap (λ x. is_below x p) at.2 ∙ below) in
           none entry.0 entry.1 entry.2))
@@ -136,7 +139,7 @@ module _ (nodes : Blocks) (tree : IsTree nodes) where
             omega (arith, has.1, ap length (no_nodes orders.links.items (order_at orders (Some b)) empty))))
 
     pub absent_none : (p : Path) → 1 ≤ length p → ((b : ℕ) → IsNode nodes b → path_of_node nodes b ≡ p → ⊥) → has_entries F p ≡ false
-    absent_none p some none = has_none F p (λ q other is below.
+    absent_none p some none = has_none F (λ x. is_below x p) (λ q other is below.
         (let at = shows.only q other is in
         let under = (is_below-Decides (path_of_node nodes at.0) p).0 (ap (λ x. is_below x p) at.2 ∙ below) in
         let whole = append_from_at_or_below (path_of_node nodes at.0) p under.0 in

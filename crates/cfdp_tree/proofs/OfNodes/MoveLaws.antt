@@ -30,7 +30,7 @@ drop_front zero xs ys within = refl
 drop_front (suc k) [] ys within = absurd (omega arith)
 drop_front (suc k) (x ∷ xs) ys within = drop_front k xs ys (omega arith)
 
-true_false : {b : Bool} → b ≡ true → b ≡ false → ⊥
+pub true_false : {b : Bool} → b ≡ true → b ≡ false → ⊥
 true_false is not = cc
 
 module _ (old : Blocks) (b : ℕ) (block : List ℕ) (node : IsNode old b) (tree : IsTree old) (named : IsNamed block)

@@ -15,13 +15,11 @@ use Rattle.cfdp_tree.specs.code.Kept.{file_of, Shows}
 use Rattle.cfdp_tree.specs.code.Places.{path_at, StandsAt}
 use Rattle.cfdp_tree.proofs.OfNodes.ClimbLaws.{some_path}
 use Rattle.cfdp_tree.proofs.OfStore.SeenLaws.{seen_parent, told_directory}
+use Rattle.cfdp_tree.proofs.OfIndex.InsertLaws.{some_same}
 
 directory_kind : (k : Kind) → not (is_file_kind k) ≡ true → k ≡ kind.Directory
 directory_kind kind.File directory = cc
 directory_kind kind.Directory directory = refl
-
-some_same : {x y : ℕ} → Some x ≡ Some y → x ≡ y
-some_same e = cc
 
 module _ (arena nodes : Blocks) (tree : IsTree nodes) (F : Filestore) (shows : Shows arena nodes F.nodes) (path : Path) (depth : ℕ) (long : length path ≡ depth
     + 1) (good : parent_is_good F path ≡ true) where

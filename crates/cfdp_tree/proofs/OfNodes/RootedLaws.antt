@@ -1,10 +1,9 @@
 -- In a filestore that a tree shows, each path's parent is the root or a directory.
 --     tree_rooted
-use Rattle.std.proofs.Common.{◌≡◌, ℕ, ◌-◌, true, false, not, ◌&&◌, [], ◌∷◌, ◌++◌, length, length-append, take, Option, Some, None, refl, sym, ap, ◌∙◌, arith}
-use Rattle.std.proofs.lemmas.List.{take_at}
+use Rattle.std.proofs.Common.{◌≡◌, ℕ, ◌-◌, true, false, not, ◌&&◌, [], ◌∷◌, ◌++◌, Option, Some, None, refl, sym, ap, ◌∙◌}
 use Rattle.std.specs.Prelude.{IsSome, unwrap_or}
-use Rattle.cfdp_paths.specs.Paths.{Name, Path, parent}
-use Rattle.cfdp_paths.proofs.Below.{parent-take}
+use Rattle.cfdp_paths.specs.Paths.{Name, Path}
+use Rattle.cfdp_paths.proofs.Below.{parent-push}
 use Rattle.cfdp_arena.specs.Arena.{Blocks, octets_of}
 use Rattle.cfdp_actions.specs.Store.{is_file_kind}
 use Rattle.cfdp_actions.specs.Filestore.{Filestore, Node, Directory, node_at, is_directory, is_good, is_root, parent_is_good, IsRooted}
@@ -14,12 +13,6 @@ use Rattle.cfdp_tree.specs.code.Places.{path_at}
 use Rattle.cfdp_tree.specs.code.Kept.{file_of, Shows}
 use Rattle.cfdp_tree.proofs.OfNodes.ClimbLaws.{path_by_home, some_path}
 use Rattle.cfdp_tree.proofs.OfStore.SeenLaws.{told_directory}
-
-front_of : (above : Path) (n : Name) → parent (above ++ n ∷ []) ≡ above
-front_of above n =
-    let whole = above ++ n ∷ [] in
-    let long : length whole - 1 ≡ length above = omega (arith, length-append above (n ∷ [])) in
-    parent-take whole ∙ ap (λ (k : ℕ). take k whole) long ∙ take_at above (n ∷ []) (length above) refl
 
 no_root : (above : Path) (n : Name) → is_root (above ++ n ∷ []) ≡ false
 no_root [] n = refl
@@ -51,5 +44,5 @@ module _ (arena nodes : Blocks) (tree : IsTree nodes) (F : Filestore) (shows : S
       let above = path_at nodes (home nodes b) in
       let whole : p ≡ above ++ name_at nodes b ∷ [] = sym at.2 ∙ path_by_home nodes tree b at.1 in
       ap (parent_is_good F) whole
-      ∙ (λ k. not (no_root above (name_at nodes b) k) && is_good F (front_of above (name_at nodes b) k))
+      ∙ (λ k. not (no_root above (name_at nodes b) k) && is_good F (parent-push above (name_at nodes b) k))
       ∙ good_at b at.1 (home nodes b) refl

@@ -1,5 +1,4 @@
 -- The first node in path order after a path.
---     behind_more               one beginning less
 --     between                   what is between two paths that begin alike begins like them
 --     behind_parts, entry_on_way    a node that follows, and the entry on the way to it
 --     least_first, none_first   the entry of the least name is the first node, and where there is none no node follows
@@ -9,7 +8,6 @@
 use Rattle.std.proofs.Common.{◌≡◌, ◌≢◌, ℕ, suc, ◌+◌, true, List, [], ◌∷◌, ◌++◌, length, length-append, take, drop, is_some, Option, Some, None, refl, sym, ap, ◌∙◌, subst, arith}
 use Rattle.std.proofs.lemmas.Bool.{and_from}
 use Rattle.std.proofs.lemmas.List.{append_assoc, take_at}
-use Rattle.std.specs.Cmp.{tied_itself}
 use Rattle.std.specs.Cmp.Lexicographic.{nat_list_cmp_total}
 use Rattle.std.specs.FinMap.{slice_cmp-IsAntisymmetric, nat_cmp-IsAntisymmetric}
 use Rattle.std.specs.Ordering.{ordering_then, ordering_reverse}
@@ -29,15 +27,12 @@ use Rattle.cfdp_tree.specs.Next.{IsNext, IsLast}
 use Rattle.cfdp_tree.specs.code.Next.{name_cmp, IsBehind, IsLeast, IsListOf, ComesAfter, IsFirst}
 use Rattle.cfdp_tree.proofs.OfNodes.ClimbLaws.{entry_at, path_entry, beginning}
 use Rattle.cfdp_tree.proofs.OfOrders.LeastLaws.{flipped, less_greater, equal_greater}
+use Rattle.cfdp_paths.proofs.Moving.{path_cmp-append}
 
-name_antisym : (m n : Name) → name_cmp m n ≡ Equal → m ≡ n
+pub name_antisym : (m n : Name) → name_cmp m n ≡ Equal → m ≡ n
 name_antisym = slice_cmp-IsAntisymmetric nat_cmp-IsAntisymmetric
 
 -- ---- paths that begin alike
-
-pub behind_more : (a p q : Path) → path_cmp (a ++ p) (a ++ q) ≡ path_cmp p q
-behind_more [] p q = refl
-behind_more (n ∷ a) p q = ap (λ o. ordering_then o (path_cmp (a ++ p) (a ++ q))) (tied_itself nat_list_cmp_total n) ∙ behind_more a p q
 
 pub between : (a p q r : Path) → path_cmp (a ++ p) q ≡ Less → path_cmp q (a ++ r) ≢ Greater → is_at_or_below q a ≡ true
 between [] p q r behind before = refl
@@ -100,7 +95,7 @@ module _ (nodes : Blocks) (tree : IsTree nodes) (place : Option ℕ) (a : Path) 
     whole = append_from_at_or_below (path_of_node nodes c) a follows.below
 
     rest_behind : path_cmp p (drop (length a) (path_of_node nodes c)) ≡ Less
-    rest_behind = sym (behind_more a p (drop (length a) (path_of_node nodes c))) ∙ ap (path_cmp (a ++ p)) (sym whole) ∙ follows.behind
+    rest_behind = sym (path_cmp-append a p (drop (length a) (path_of_node nodes c))) ∙ ap (path_cmp (a ++ p)) (sym whole) ∙ follows.behind
 
     pub behind_parts : (m : Name) × (t : Path) × (path_of_node nodes c ≡ a ++ m ∷ t) × (path_cmp p (m ∷ t) ≡ Less)
     behind_parts =
@@ -154,14 +149,14 @@ module _ (nodes : Blocks) (tree : IsTree nodes) (place : Option ℕ) (a : Path) 
             follows = record {
               node = member.node;
               below = at_or_below_from_append (path_of_node nodes b) a (name_at nodes b ∷ []) way;
-              behind = ap (path_cmp (a ++ p)) way ∙ behind_more a p (name_at nodes b ∷ []) ∙ behind (name_at nodes b) least.behind;
+              behind = ap (path_cmp (a ++ p)) way ∙ path_cmp-append a p (name_at nodes b ∷ []) ∙ behind (name_at nodes b) least.behind;
             };
             first = λ c follows greater.
                 (let at = on_way c follows in
                 let upto = subst (λ e. IsBehind after (name_at nodes e) → name_cmp (name_at nodes b) (name_at nodes e) ≢ Greater) at.1.2
                 (least.least at.1.0 at.0 at.1.1) at.2 in
                 name_upto (name_at nodes b) (name_at nodes at.0) at.3 upto
-                (sym (behind_more a (name_at nodes b ∷ []) (name_at nodes at.0 ∷ at.3)) ∙ (λ k. path_cmp (sym way k) (sym at.4 k)) ∙ greater));
+                (sym (path_cmp-append a (name_at nodes b ∷ []) (name_at nodes at.0 ∷ at.3)) ∙ (λ k. path_cmp (sym way k) (sym at.4 k)) ∙ greater));
           }
 
   -- all entries follow the place itself

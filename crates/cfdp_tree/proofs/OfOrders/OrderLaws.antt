@@ -9,7 +9,6 @@ use Rattle.std.proofs.Common.{◌≡◌, ◌≢◌, ℕ, ◌+◌, ◌<◌, ◌�
 use Rattle.std.proofs.lemmas.Bool.{cases_eq, cases_lt}
 use Rattle.std.proofs.lemmas.List.Elements.{All-weaker}
 use Rattle.std.specs.Cmp.Lexicographic.{nat_list_cmp_total}
-use Rattle.std.specs.FinMap.{slice_cmp-IsAntisymmetric, nat_cmp-IsAntisymmetric}
 use Rattle.std.specs.Prelude.{All, AllPairs, Contains}
 use Rattle.std.specs.declared.cmp.Ordering.{Ordering}
 use Rattle.std.specs.declared.cmp.Ordering.TheVariants.{Less, Equal, Greater}
@@ -32,9 +31,7 @@ use Rattle.cfdp_tree.specs.code.Next.{name_cmp}
 use Rattle.cfdp_tree.specs.code.Orders.{order_at, in_order, Rises, IsInOrders}
 use Rattle.cfdp_tree.proofs.OfOrders.LeastLaws.{flipped}
 use Rattle.cfdp_tree.proofs.OfOrders.SortLaws.{of_times, at_times, split_at, pairs_front, pairs_back, less_back, less_first, place_cases}
-
-name_antisym : (m n : Name) → name_cmp m n ≡ Equal → m ≡ n
-name_antisym = slice_cmp-IsAntisymmetric nat_cmp-IsAntisymmetric
+use Rattle.cfdp_tree.proofs.OfOrders.NextLaws.{name_antisym}
 
 none_times : (m : ℕ) (list : List ℕ) → (1 ≤ times_in m list → ⊥) → times_in m list ≡ 0
 none_times m list never = elim (cases_lt 0 (times_in m list)) [

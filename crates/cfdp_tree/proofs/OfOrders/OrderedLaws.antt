@@ -10,7 +10,7 @@
 use Rattle.std.proofs.Common.{◌≡◌, ◌≢◌, ℕ, ◌<◌, List, [], length, get_or, set, length-set, Option, Some, None, is_some, sym, ap, ◌∙◌, subst, arith}
 use Rattle.std.proofs.lemmas.List.{get_or-set_same, get_or-set_other}
 use Rattle.std.proofs.lemmas.List.Elements.{All-nil, All-weaker}
-use Rattle.std.specs.Prelude.{All, AllPairs, Contains, IsSome, unwrap_or}
+use Rattle.std.specs.Prelude.{All, AllPairs, Contains, unwrap_or}
 use Rattle.std.specs.declared.cmp.Ordering.TheVariants.{Less}
 use Rattle.cfdp_arena.specs.Arena.{Blocks, octets_at, with_block, without_block}
 use Rattle.cfdp_arena.proofs.Chains.{live_within}
@@ -25,6 +25,8 @@ use Rattle.cfdp_tree.specs.code.Entries.{IsMember}
 use Rattle.cfdp_tree.specs.code.Next.{name_cmp, IsListOf}
 use Rattle.cfdp_tree.specs.code.Orders.{order_at, in_order, Rises, IsInOrders}
 use Rattle.cfdp_tree.proofs.OfStore.FileNodeLaws.{file_places}
+use Rattle.cfdp_tree.proofs.OfIndex.OutLaws.{no_node}
+use Rattle.cfdp_tree.proofs.OfIndex.InsertLaws.{none_some, some_same}
 
 pub record KeepsPlaces (old new : Blocks) (out : Option ℕ) : Type 0 where
   pub nodes : (c : ℕ) → out ≢ Some c → is_some (octets_at new c) ≡ is_some (octets_at old c)
@@ -72,15 +74,6 @@ module _ (old new : Blocks) (orders : Orders) (out : Option ℕ) (long : length 
     all = (λ c node listed. subst (λ place. Contains (in_order orders place) c) (sym (keeps.homes c listed))
         (ordered.all c (sym (keeps.nodes c listed) ∙ node) listed));
   }
-
-no_node : {x : Option (List ℕ)} → x ≡ None → IsSome x → ⊥
-no_node none some = cc
-
-some_same : {x y : ℕ} → Some x ≡ Some y → x ≡ y
-some_same e = cc
-
-none_some : {x : ℕ} → None ≡ Some x → ⊥
-none_some e = cc
 
 module _ (nodes : Blocks) (orders : Orders) (b : ℕ) (free : octets_at nodes b ≡ None) where
   pub ordered_out : IsInOrders nodes orders None → IsInOrders nodes orders (Some b)

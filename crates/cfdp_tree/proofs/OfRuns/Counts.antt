@@ -1,13 +1,9 @@
 -- How many blocks are free once one of them has changed.
---     live_count-within, live_count-taken, live_count-written, live_count-given, live_count-same      how many are live
+--     live_count-taken, live_count-same                                                               how many are live
 --     free_count-taken, free_count-written, free_count-given     a free block made live, a live one written, one made free
 use Rattle.std.proofs.Common.{◌≡◌, ℕ, suc, zero, ◌+◌, ◌<◌, ◌≤◌, List, [], ◌∷◌, length, Some, None, is_some, refl, arith, length-set}
 use Rattle.cfdp_arena.specs.Arena.{Blocks, live_count, octets_at, IsLive, free_count, with_block, without_block}
-
-pub live_count-within : (arena : Blocks) → live_count arena ≤ length arena
-live_count-within [] = omega arith
-live_count-within (Some o ∷ rest) = omega (arith, live_count-within rest)
-live_count-within (None ∷ rest) = omega (arith, live_count-within rest)
+use Rattle.cfdp_arena.proofs.Laws.{live_count-written, live_count-given, live_count-le}
 
 pub live_count-taken : (arena : Blocks) (block : ℕ) (o : List ℕ) → octets_at arena block ≡ None → block < length arena → live_count (with_block arena block o)
     ≡ live_count arena + 1
@@ -16,20 +12,6 @@ live_count-taken (Some x ∷ rest) zero o free within = cc
 live_count-taken (None ∷ rest) zero o free within = refl
 live_count-taken (Some x ∷ rest) (suc block) o free within = omega (arith, live_count-taken rest block o free (omega arith))
 live_count-taken (None ∷ rest) (suc block) o free within = live_count-taken rest block o free (omega arith)
-
-pub live_count-written : (arena : Blocks) (block : ℕ) (o : List ℕ) → IsLive arena block → live_count (with_block arena block o) ≡ live_count arena
-live_count-written [] block o live = cc
-live_count-written (Some x ∷ rest) zero o live = refl
-live_count-written (None ∷ rest) zero o live = cc
-live_count-written (Some x ∷ rest) (suc block) o live = omega (arith, live_count-written rest block o live)
-live_count-written (None ∷ rest) (suc block) o live = live_count-written rest block o live
-
-pub live_count-given : (arena : Blocks) (block : ℕ) → IsLive arena block → live_count (without_block arena block) + 1 ≡ live_count arena
-live_count-given [] block live = cc
-live_count-given (Some x ∷ rest) zero live = refl
-live_count-given (None ∷ rest) zero live = cc
-live_count-given (Some x ∷ rest) (suc block) live = omega (arith, live_count-given rest block live)
-live_count-given (None ∷ rest) (suc block) live = live_count-given rest block live
 
 -- the same blocks are live
 pub live_count-same : (a b : Blocks) → length a ≡ length b → ((i : ℕ) → is_some (octets_at a i) ≡ is_some (octets_at b i)) → live_count a ≡ live_count b
@@ -44,10 +26,10 @@ live_count-same (None ∷ xs) (Some y ∷ ys) long same = (let e = same 0 in cc)
 pub free_count-taken : (arena : Blocks) (block : ℕ) (o : List ℕ) → octets_at arena block ≡ None → block < length arena → free_count (with_block arena block o)
     + 1 ≡ free_count arena
 free_count-taken arena block o free within =
-    omega (arith, live_count-taken arena block o free within, live_count-within (with_block arena block o), length-set arena block (Some o))
+    omega (arith, live_count-taken arena block o free within, live_count-le (with_block arena block o), length-set arena block (Some o))
 
 pub free_count-written : (arena : Blocks) (block : ℕ) (o : List ℕ) → IsLive arena block → free_count (with_block arena block o) ≡ free_count arena
 free_count-written arena block o live = omega (arith, live_count-written arena block o live, length-set arena block (Some o))
 
 pub free_count-given : (arena : Blocks) (block : ℕ) → IsLive arena block → free_count (without_block arena block) ≡ free_count arena + 1
-free_count-given arena block live = omega (arith, live_count-given arena block live, live_count-within arena, length-set arena block None)
+free_count-given arena block live = omega (arith, live_count-given arena block live, live_count-le arena, length-set arena block None)

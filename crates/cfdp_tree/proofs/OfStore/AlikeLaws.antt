@@ -44,7 +44,7 @@ alike_relinked old new links = record {
   files = (λ b. by_row (octets_at new b) (octets_at old b) (links.nodes b) (links.rows b));
 }
 
-held_is : (o : Option (List ℕ)) → IsSome o → file_of (unwrap_or o []) ≡ file_in o
+pub held_is : (o : Option (List ℕ)) → IsSome o → file_of (unwrap_or o []) ≡ file_in o
 held_is None some = cc
 held_is (Some block) some = refl
 

@@ -5,11 +5,11 @@
 --     node_name                             its name is the path's last one
 --     tree_kept, index_kept, entry_kept     it is taken out of the list of its directory
 --     drop_view, drop_store                 the store once it is given back
-use Rattle.std.proofs.Common.{◌≡◌, ◌≢◌, ℕ, ◌+◌, ◌-◌, ◌≤◌, Bool, true, false, not, List, [], ◌∷◌, ◌++◌, length, length-append, map, get_or, Option, Some, None, refl, sym, ap, ◌∙◌, subst, inl, inr, arith}
+use Rattle.std.proofs.Common.{◌≡◌, ◌≢◌, ℕ, ◌+◌, ◌-◌, ◌≤◌, true, false, not, List, [], ◌∷◌, ◌++◌, length, length-append, map, get_or, Option, Some, None, refl, sym, ap, ◌∙◌, subst, inl, inr, arith}
 use Rattle.std.proofs.lemmas.List.{get_or-set_same, get_or-set_other, get_or-append_right, get_or_append_left, get_or_past}
 use Rattle.std.proofs.lemmas.Bool.{cases_eq, cases_lt}
 use Rattle.std.specs.FinMap as finite
-use Rattle.std.specs.Prelude.{IsSome, IfNone, unwrap_or}
+use Rattle.std.specs.Prelude.{IsSome, IfNone}
 use Rattle.cfdp_paths.specs.Paths.{Name, Path, path_cmp}
 use Rattle.cfdp_arena.specs.Arena.{Blocks, octets_at, octets_of, without_block, free_count}
 use Rattle.cfdp_arena.proofs.Chains.{live_within}
@@ -41,11 +41,9 @@ use Rattle.cfdp_tree.proofs.OfNodes.ClimbLaws.{path_by_home}
 use Rattle.cfdp_tree.proofs.OfNodes.BelowLaws.{entry_some}
 use Rattle.cfdp_tree.proofs.OfNodes.RemoveLaws.{removed_tree, removed_shows}
 use Rattle.cfdp_tree.proofs.OfIndex.OutLaws.{index_deleted}
-use Rattle.cfdp_tree.proofs.OfStore.AlikeLaws.{Alike, alike_relinked, alike_node, told_by, alike_shows}
+use Rattle.cfdp_tree.proofs.OfStore.AlikeLaws.{Alike, alike_relinked, alike_node, told_by, alike_shows, held_is}
 use Rattle.cfdp_tree.proofs.OfStore.ChangedLaws.{IsLeft, nodes_seen, nodes_store}
-
-true_false : {b : Bool} → b ≡ true → b ≡ false → ⊥
-true_false is not = cc
+use Rattle.cfdp_tree.proofs.OfNodes.MoveLaws.{true_false}
 
 weight_told : (arena : Blocks) (k : Kind) (row : NodeFields) → length (contents_in arena (contents_told k row)) ≡ (contents_told k row).size
     → weight (Some (node_told arena k (contents_told k row))) ≡ 1 + blocks_of (contents_told k row).size
@@ -62,10 +60,6 @@ told_octets : (arena : Blocks) (k : Kind) (row : NodeFields) → k ≡ kind.File
     → (files.octets_in (Some (node_told arena k (contents_told k row))) ≡ contents_in arena (contents_told k row)) × ((contents_told k row).size ≡ row.size)
 told_octets arena kind.File row file = (refl, refl)
 told_octets arena kind.Directory row file = cc
-
-held_is : (o : Option (List ℕ)) → IsSome o → file_of (unwrap_or o []) ≡ file_in o
-held_is None some = cc
-held_is (Some block) some = refl
 
 stays_two : (first second third : Blocks) (run : Run) → Stays first second run → RunsStay second third → Stays first third run
 stays_two first second third run one runs =

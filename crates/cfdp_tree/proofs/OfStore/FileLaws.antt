@@ -83,7 +83,7 @@ pub all_maps : {A B : Type 0} (f g : A → B) (xs : List A) (d : A) → ((j : �
 all_maps f g [] d same = refl
 all_maps f g (x ∷ xs) d same = (λ k. same 0 (omega arith) k ∷ all_maps f g xs d (λ j within. same (suc j) (omega arith)) k)
 
-some_is : (o : Option (List ℕ)) → IsSome o → file_in o ≡ file_of (unwrap_or o [])
+pub some_is : (o : Option (List ℕ)) → IsSome o → file_in o ≡ file_of (unwrap_or o [])
 some_is None some = cc
 some_is (Some block) some = refl
 

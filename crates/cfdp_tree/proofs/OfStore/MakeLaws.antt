@@ -12,7 +12,7 @@ use Rattle.cfdp_paths.specs.Paths.{Name, Path, IsName, IsPath}
 use Rattle.cfdp_arena.specs.Arena.{Blocks, octets_at, octets_of, with_block, free_count}
 use Rattle.cfdp_actions.specs.declared.kind.Kind.{Kind}
 use Rattle.cfdp_actions.specs.declared.kind.Kind.TheVariants as kind
-use Rattle.cfdp_actions.specs.Filestore.{Node, Filestore, Becomes, node_at, weight, blocks, parent_is_good}
+use Rattle.cfdp_actions.specs.Filestore.{Filestore, Becomes, node_at, weight, blocks, parent_is_good}
 use Rattle.cfdp_actions.specs.Filestore as files
 use Rattle.cfdp_actions.specs.Store.{Store, with_changes}
 use Rattle.cfdp_actions.proofs.StoreLaws.{no_blocks}
@@ -39,9 +39,7 @@ use Rattle.cfdp_tree.proofs.OfNodes.AddLaws.{added_tree, added_path, added_shows
 use Rattle.cfdp_tree.proofs.OfIndex.OutLaws.{index_created}
 use Rattle.cfdp_tree.proofs.OfStore.AlikeLaws.{Alike, alike_relinked, told_by, alike_shows}
 use Rattle.cfdp_tree.proofs.OfStore.ChangedLaws.{IsLeft, list_held, file_held, nodes_seen, nodes_store}
-
-no_node : {node : Node} → None ≡ Some node → ⊥
-no_node e = cc
+use Rattle.cfdp_tree.proofs.OfStore.ShowLaws.{no_node}
 
 plain_file : (parent : ℕ) (k : Kind) (name : Name) → contents_told (kind_told (plain_fields parent k name).kind) (plain_fields parent k name) ≡ no_contents
 plain_file parent kind.Directory name = refl

@@ -6,7 +6,7 @@
 --     seen_staged, slot_ways     so do those that are staged
 --     seen_parent                the parent of a path is the beginning of it
 --     told_kind, told_directory  a node by its kind
-use Rattle.std.proofs.Common.{◌≡◌, ℕ, zero, suc, ◌+◌, ◌-◌, ◌<◌, ◌≤◌, true, false, not, ◌&&◌, List, [], ◌∷◌, length, map, take, get_or, Option, Some, None, refl, sym, ap, ◌∙◌, subst, arith}
+use Rattle.std.proofs.Common.{◌≡◌, ℕ, zero, suc, ◌+◌, ◌-◌, ◌<◌, ◌≤◌, true, not, ◌&&◌, List, [], ◌∷◌, length, map, take, get_or, Option, Some, None, refl, sym, ap, ◌∙◌, subst, arith}
 use Rattle.std.proofs.Math.ListN.{get_or-map}
 use Rattle.std.proofs.lemmas.List.{get_or-append_right, get_or_append_left, length-map, length-take-le}
 use Rattle.std.specs.FinMap as finite
@@ -17,10 +17,10 @@ use Rattle.cfdp_paths.proofs.Below.{parent-take}
 use Rattle.cfdp_arena.specs.Arena.{Blocks, octets_at, octets_of, free_count}
 use Rattle.cfdp_actions.specs.declared.kind.Kind.{Kind}
 use Rattle.cfdp_actions.specs.declared.kind.Kind.TheVariants as kind
-use Rattle.cfdp_actions.specs.Filestore.{Node, Filestore, node_at, octets_in, weight, weights, blocks, blocks_of, is_file, is_directory, is_good, is_root, parent_is_good}
+use Rattle.cfdp_actions.specs.Filestore.{Node, Filestore, node_at, octets_in, weight, weights, blocks, blocks_of, is_file, is_directory, is_good, parent_is_good}
 use Rattle.cfdp_actions.specs.Filestore as files
 use Rattle.cfdp_actions.specs.Store.{Store, free_blocks, kind_of, is_file_kind}
-use Rattle.cfdp_actions.proofs.StoreLaws.{weight-found, octets-weight, lists-each}
+use Rattle.cfdp_actions.proofs.StoreLaws.{weight-found, octets-weight, lists-each, nonempty}
 use Rattle.cfdp_actions.proofs.SurveyLaws.{blocks_of-bound}
 use Rattle.cfdp_tree.specs.declared.contents.Contents.{Contents}
 use Rattle.cfdp_ways.specs.declared.way.Way.{Way}
@@ -61,14 +61,10 @@ good_at : (F : Filestore) (q : Path) → 1 ≤ length q → is_good F q ≡ is_d
 good_at F [] some = absurd (omega arith)
 good_at F (n ∷ q) some = refl
 
-no_root : (p : Path) → 1 ≤ length p → is_root p ≡ false
-no_root [] some = absurd (omega arith)
-no_root (n ∷ p) some = refl
-
 pub seen_parent : (F : Filestore) (p : Path) (depth : ℕ) → length p ≡ depth + 1 → 1 ≤ depth → parent_is_good F p ≡ is_directory (node_at F (take depth p))
 seen_parent F p depth long some =
     let above : parent p ≡ take depth p = parent-take p ∙ ap (λ n. take n p) (omega (arith, long)) in
-    ap (λ root. not root && is_good F (parent p)) (no_root p (omega (arith, long)))
+    ap (λ root. not root && is_good F (parent p)) (nonempty p (omega (arith, long)))
     ∙ ap (is_good F) above
     ∙ good_at F (take depth p) (omega (arith, long, length-take-le depth p (omega (arith, long))))
 

@@ -28,7 +28,7 @@ use Rattle.cfdp_tree.specs.code.Nodes.{nodes_in}
 use Rattle.cfdp_tree.specs.code.Tree.{IsNode, IsDirectory, node_fields_at, name_at, home_in, home, path_of_node, IsEntry, IsNamed, IsTree}
 use Rattle.cfdp_tree.specs.code.Places.{path_at, StandsAt}
 use Rattle.cfdp_tree.specs.code.Index.{Heads, IsIndex}
-use Rattle.cfdp_tree.specs.code.Kept.{no_contents, contents_told, file_of, file_in, node_told, node_of, Shows, store_of}
+use Rattle.cfdp_tree.specs.code.Kept.{no_contents, contents_told, file_in, node_told, node_of, Shows, store_of}
 use Rattle.cfdp_tree.specs.code.Slots.{lists_staged, IsStore}
 use Rattle.cfdp_tree.proofs.OfRuns.ContentsLaws.{stays_contents}
 use Rattle.cfdp_tree.proofs.OfStore.SlotLaws.{told_same}
@@ -37,28 +37,14 @@ use Rattle.cfdp_tree.proofs.OfNodes.PlaceLaws.{at_b, kept_by, same_paths, same_t
 use Rattle.cfdp_tree.proofs.OfNodes.ParentLaws.{parent_directory, parent_place}
 use Rattle.cfdp_tree.proofs.OfNodes.RootedLaws.{tree_rooted}
 use Rattle.cfdp_tree.proofs.OfStore.MakeLaws.{path_is, name_good, entry_none}
-use Rattle.cfdp_tree.proofs.OfNodes.MoveLaws.{moved_tree, moved_path, stayed_path}
+use Rattle.cfdp_tree.proofs.OfNodes.MoveLaws.{moved_tree, moved_path, stayed_path, true_false}
 use Rattle.cfdp_tree.proofs.OfIndex.OutLaws.{index_moved}
-use Rattle.cfdp_tree.proofs.OfStore.AlikeLaws.{Alike, alike_node, alike_directory, told_by, alike_shows}
+use Rattle.cfdp_tree.proofs.OfStore.AlikeLaws.{Alike, alike_node, alike_directory, told_by, alike_shows, held_is}
 use Rattle.cfdp_tree.proofs.OfStore.ChangedLaws.{IsLeft, list_held, file_held, nodes_seen, nodes_store}
-
-no_node : {node : Node} → None ≡ Some node → ⊥
-no_node e = cc
-
-none_some : {x : ℕ} → None ≡ Some x → ⊥
-none_some e = cc
-
-some_same : {x y : ℕ} → Some x ≡ Some y → x ≡ y
-some_same e = cc
-
-true_false : {b : Bool} → b ≡ true → b ≡ false → ⊥
-true_false is not = cc
+use Rattle.std.proofs.lemmas.Bool.{or_parts}
+use Rattle.cfdp_tree.proofs.OfStore.ShowLaws.{no_node}
 
 -- the depth
-
-either_false : (a b : Bool) → (a || b) ≡ false → (a ≡ false) × (b ≡ false)
-either_false true b e = cc
-either_false false b e = (refl, e)
 
 few_names : (n : ℕ) → nat_lt 8 n ≡ false → n ≤ 8
 few_names n few = grind (arith, nat_tests, few)
@@ -69,7 +55,7 @@ shallow_each p q [] x found shallow = absurd (true_false found refl)
 shallow_each p q (e ∷ es) x found shallow = by_same (same_path x e.0) refl (shallow_each p q es x)
   where
     parts : (nat_lt 8 (length (rebased p q e.0)) ≡ false) × (is_tree_too_deep p q es ≡ false)
-    parts = either_false (nat_lt 8 (length (rebased p q e.0))) (is_tree_too_deep p q es) shallow
+    parts = or_parts (nat_lt 8 (length (rebased p q e.0))) (is_tree_too_deep p q es) shallow
 
     by_same : (same : Bool) → same_path x e.0 ≡ same → (is_some (find path_cmp x es) ≡ true → is_tree_too_deep p q es ≡ false → length (rebased p q x) ≤ 8) →
         length (rebased p q x) ≤ 8
@@ -94,10 +80,6 @@ moved_lists F p q =
 told_moved : (k : Kind) (row : NodeFields) (parent n : ℕ) → contents_told k (record row { parent = parent; name_length = n }) ≡ contents_told k row
 told_moved kind.File row parent n = refl
 told_moved kind.Directory row parent n = refl
-
-held_is : (o : Option (List ℕ)) → IsSome o → file_of (unwrap_or o []) ≡ file_in o
-held_is None some = cc
-held_is (Some block) some = refl
 
 module _ (arena : Blocks) (heads : Heads) (slots : List Slot) {ways : List Way} (store : IsStore arena ways heads slots) (now : Store)
     (view : store_of arena (lists_staged slots) ≡ now)

@@ -3,10 +3,10 @@
 --     node_sound, found_sound   the octets of its nodes are there
 --     under_nodes               what is there is nodes
 --     none_under                nothing is below where nothing exists
-use Rattle.std.proofs.Common.{◌≡◌, ℕ, ◌+◌, ◌≤◌, List, [], length, map, take, drop, Option, Some, None, Result, Ok, Err, IfOk, refl, sym, ap, ◌∙◌, subst, arith}
+use Rattle.std.proofs.Common.{◌≡◌, ℕ, ◌+◌, ◌≤◌, List, [], length, map, take, drop, Some, Result, Ok, Err, IfOk, refl, sym, ap, ◌∙◌, subst, arith}
 use Rattle.std.proofs.lemmas.List.{take_at}
 use Rattle.std.proofs.lemmas.List.Elements.{All-map, All-nil, All-weaker}
-use Rattle.std.specs.Prelude.{All, IsSome, unwrap_or}
+use Rattle.std.specs.Prelude.{All}
 use Rattle.cfdp_paths.specs.Paths.{Path}
 use Rattle.cfdp_paths.proofs.Below.{append_from_at_or_below, length-at_or_below}
 use Rattle.cfdp_arena.specs.Arena.{Blocks, octets_at, octets_of}
@@ -22,22 +22,19 @@ use Rattle.cfdp_tree.specs.code.Contents.{IsFilled, contents_in}
 use Rattle.cfdp_tree.specs.code.Nodes.{nodes_in}
 use Rattle.cfdp_tree.specs.code.Tree.{IsNode, path_of_node, IsTree}
 use Rattle.cfdp_tree.specs.code.Index.{Heads}
-use Rattle.cfdp_tree.specs.code.Kept.{contents_told, file_of, file_in, node_told, store_of}
+use Rattle.cfdp_tree.specs.code.Kept.{contents_told, file_of, node_told, store_of}
 use Rattle.cfdp_tree.specs.code.Slots.{lists_staged, IsStore}
 use Rattle.cfdp_tree.specs.code.Survey.{IsUnder, IsNodeSurvey, path_and_node, IsSoundNode}
 use Rattle.cfdp_tree.proofs.OfRuns.ContentsLaws.{length-contents}
 use Rattle.cfdp_tree.proofs.OfNodes.ClimbLaws.{beginning}
 use Rattle.cfdp_tree.proofs.OfStore.SeenLaws.{shows, file_small, held_at}
+use Rattle.cfdp_tree.proofs.OfStore.FileLaws.{some_is}
 
 -- what an answer has, in other words
 pub items_are : {A E X : Type 0} (items : A → List X) (r : Result A E) (was now : List X) → IfOk r (λ v. items v ≡ was) → was ≡ now →
     IfOk r (λ v. items v ≡ now)
 items_are items (Ok v) was now has same = has ∙ same
 items_are items (Err e) was now has same = tt
-
-file_some : (entry : Option (List ℕ)) → IsSome entry → file_in entry ≡ file_of (unwrap_or entry [])
-file_some None some = cc
-file_some (Some block) some = refl
 
 told_octets : (arena : Blocks) (k : Kind) (row : NodeFields) → octets_in (Some (node_told arena k (contents_told k row))) ≡ contents_in arena
     (contents_told k row)
@@ -50,7 +47,7 @@ module _ (arena : Blocks) (heads : Heads) (slots : List Slot) {ways : List Way} 
   node_sound b node =
       let nodes = nodes_in arena in let block = octets_of nodes b in
       let filled : IsFilled arena (file_of block) =
-      subst (IsFilled arena) (held_at arena heads slots store now view b ∙ file_some (octets_at nodes b) node)
+      subst (IsFilled arena) (held_at arena heads slots store now view b ∙ some_is (octets_at nodes b) node)
       (store.kept.stored.filled (length (lists_staged slots) + b)) in
       let octets : files.file_octets_at now.filestore (path_of_node nodes b) ≡ contents_in arena (file_of block) =
       ap octets_in ((shows arena heads slots store now view).each b node) ∙ told_octets arena (kind_told (node_fields_of block).kind) (node_fields_of block) in

@@ -27,6 +27,8 @@ use Rattle.cfdp_tree.specs.code.Kept.{Shows}
 use Rattle.cfdp_tree.specs.code.Survey.{IsUnder, IsNodeSurvey, path_and_node, by_path, shown_node}
 use Rattle.cfdp_tree.proofs.OfNodes.TreeLaws.{same_node}
 use Rattle.cfdp_tree.proofs.OfWalks.DeepestLaws.{tree_got}
+use Rattle.std.proofs.lemmas.Bool.{and_from}
+use Rattle.cfdp_actions.proofs.Order.{same_path-symm}
 
 -- ---- in order
 
@@ -38,9 +40,6 @@ not_less Greater e apart = refl
 first_of : (a b : Bool) → (a && b) ≡ true → a ≡ true
 first_of true b e = refl
 first_of false b e = e
-
-both : (a b : Bool) → a ≡ true → b ≡ true → (a && b) ≡ true
-both a b first second = (λ k. first k && second k)
 
 module _ {X : Type 0} where
   later : (e : Path × X) (es : List (Path × X)) → IsSorted (λ e f. path_cmp e.0 f.0) (e ∷ es) → IsSorted (λ e f. path_cmp e.0 f.0) es
@@ -56,8 +55,8 @@ module _ {X : Type 0} where
       let behind = not_less (path_cmp f.0 e.0) (up 0 e (omega arith) (omega arith))
       (λ same. apart 0 1 e (omega arith) (omega arith) (sym (path_antisym f.0 e.0 same))) in
       let before : path_cmp e.0 f.0 ≡ Less = greater_back f.0 e.0 behind in
-      both (is_lt (path_cmp e.0 f.0) && below_all path_cmp e.0 es) (is_sorted path_cmp (f ∷ es))
-      (both (is_lt (path_cmp e.0 f.0)) (below_all path_cmp e.0 es) (ap is_lt before)
+      and_from (is_lt (path_cmp e.0 f.0) && below_all path_cmp e.0 es) (is_sorted path_cmp (f ∷ es))
+      (and_from (is_lt (path_cmp e.0 f.0)) (below_all path_cmp e.0 es) (ap is_lt before)
       (below_before e.0 f.0 es before (first_of (below_all path_cmp f.0 es) (is_sorted path_cmp es) rest))) rest
 
   -- an entry that is found is one of them
@@ -100,10 +99,6 @@ both_ways : (a b : Bool) → (a ≡ true → b ≡ true) → (b ≡ true → a �
 both_ways true b there back = sym (there refl)
 both_ways false true there back = back refl
 both_ways false false there back = refl
-
-same_flips : (x y : Path) → same_path x y ≡ same_path y x
-same_flips x y = both_ways (same_path x y) (same_path y x)
-    (λ e. (same_path-Decides y x).1 (sym ((same_path-Decides x y).0 e))) (λ e. (same_path-Decides x y).1 (sym ((same_path-Decides y x).0 e)))
 
 none_some : {A : Type 0} {x : A} → None ≡ Some x → ⊥
 none_some e = cc
@@ -149,7 +144,7 @@ module _ (nodes : Blocks) (tree : IsTree nodes) (p : Path) (list : List ℕ) (su
       let moved : IsPermutation (map (λ b. path_of_node nodes b) list) keys =
       subst (λ xs. IsPermutation xs keys) (map-map (λ (e : Path × ℕ). e.0) (path_and_node nodes) list)
       (IsPermutation-map (λ (e : Path × ℕ). e.0) (map (path_and_node nodes) list) found perm) in
-      let pairs = AllPairs-from_IsDistinct same_path-Decides keys (IsDistinct-IsPermutation same_path same_flips
+      let pairs = AllPairs-from_IsDistinct same_path-Decides keys (IsDistinct-IsPermutation same_path same_path-symm
       (map (λ b. path_of_node nodes b) list) keys moved first) in
       pairs i j d.0 less (omega (arith, within, length-map found (λ (e : Path × ℕ). e.0)))
       (get_or-map (λ (e : Path × ℕ). e.0) found i d d.0 (omega (arith, less, within)) ∙ same ∙ sym (get_or-map (λ (e : Path × ℕ). e.0) found j d d.0 within))

@@ -27,8 +27,8 @@ use Rattle.cfdp_tree.specs.code.Survey.{IsUnder, IsDeeper, IsNodeSurvey}
 use Rattle.cfdp_tree.proofs.OfIndex.IndexLaws.{has_first, has_later}
 use Rattle.cfdp_tree.proofs.OfNodes.TreeLaws.{same_node}
 use Rattle.cfdp_tree.proofs.OfNodes.ClimbLaws.{path_by_home, entry_at, beginning}
-use Rattle.cfdp_tree.proofs.OfOrders.NextLaws.{behind_more}
 use Rattle.cfdp_tree.proofs.OfWalks.WalkLaws.{few_names}
+use Rattle.cfdp_paths.proofs.Moving.{path_cmp-append}
 
 module _ {X Y : Type 0} (f : X → List Y) where
   pub Contains-flat_map : (xs : List X) (x : X) (y : Y) → Contains xs x → Contains (f x) y → Contains (flat_map f xs) y
@@ -137,7 +137,7 @@ module _ (nodes : Blocks) (tree : IsTree nodes) (orders : Orders) (ordered : IsI
       IsUnder nodes (path_of_node nodes x) a → IsUnder nodes (path_of_node nodes y) b → Before a b
   across place x y first second less a b under also =
       let p = path_at nodes place in let one = under_way place x first a under in let two = under_way place y second b also in
-      (λ k. path_cmp (one.1 k) (two.1 k)) ∙ behind_more p (name_at nodes x ∷ one.0) (name_at nodes y ∷ two.0)
+      (λ k. path_cmp (one.1 k) (two.1 k)) ∙ path_cmp-append p (name_at nodes x ∷ one.0) (name_at nodes y ∷ two.0)
       ∙ ap (λ o. ordering_then o (path_cmp one.0 two.0)) less
 
   pub walks_rising : (n : ℕ) → ((b : ℕ) → IsNode nodes b → All (IsUnder nodes (path_of_node nodes b)) (walk orders n b)) →
@@ -162,7 +162,7 @@ module _ (nodes : Blocks) (tree : IsTree nodes) (orders : Orders) (ordered : IsI
   before_deeper b c deep =
       let p = path_of_node nodes b in let q = drop (length p) (path_of_node nodes c) in
       let whole = append_from_at_or_below (path_of_node nodes c) p deep.under.below in
-      (λ k. path_cmp (sym (append-nil p) k) (whole k)) ∙ behind_more p [] q ∙ some_names p q (omega (arith, deep.longer, ap length whole))
+      (λ k. path_cmp (sym (append-nil p) k) (whole k)) ∙ path_cmp-append p [] q ∙ some_names p q (omega (arith, deep.longer, ap length whole))
 
   entries_has : (b e : ℕ) → IsNode nodes e → home nodes e ≡ Some b → Contains (in_order orders (Some b)) e
   entries_has b e node there = subst (λ x. Contains (in_order orders x) e) there (ordered.all e node none_some)

@@ -7,7 +7,7 @@
 --     Parts, parts              an order that is not empty, with the orders of its parts
 --     falls_below               how far a walk has to go yet
 --     no_walk                   of an empty order nothing is walked over
---     filled, read_parts, top_inside    the same by what a walk reads
+--     filled, read_parts, read_around, top_inside    the same by what a walk reads
 --     place_few                 a place has 8 names at most
 --     some_begun, none_begun, one_deeper    where a walk from a place begins
 use Rattle.std.proofs.Common.{◌≡◌, ℕ, zero, suc, ◌+◌, ◌≤◌, max, ◌-◌, ◌*◌, ◌<◌, List, [], ◌∷◌, ◌++◌, length, length-append, get_or, Bool, true, false, inl, inr, Option, Some, None, refl, sym, ap, ◌∙◌, subst, arith}
@@ -120,6 +120,9 @@ lower_right l r h e = grind (arith, e)
 pub record Parts (nodes : Blocks) (orders : Orders) (order : Order) (depth : ℕ) (before below after : Order) : Type 0 where
   pub within : order.root < length orders.links.items
   pub inside : order.root < length orders.directories.items
+  pub listed : nodes_of orders.links.items order ≡ nodes_of orders.links.items before ++ order.root ∷ nodes_of orders.links.items after
+  pub top : StandsDeep nodes depth order.root
+  pub below_listed : nodes_of orders.links.items below ≡ in_order orders (Some order.root)
   pub is_before : IsOrder orders.links.items before
   pub is_below : IsOrder orders.links.items below
   pub is_after : IsOrder orders.links.items after
@@ -158,6 +161,9 @@ parts nodes tree orders ordered small order depth is some deep n m n_is m_is bef
     record {
       within = at_top.within;
       inside = omega (arith, live_within nodes order.root node, ordered.directories);
+      listed = at_top.listed;
+      top = at.1;
+      below_listed = list;
       is_before = at_top.is_a;
       is_below = is_below;
       is_after = at_top.is_b;
@@ -214,6 +220,20 @@ read_parts arena tree orders ordered small order depth is some deep n m n_is m_i
     let inside : m < length orders.directories.items = omega (arith, m_is, plain.inside) in
     parts (nodes_in arena) tree orders ordered few order depth is some deep n m n_is m_is (left_of around) below (right_of around)
     (ap (λ (l : Links). left_of l) here) (below_is ∙ get_or_default orders.directories.items m below no_order inside) (ap (λ (l : Links). right_of l) here)
+
+-- the same where the links alone were read
+pub read_around : (arena : Blocks) → IsTree (nodes_in arena) → (orders : Orders) → IsInOrders (nodes_in arena) orders None → length arena ≤ 65536 →
+    (order : Order) (depth : ℕ) → IsOrder orders.links.items order → 0 < order.height
+    → StandAt (nodes_in arena) depth (nodes_of orders.links.items order) → (n : ℕ) → n ≡ order.root → (around : Links)
+    → around ≡ get_or orders.links.items n around →
+    Parts (nodes_in arena) orders order depth (left_of around) (order_at orders (Some order.root)) (right_of around)
+read_around arena tree orders ordered small order depth is some deep n n_is around around_is =
+    let links = orders.links.items in
+    let few : length links ≤ 65536 = omega (arith, small, ordered.links, length-map arena only_node) in
+    let within : n < length links = omega (arith, n_is, (opened_at is some n_is).within) in
+    let here : around ≡ links_at links n = around_is ∙ get_or_default links n around no_links within in
+    parts (nodes_in arena) tree orders ordered few order depth is some deep n order.root n_is refl (left_of around) (order_at orders (Some order.root))
+    (right_of around) (ap (λ (l : Links). left_of l) here) refl (ap (λ (l : Links). right_of l) here)
 
 pub top_inside : (arena : Blocks) → IsTree (nodes_in arena) → (orders : Orders) → IsInOrders (nodes_in arena) orders None → length arena ≤ 65536 →
     (order : Order) (depth : ℕ) → IsOrder orders.links.items order → 0 < order.height

@@ -32,6 +32,10 @@ impl<S: Filestore> Filestore for OneTree<S> {
         self.inner.has_entries(path)
     }
 
+    fn has_beside(&self, path: &Path, others: &[Path]) -> bool {
+        self.inner.has_beside(path, others)
+    }
+
     fn size(&self, path: &Path) -> u64 {
         self.inner.size(path)
     }
@@ -46,6 +50,10 @@ impl<S: Filestore> Filestore for OneTree<S> {
 
     fn deepest(&self, path: &Path) -> u8 {
         self.inner.deepest(path)
+    }
+
+    fn deepest_beside(&self, path: &Path, others: &[Path]) -> u8 {
+        self.inner.deepest_beside(path, others)
     }
 
     fn staged_size(&self, slot: u8) -> u64 {

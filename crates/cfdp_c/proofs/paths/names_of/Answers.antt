@@ -5,13 +5,11 @@ use Rattle.cfdp_paths.specs.Faults.{fault_of}
 use Rattle.cfdp_paths.specs.Paths.{Path}
 use Rattle.cfdp_paths.proofs.Faulty.{fault_exactly}
 use Rattle.cfdp_c.proofs.paths.names_of.Goals as goal
+use Rattle.cfdp_tree.proofs.OfNodes.MoveLaws.{true_false}
 
 either_none : (b : Bool) (path : Option Path) → path ≡ None → cond b path None ≡ None
 either_none true path none = none
 either_none false path none = refl
-
-true_false : {b : Bool} → b ≡ true → b ≡ false → ⊥
-true_false is not = cc
 
 pub returns-then-is_some-clause-err : goal.returns-then-is_some-clause-err
 returns-then-is_some-clause-err c =

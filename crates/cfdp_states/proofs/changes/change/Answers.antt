@@ -10,7 +10,8 @@ returns-in-CreateFile-clause-done c =
 
 pub returns-in-CreateDirectory-clause-done : goal.returns-in-CreateDirectory-clause-done
 returns-in-CreateDirectory-clause-done c =
-    on_ok_weaker c.put-in-CreateDirectory.result (directory-created c.args.extents.now c.args.request.now c.requires.allowed _ c.in-CreateDirectory.path c.in-CreateDirectory.is)
+    on_ok_weaker c.put-in-CreateDirectory.result
+    (directory-created c.args.extents.now c.args.request.now c.requires.allowed _ c.in-CreateDirectory.path c.in-CreateDirectory.is)
     c.put-in-CreateDirectory.ensures.ok
 
 pub returns-in-DeleteFile-clause-done : goal.returns-in-DeleteFile-clause-done
@@ -24,7 +25,8 @@ returns-in-RenameFile-clause-done c =
 
 pub returns-in-AppendFile-clause-done : goal.returns-in-AppendFile-clause-done
 returns-in-AppendFile-clause-done c =
-    appends c.args.extents.now c.args.request.now c.requires.allowed _ c.in-AppendFile.first c.in-AppendFile.second _ c.in-AppendFile.is (c.saturating_add.ensures
+    appends c.args.extents.now c.args.request.now c.requires.allowed _ c.in-AppendFile.first c.in-AppendFile.second _ c.in-AppendFile.is
+    (c.saturating_add.ensures
     ∙ (λ i. min (c.size.ensures i + c.size-more.ensures i) most_octets)) c.resize.ensures
 
 pub returns-in-ReplaceFile-clause-done : goal.returns-in-ReplaceFile-clause-done

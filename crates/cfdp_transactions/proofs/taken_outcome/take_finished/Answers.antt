@@ -5,7 +5,7 @@ use Rattle.cfdp_pdus.specs.Values.{MetadataFields}
 use Rattle.cfdp_transactions.specs.code.Books.{world_of}
 use Rattle.cfdp_transactions.specs.Ending.{taken_out}
 use Rattle.cfdp_transactions.specs.Entry.{is_live}
-use Rattle.cfdp_transactions.specs.code.Issuing.{answered_with}
+use Rattle.cfdp_transactions.specs.code.FinishedInBuffer.{answered_with}
 use Rattle.cfdp_transactions.specs.Outcome.{outcome_of}
 use Rattle.cfdp_transactions.specs.code.TableEntries.{entry_in}
 use Rattle.cfdp_transactions.specs.Writable.{IsWritable, finished_octets}

@@ -6,16 +6,18 @@ use Rattle.cfdp_tree.specs.code.Nodes.{nodes_in}
 use Rattle.cfdp_tree.specs.code.Tree.{IsNode, IsEntry, node_fields_at}
 use Rattle.cfdp_tree.specs.code.Index.{index_chain, list_of, head_place, HasHead, IsHead}
 use Rattle.cfdp_tree.proofs.OfNodes.TreeLaws.{node_live, node_octets}
-use Rattle.cfdp_tree.proofs.OfIndex.IndexLaws.{chain_more, chain_some, own_first, own_rest, rest_has, no_entry}
-use Rattle.cfdp_tree.proofs.OfIndex.HeadLaws.{all_left, head_here}
+use Rattle.cfdp_tree.proofs.OfIndex.IndexLaws.{chain_more, chain_some, own_first, rest_has, no_entry}
+use Rattle.cfdp_tree.proofs.OfIndex.HeadLaws.{head_here}
 use Rattle.cfdp_tree.proofs.index.find.Goals as goal
+use Rattle.cfdp_arena.proofs.GivenChains.{rest_all}
+use Rattle.cfdp_order.proofs.SplitLaws.{All_front}
 
 pub loop-step-init : goal.loop-step-init
 loop-step-init c =
     let nodes = nodes_in c.args.arena.now in let heads = c.args.heads.now in let place = c.place_of-place.result in
     let within = c.place_of-place.ensures.within in let head = c.index-heads-place.result in
     let is = subst (IsHead nodes None (length heads) place) (head_here heads place head within c.index-heads-place.is) (c.requires.index.each place within) in
-    let listed = all_left (HasHead nodes None (length heads) place) (list_of nodes head) is.rest is.own in
+    let listed = All_front (HasHead nodes None (length heads) place) (list_of nodes head) is.rest is.own in
     let all : head.listed ≡ head.listed - 0 = omega arith in
     record {
       own = subst (λ n. All (IsNode nodes) (index_chain nodes n head.first)) all (λ i d less. (listed i d less).node);
@@ -53,7 +55,7 @@ loop-step-preserved c =
     ap (λ o. (node_fields_of o).same_head) (sym (node_octets c.args.arena.now l.node node c.bytes.result.now c.bytes.ensures.octets))
     ∙ sym c.same_head_of-node.ensures.value in
     record {
-      own = subst (λ b. All (IsNode nodes) (index_chain nodes m b)) next_is (own_rest (IsNode nodes) l.node (index_chain nodes m next) listed);
+      own = subst (λ b. All (IsNode nodes) (index_chain nodes m b)) next_is (rest_all (IsNode nodes) l.node (index_chain nodes m next) listed);
       left = (λ b entry has. subst (λ n. Contains (index_chain nodes m n) b) next_is
           (rest_has l.node (index_chain nodes m next) b (subst (λ xs. Contains xs b) list (l.invariant.left b entry has))
           (λ e. no_entry (c.is_entry.ensures.1 (subst (IsEntry nodes c.args.directory c.args.name.now) (sym e) entry)) c.if-is_entry.false)));

@@ -8,13 +8,14 @@ use Rattle.cfdp_tree.specs.code.NodeFields.{NodeFields}
 use Rattle.cfdp_tree.specs.code.Nodes.{only_node, nodes_in}
 use Rattle.cfdp_tree.specs.code.Tree.{Relinked}
 use Rattle.cfdp_tree.specs.code.Index.{no_head, head_place, head_count, IsIndex}
-use Rattle.cfdp_tree.proofs.OfRuns.Counts.{live_count-within, free_count-written}
+use Rattle.cfdp_tree.proofs.OfRuns.Counts.{free_count-written}
 use Rattle.cfdp_tree.proofs.OfNodes.TreeLaws.{node_live}
 use Rattle.cfdp_tree.proofs.OfNodes.LinkLaws.{link_noted, link_row, link_name, link_links}
 use Rattle.cfdp_tree.proofs.OfRuns.SpareLaws.{runs_stay}
 use Rattle.cfdp_tree.proofs.OfIndex.HeadLaws.{head_here}
 use Rattle.cfdp_tree.proofs.OfIndex.InsertLaws.{inserted_beside, inserted}
 use Rattle.cfdp_tree.proofs.index.insert.Goals as goal
+use Rattle.cfdp_arena.proofs.Laws.{live_count-le}
 
 pub set_same_head-requires : goal.set_same_head-requires
 set_same_head-requires c =
@@ -34,7 +35,7 @@ overflow_add-heads c =
       ap (λ (h : Head). head_count h) same,
       get_or-le-sum_by (λ (h : Head). head_count h) heads place no_head within,
       c.requires.index.counted,
-      live_count-within (nodes_in c.args.arena.now),
+      live_count-le (nodes_in c.args.arena.now),
       length-map c.args.arena.now only_node,
       c.free-free.ensures.capacity,
     )

@@ -8,9 +8,10 @@ use Rattle.cfdp_tree.specs.code.Tree.{home, name_at}
 use Rattle.cfdp_tree.specs.code.Index.{no_head, head_place, list_of, without_node, head_count, HasHead, IsHead}
 use Rattle.cfdp_tree.proofs.OfRuns.Counts.{live_count-same}
 use Rattle.cfdp_tree.proofs.OfNodes.LinkLaws.{relinked_places}
-use Rattle.cfdp_tree.proofs.OfIndex.HeadLaws.{all_left, pairs_left, head_here}
+use Rattle.cfdp_tree.proofs.OfIndex.HeadLaws.{pairs_left, head_here}
 use Rattle.cfdp_tree.proofs.OfIndex.UnlistLaws.{removed}
 use Rattle.cfdp_tree.proofs.index.remove.Goals as goal
+use Rattle.cfdp_order.proofs.SplitLaws.{All_front}
 
 pub take_out-requires-clause-nodes : goal.take_out-requires-clause-nodes
 take_out-requires-clause-nodes c =
@@ -18,7 +19,7 @@ take_out-requires-clause-nodes c =
     c.place_of-place.ensures.within in
     let head = c.index-heads-place.result in
     let is = subst (IsHead nodes None (length heads) place) (head_here heads place head within c.index-heads-place.is) (c.requires.index.each place within) in
-    let listed = all_left (HasHead nodes None (length heads) place) (list_of nodes head) is.rest is.own in
+    let listed = All_front (HasHead nodes None (length heads) place) (list_of nodes head) is.rest is.own in
     (λ i d less. (listed i d less).node)
 
 pub take_out-requires-clause-once : goal.take_out-requires-clause-once
@@ -64,7 +65,7 @@ returns-clause-index c =
     let long : length later ≡ length nodes = length-map new only_node ∙ e.size ∙ sym (length-map old only_node) in
     let listed : (j : ℕ) → j < length heads → All (HasHead nodes None (length heads) j) (list_of nodes (slice_index_or heads j no_head)) = (λ j inside. (
     let is = index.each j inside in
-    all_left (HasHead nodes None (length heads) j) (list_of nodes (slice_index_or heads j no_head)) is.rest is.own)) in
+    All_front (HasHead nodes None (length heads) j) (list_of nodes (slice_index_or heads j no_head)) is.rest is.own)) in
     removed nodes later heads b place within index entry.node c.take_out.result own_place (relinked_places nodes later e.links) e.small
     (e.list ∙ ap (λ h. without_node b (list_of nodes h)) (sym same))
     (λ j inside other. (let list = list_of nodes (slice_index_or heads j no_head) in

@@ -15,6 +15,7 @@ use Rattle.cfdp_tree.proofs.OfOrders.OrderedLaws.{listed_in}
 use Rattle.cfdp_tree.proofs.OfOrders.NextLaws.{least_first, none_first, apart_last, apart_name, behind_name, none_below, first_below, NoneBelow}
 use Rattle.cfdp_tree.proofs.next.+next_below.Goals as goal
 use Rattle.cfdp_tree.proofs.next.+next_below.Goals.{in-Some-find+else-is_some, in_default-find}
+use Rattle.cfdp_tree.proofs.OfIndex.InsertLaws.{some_same}
 
 no_result : {A : Type 0} (r : Option A) {P : Type 0} → is_some r ≡ false → IfNone r P → P
 no_result None absent p = p
@@ -23,9 +24,6 @@ no_result (Some x) absent p = cc
 not_some : {A : Type 0} (r : Option A) {P : Type 0} → ((x : A) → r ≡ Some x → ⊥) → IfNone r P → P
 not_some None absent p = p
 not_some (Some x) absent p = absurd (absent x refl)
-
-some_same : {x y : ℕ} → Some x ≡ Some y → x ≡ y
-some_same e = cc
 
 -- the place of the call
 here : (nodes : Blocks) (place : Option ℕ) → ((d : ℕ) → place ≡ Some d → IsNode nodes d) → StandsAt nodes place (path_at nodes place)

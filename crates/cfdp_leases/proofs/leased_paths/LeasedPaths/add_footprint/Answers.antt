@@ -7,8 +7,9 @@ use Rattle.cfdp_leases.specs.declared.lease.Lease.TheVariants.{Exclusive, Shared
 use Rattle.cfdp_leases.specs.declared.leased_paths.Holder.{Holder}
 use Rattle.cfdp_leases.specs.Footprint.{leased}
 use Rattle.cfdp_leases.specs.code.Holders.{when}
-use Rattle.cfdp_leases.proofs.Held.{on_err, holds_same, in_slice, unleased, when_not, others_when, some_wider}
+use Rattle.cfdp_leases.proofs.Held.{holds_same, in_slice, unleased, when_not, others_when, some_wider}
 use Rattle.cfdp_leases.proofs.leased_paths.LeasedPaths.add_footprint.Goals as goal
+use Rattle.cfdp_actions.proofs.StagedLaws.{on_err}
 
 pub returns-in_err-add_all_new-clause-err : goal.returns-in_err-add_all_new-clause-err
 returns-in_err-add_all_new-clause-err c = λ holders rows free.

@@ -5,8 +5,9 @@ use Rattle.cfdp_paths.specs.Paths.{path_cmp, same_path}
 use Rattle.cfdp_leases.specs.declared.leased_paths.Holders.TheVariants.{One}
 use Rattle.cfdp_leases.specs.declared.leased_paths.LeasedPaths.{LeasedPaths}
 use Rattle.cfdp_leases.specs.code.Holders.{when, unless_none}
-use Rattle.cfdp_leases.proofs.Held.{IsOf, free_none, holds_kept, on_err, other_changed, some_pushed, under_changed, when_here, when_not}
+use Rattle.cfdp_leases.proofs.Held.{IsOf, free_none, holds_kept, other_changed, some_pushed, under_changed, when_here, when_not}
 use Rattle.cfdp_leases.proofs.leased_paths.LeasedPaths.add_new.Goals as goal
+use Rattle.cfdp_actions.proofs.StagedLaws.{on_err}
 
 -- no room for a row
 pub returns-in_err-place-clause-err : goal.returns-in_err-place-clause-err

@@ -7,8 +7,9 @@ use Rattle.cfdp_paths.proofs.Comparing.{same_path-Decides}
 use Rattle.cfdp_leases.specs.declared.leased_paths.Holders.TheVariants.{One}
 use Rattle.cfdp_leases.specs.declared.leased_paths.LeasedPaths.{LeasedPaths}
 use Rattle.cfdp_leases.specs.code.Holders.{when, unless_none}
-use Rattle.cfdp_leases.proofs.Held.{IsOf, holds_kept, holds_unwritten, on_err, other_absent, other_apart, other_changed, other_none, some_pushed, under_changed, under_is, under_there, under_written, unwritten, when_here, when_not}
+use Rattle.cfdp_leases.proofs.Held.{IsOf, holds_kept, holds_unwritten, other_absent, other_apart, other_changed, other_none, some_pushed, under_changed, under_is, under_there, under_written, unwritten, when_here, when_not}
 use Rattle.cfdp_leases.proofs.leased_paths.LeasedPaths.add_to_rows.Goals as goal
+use Rattle.cfdp_actions.proofs.StagedLaws.{on_err}
 
 -- no room for a row
 pub returns-in_err-place-clause-err : goal.returns-in_err-place-clause-err

@@ -3,10 +3,10 @@ use Rattle.cfdp_paths.specs.Paths.{same_path}
 use Rattle.cfdp_paths.proofs.Comparing.{same_path-Decides}
 use Rattle.cfdp_leases.specs.declared.leased_paths.LeasedPaths.{LeasedPaths}
 use Rattle.cfdp_leases.specs.code.Holders.{Holds, IsOtherPath, unless_none}
-use Rattle.cfdp_leases.proofs.Sets.{same_path-itself}
 use Rattle.cfdp_leases.proofs.Held.{emptied, other_absent, other_apart, other_changed, under_removed}
 use Rattle.cfdp_leases.proofs.leased_paths.LeasedPaths.drop_path.Goals as goal
 use Rattle.cfdp_leases.proofs.leased_paths.LeasedPaths.drop_path.Goals.{in_default-via-in-Some+else-eq, in_default-via-in_default}
+use Rattle.cfdp_actions.proofs.Order.{same_path-refl}
 
 pub returns-in-Some : goal.returns-in-Some
 returns-in-Some c = λ holders held.
@@ -17,7 +17,7 @@ returns-in-Some c = λ holders held.
     under_removed old new holders held k (λ p. emptied (same_path p k) (holders p)) (λ q other. ap (λ b. emptied b (holders q)) other)
     c.hash-hash.result c.hash-hash.ensures row (sym c.in-Some.ensures.value) ((same_path-Decides row.path k).0 (sym c.eq.ensures ∙ c.if-eq.true))
     (λ p. refl) c.remove.ensures.updates.0
-    (sym (ap (λ b. unless_none (emptied b (holders k))) (same_path-itself k)))
+    (sym (ap (λ b. unless_none (emptied b (holders k))) (same_path-refl k)))
 
 pub returns-in_default : goal.returns-in_default
 returns-in_default c = λ holders held.
@@ -37,4 +37,4 @@ returns-in_default c = λ holders held.
     ] in
     other_changed old new holders before.1 k (λ p. emptied (same_path p k) (holders p)) (λ q other. ap (λ b. emptied b (holders q)) other) None (λ h. refl)
     c.remove-in_default.ensures.updates.0 before.0
-    (sym (ap (λ b. unless_none (emptied b (holders k))) (same_path-itself k)))
+    (sym (ap (λ b. unless_none (emptied b (holders k))) (same_path-refl k)))

@@ -2,9 +2,9 @@ use Rattle.std.proofs.Common.{◌≡◌, List, length, Some, refl, sym, ap, subs
 use Rattle.std.specs.Prelude.{slice_get}
 use Rattle.std.proofs.lemmas.Option.{slice_get_read}
 use Rattle.cfdp_sessions.specs.Sessions.{SessionFields, AreDistinct, session_id}
-use Rattle.cfdp_sessions.proofs.Names.{same_is}
 use Rattle.cfdp_sessions.proofs.Places.{place_here}
 use Rattle.cfdp_sessions.proofs.sessions.Sessions.is_at.Goals as goal
+use Rattle.cfdp_leases.proofs.Admitted.{same_is}
 
 pub returns-then-index-len : goal.returns-then-index-len
 returns-then-index-len c same =

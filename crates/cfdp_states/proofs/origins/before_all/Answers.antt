@@ -1,0 +1,21 @@
+use Rattle.std.proofs.Common.{sym, ◌∙◌, ap, subst, ◌++◌, ◌-◌, map, drop, length, List, arith}
+use Rattle.cfdp_paths.specs.Paths.{Path}
+use Rattle.cfdp_actions.specs.Actions.{Perform}
+use Rattle.cfdp_states.specs.Sparse.{named_in}
+use Rattle.cfdp_states.specs.code.Sparse.{SeesBy}
+use Rattle.cfdp_states.proofs.SparseLists.{sees_next, sees_end}
+use Rattle.cfdp_states.proofs.origins.before_all.Goals as goal
+
+pub loop-number-init : goal.loop-number-init
+loop-number-init c =
+    let requests = c.args.requests.now in
+    subst (λ (paths : List Path). SeesBy paths (map Perform (drop (length requests) requests))) (sym c.new-paths.ensures.items)
+    (sees_end requests (length requests) (omega arith))
+
+pub loop-number-preserved : goal.loop-number-preserved
+loop-number-preserved c =
+    let request = c.index-requests-number.result in
+    subst (λ (paths : List Path). SeesBy paths (map Perform (drop (c.loop-number.number - 1) c.args.requests.now)))
+    (sym (c.in_ok-add_named.ensures.added ∙ ap (λ (paths : List Path). paths ++ named_in (Perform request)) c.in_ok-paths.ensures))
+    (sees_next c.args.requests.now c.loop-number.paths.items (c.loop-number.number - 1) c.loop-number.number request (omega arith) (omega arith)
+    c.index-requests-number.is c.in_ok-add_named.ensures.named c.loop-number.invariant)

@@ -1,0 +1,8 @@
+use Rattle.std.proofs.Common.{sym, ◌∙◌}
+use Rattle.cfdp_states.proofs.SparseViews.{tells_sparse, bare_by}
+use Rattle.cfdp_states.proofs.sparse.SparseView.apply.Goals as goal
+
+pub returns-clause-told : goal.returns-clause-told
+returns-clause-told c =
+    tells_sparse c.args.self.now.view c.apply.new.self c.args.request.now c.in_ok-status.status
+    (bare_by c.args.self.now.view c.args.request.now (sym c.joins.ensures ∙ c.if-joins.false)) c.in_ok-status.ensures.told

@@ -1,0 +1,132 @@
+//! The view of what a list of items sees.
+
+ghost use Rattle.std.specs.Prelude.{◌≡◌, is_none, None, [], IfOk, IfSome, OnOk, Ok};
+ghost use Rattle.std.specs.Option.{option_copied};
+ghost use Rattle.cfdp_actions.specs.Filestore.{blocks};
+ghost use Rattle.cfdp_leases.specs.Items.{items_of};
+ghost use Rattle.cfdp_states.specs.Alone.{alone};
+ghost use Rattle.cfdp_states.specs.Sparse.{IsSparseViewOf, TellsSparse, TellsSparseInstall};
+ghost use Rattle.cfdp_states.specs.code.Sparse.{joins_at};
+ghost use Rattle.cfdp_states.specs.Views.{only};
+
+use crate::origins::shown;
+use crate::sparse_survey::survey_sparse;
+use crate::view::View;
+use cfdp_actions::{Filestore, Protected, Request};
+use cfdp_leases::Footprint;
+use cfdp_paths::{Memory, Path};
+use cfdp_status::{Action, Status};
+use std::alloc::Global;
+
+/// The most blocks that a store has.
+const MOST_BLOCKS: u128 = 65_536;
+
+/// A view of what a list of items sees: of each directory whose entries the list does not name it has one entry
+/// instead of them. So what it costs grows with the list, and not with the entries of a directory.
+///
+/// Such a view says how that list goes when it runs alone (CCSDS 727.0-B-5, filestore procedures), as a [`View`] does.
+#[derive(Drop)]
+pub struct SparseView<'a> {
+    view: View<'a>,
+}
+
+impl<'a> SparseView<'a> {
+    /// What is in the store at the leased paths, before any item, as far as the list sees it: the install of a file at
+    /// the destination, if there is one, and then the requests. `None` where the view cannot be made: a store has
+    /// something below a path of 8 names, or no name is left for what is not looked at. A caller asks [`View::of`]
+    /// then.
+    ///
+    /// # Errors
+    ///
+    /// [`Memory`] when out of memory.
+    ///
+    /// Cost: for each named path, at the time of its item, a copy of its path for each rename before that item. For
+    /// each of these paths, and each of their ancestors, a `kind` and a `has_entries`, and a `size` where that is a
+    /// file; for a directory with entries that is leased exclusively a `has_beside` and a few allocations for each
+    /// named path, and where one of the requests moves it a `deepest_beside`.
+    pub fn of<S: Filestore>(
+        alloc: Global,
+        store: &S,
+        protected: &'a Protected,
+        footprint: &Footprint,
+        destination: Option<&Path>,
+        requests: &[Request],
+    ) -> Result<Option<SparseView<'a>>, Memory>
+        ensures told { IfOk result (λ made. IfSome made (λ it.
+            let F = alone (only footprint.now (S.state store.now).filestore) [] in
+            IsSparseViewOf it.view (items_of (option_copied destination.entry) requests.now) F
+            (blocks F) (blocks F) 0)) }
+        ensures prefixes { IfOk result (λ made. IfSome made (λ it. it.view.prefixes ≡ protected.now)) }
+    {
+        let paths = shown(alloc, footprint, destination, requests)?;
+        let Some(extents) = survey_sparse(alloc, store, footprint, &paths, requests)? else {
+            return Ok(None);
+        };
+        if extents.blocks() > MOST_BLOCKS {
+            return Ok(None);
+        }
+        let view = View::begun(protected, extents);
+        Ok(Some(SparseView { view }))
+    }
+
+    /// Performs the next request of the list on the view, with unlimited room, and returns its status (CCSDS
+    /// 727.0-B-5, filestore procedures), as [`View::apply`] does. `None` exactly if the view can't say, and then it is
+    /// as before: something is to move to a path at which nothing is, but below which the view has something.
+    ///
+    /// # Errors
+    ///
+    /// [`Memory`] when out of memory; the view is then as before. Cost: that of [`View::apply`] on what the view has.
+    pub fn apply(&mut self, request: &Request) -> Result<Option<Status>, Memory>
+        ensures told { IfOk result (λ told. IfSome told (λ status.
+            TellsSparse self.old.view self.new.view request.now status)) }
+        ensures joins { IfOk result (λ told. is_none told ≡ joins_at self.old.view.extents request.now) }
+        ensures same { result ≡ Ok None → self.new ≡ self.old }
+        ensures prefixes { OnOk result (self.new.view.prefixes ≡ self.old.view.prefixes) }
+    {
+        if self.joins(request) {
+            return Ok(None);
+        }
+        let status = self.view.apply(request)?;
+        Ok(Some(status))
+    }
+
+    /// Installs a delivered file of at most `bound` octets at the path (CCSDS 727.0-B-5, copy file procedures), and
+    /// returns whether that is allowed, as [`View::install`] does.
+    ///
+    /// # Errors
+    ///
+    /// [`Memory`] when out of memory; the view is then as before.
+    pub fn install(&mut self, path: &Path, bound: u64) -> Result<bool, Memory>
+        ensures told { IfOk result (λ done. TellsSparseInstall self.old.view self.new.view path.now bound done) }
+        ensures prefixes { OnOk result (self.new.view.prefixes ≡ self.old.view.prefixes) }
+    {
+        self.view.install(path, bound)
+    }
+
+    /// The view itself, which says what the items needed and took.
+    pub fn into_view(self) -> View<'a>
+        ensures { result ≡ self.entry.view }
+    {
+        self.view
+    }
+
+    /// Whether something is to move to a path at which nothing is, but below which the view has something.
+    fn joins(&self, request: &Request) -> bool
+        ensures { result ≡ joins_at self.now.view.extents request.now }
+    {
+        match request.action() {
+            Action::RenameFile => {
+                let second = request.second().unwrap();
+                self.view.has_below(second) && !self.view.has(second)
+            }
+            Action::CreateFile
+            | Action::DeleteFile
+            | Action::AppendFile
+            | Action::ReplaceFile
+            | Action::CreateDirectory
+            | Action::RemoveDirectory
+            | Action::DenyFile
+            | Action::DenyDirectory => false,
+        }
+    }
+}

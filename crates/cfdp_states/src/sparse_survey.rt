@@ -1,0 +1,300 @@
+//! What a list of items sees of a store, without octets.
+
+ghost use Rattle.std.specs.Prelude.{◌≡◌, ◌+◌, ◌<◌, ◌≤◌, ◌||◌, Bool, if◌then◌else◌, is_some, IsTrue, [], Ok, IfOk, IfSome, OnOk, length, true};
+ghost use Rattle.cfdp_paths.specs.Paths.{Path, is_at_or_below, same_path};
+ghost use Rattle.cfdp_actions.specs.Filestore.{Filestore, blocks, deepest_beside, has_beside, node_at};
+ghost use Rattle.cfdp_leases.specs.Footprint.{is_exclusive};
+ghost use Rattle.cfdp_states.specs.Alone.{alone};
+ghost use Rattle.cfdp_states.specs.Views.{only};
+ghost use Rattle.cfdp_states.specs.code.Sketching.{AddsWhere};
+ghost use Rattle.cfdp_states.specs.code.Sparse.{FillsAt, HoldsLeased, IsFiller, IsSparseSurvey, IsUnseenBelow, children, is_moved, is_shown, moves_at, shows};
+
+use crate::extent::Extent;
+use crate::extents::Extents;
+use crate::surveying::add_extent;
+use cfdp_actions::{Filestore, Request};
+use cfdp_leases::{Footprint, Lease, covers};
+use cfdp_paths::{MOST_NAMES, Memory, Path};
+use cfdp_status::Action;
+use std::alloc::{AllocError, Global};
+
+/// What is at the paths and above them, as far as the footprint covers it. A directory that is leased exclusively has
+/// one entry instead of those that are on the way to no path; it is as deep as these where the requests move it.
+/// `None` where that cannot be said.
+///
+/// Cost: for each path at or above one of the paths a `kind`, a `has_entries`, and a `size` where that is a file; for
+/// each that is leased exclusively and has entries a `has_beside`, and where a request moves it a `deepest_beside`.
+pub fn survey_sparse<S: Filestore>(
+    alloc: Global,
+    store: &S,
+    footprint: &Footprint,
+    paths: &[Path],
+    requests: &[Request],
+) -> Result<Option<Extents>, Memory>
+    requires { HoldsLeased paths.now footprint.now }
+    ensures extents { IfOk result (λ found. IfSome found (λ extents.
+        IsSparseSurvey (is_moved requests.now) (shows paths.now) extents (λ p. is_shown paths.now p)
+        (alone (only footprint.now (S.state store.now).filestore) []))) }
+    ensures small { blocks (S.state store.now).filestore ≤ 65536 }
+{
+    // Its contract says that few blocks are in use, so that an extent can say each size.
+    let _ = store.takes_no_memory();
+    let mut extents = Extents::new(alloc);
+    for path in paths {
+        if !add_beginnings(alloc, &mut extents, store, footprint, paths, requests, path)? {
+            return Ok(None);
+        }
+    }
+    Ok(Some(extents))
+}
+
+/// Adds what is at a path and above it; `false` where that cannot be said.
+fn add_beginnings<S: Filestore>(
+    alloc: Global,
+    extents: &mut Extents,
+    store: &S,
+    footprint: &Footprint,
+    paths: &[Path],
+    requests: &[Request],
+    path: &Path,
+) -> Result<bool, Memory>
+    requires leased { HoldsLeased paths.now footprint.now }
+    requires small { blocks (S.state store.now).filestore ≤ 65536 }
+    requires shown { IsTrue (is_shown paths.now path.now) }
+    ensures { result ≡ Ok true → (done : Path → Bool) →
+        let F = alone (only footprint.now (S.state store.now).filestore) [] in
+        IsSparseSurvey (is_moved requests.now) (shows paths.now) extents.old done F
+        → IsSparseSurvey (is_moved requests.now) (shows paths.now) extents.new
+        (λ p. done p || is_at_or_below path.now p) F }
+{
+    for depth in 1..path.depth() + 1 {
+        let beginning = path.beginning(alloc, depth)?;
+        if !add_path(
+            alloc, extents, store, footprint, paths, requests, &beginning,
+        )? {
+            return Ok(false);
+        }
+    }
+    Ok(true)
+}
+
+/// Adds what is at a path; `false` where that cannot be said.
+fn add_path<S: Filestore>(
+    alloc: Global,
+    extents: &mut Extents,
+    store: &S,
+    footprint: &Footprint,
+    paths: &[Path],
+    requests: &[Request],
+    path: &Path,
+) -> Result<bool, Memory>
+    requires leased { HoldsLeased paths.now footprint.now }
+    requires small { blocks (S.state store.now).filestore ≤ 65536 }
+    requires shown { IsTrue (is_shown paths.now path.now) }
+    ensures { result ≡ Ok true → (done : Path → Bool) →
+        let F = alone (only footprint.now (S.state store.now).filestore) [] in
+        IsSparseSurvey (is_moved requests.now) (shows paths.now) extents.old done F
+        → IsSparseSurvey (is_moved requests.now) (shows paths.now) extents.new (λ p. done p || same_path p path.now) F }
+{
+    let depth = path.depth();
+    if extents.get(path).is_some() {
+        return Ok(true);
+    }
+    let is_full = store.has_entries(path);
+    if is_full && depth == MOST_NAMES {
+        return Ok(false);
+    }
+    let is_exclusive = add_node(extents, store, footprint, path)?;
+    if !is_full || !is_exclusive {
+        return Ok(true);
+    }
+    add_filler(alloc, extents, store, paths, requests, path)
+}
+
+/// Adds what is at a path, if the footprint covers it, and returns whether it does so exclusively.
+fn add_node<S: Filestore>(
+    extents: &mut Extents,
+    store: &S,
+    footprint: &Footprint,
+    path: &Path,
+) -> Result<bool, Memory>
+    requires { blocks (S.state store.now).filestore ≤ 65536 }
+    ensures added { OnOk result (AddsWhere (λ p. same_path p path.now)
+        (alone (only footprint.now (S.state store.now).filestore) []) extents.old extents.new) }
+    ensures exclusive { IfOk result (λ exclusive. exclusive ≡ is_exclusive footprint.now path.now) }
+{
+    match covers(footprint, path) {
+        None => Ok(false),
+        Some(Lease::Exclusive) => {
+            add_extent(extents, store, path)?;
+            Ok(true)
+        }
+        Some(Lease::Shared) => {
+            add_extent(extents, store, path)?;
+            Ok(false)
+        }
+    }
+}
+
+/// Adds one directory below a path, where something is there that is on the way to none of the paths; `false` where no
+/// name is left for it.
+fn add_filler<S: Filestore>(
+    alloc: Global,
+    extents: &mut Extents,
+    store: &S,
+    paths: &[Path],
+    requests: &[Request],
+    path: &Path,
+) -> Result<bool, Memory>
+    requires { length path.now < 8 }
+    ensures { result ≡ Ok true → (F : Filestore)
+        → ((x : Path) → IsTrue (is_at_or_below x path.now)
+        → node_at F x ≡ node_at (S.state store.now).filestore x)
+        → FillsAt (shows paths.now) (is_moved requests.now) F path.now extents.old extents.new }
+{
+    let Some(depth) = hidden_depth(alloc, store, paths, requests, path)? else {
+        return Ok(true);
+    };
+    let Some(filler) = filler(alloc, paths, path, depth)? else {
+        return Ok(false);
+    };
+    extents.insert(filler, Extent::Directory)?;
+    Ok(true)
+}
+
+/// The number of names of the directory that is added below a path, where something is there that is on the way to
+/// none of the paths: as many as the longest such path has, if a request moves the path. `None` where nothing is there.
+fn hidden_depth<S: Filestore>(
+    alloc: Global,
+    store: &S,
+    paths: &[Path],
+    requests: &[Request],
+    path: &Path,
+) -> Result<Option<usize>, Memory>
+    requires { length path.now < 8 }
+    ensures there { IfOk result (λ found. is_some found
+        ≡ has_beside (S.state store.now).filestore path.now (children path.now paths.now)) }
+    ensures deep { IfOk result (λ found. IfSome found (λ depth. depth ≡ (if is_moved requests.now path.now
+        then deepest_beside (S.state store.now).filestore path.now (children path.now paths.now)
+        else length path.now + 1))) }
+    ensures within { IfOk result (λ found. IfSome found (λ depth. depth ≤ 8)) }
+{
+    let others = children(alloc, paths, path)?;
+    Ok(depth_beside(store, &others, requests, path))
+}
+
+/// The same, where the others are the children of the path that are on the way to the paths.
+fn depth_beside<S: Filestore>(
+    store: &S,
+    others: &[Path],
+    requests: &[Request],
+    path: &Path,
+) -> Option<usize>
+    requires { length path.now < 8 }
+    ensures there { is_some result ≡ has_beside (S.state store.now).filestore path.now others.now }
+    ensures deep { IfSome result (λ depth. depth ≡ (if is_moved requests.now path.now
+        then deepest_beside (S.state store.now).filestore path.now others.now else length path.now + 1)) }
+    ensures within { IfSome result (λ depth. depth ≤ 8) }
+{
+    if !store.has_beside(path, others) {
+        return None;
+    }
+    if is_moved(requests, path) {
+        Some(usize::from(store.deepest_beside(path, others)))
+    } else {
+        Some(path.depth() + 1)
+    }
+}
+
+/// The children of a path that are at or above one of the paths.
+fn children(alloc: Global, paths: &[Path], path: &Path) -> Result<Vec<Path>, Memory>
+    ensures { IfOk result (λ found. found.items ≡ children path.now paths.now) }
+{
+    let depth = path.depth() + 1;
+    let mut found = Vec::new(alloc);
+    for other in paths {
+        if other.is_below(path) {
+            found.push(other.beginning(alloc, depth)?)?;
+        }
+    }
+    Ok(found)
+}
+
+/// Whether one of the requests moves the path, or one that is above it.
+fn is_moved(requests: &[Request], path: &Path) -> bool
+    ensures { result ≡ is_moved requests.now path.now }
+{
+    requests.iter().any(|request| moves(request, path))
+}
+
+/// Whether a request moves the path, or one that is above it.
+fn moves(request: &Request, path: &Path) -> bool
+    ensures { result ≡ moves_at request.now path.now }
+{
+    match request.action() {
+        Action::RenameFile => path.is_at_or_below(request.first()),
+        Action::CreateFile
+        | Action::DeleteFile
+        | Action::AppendFile
+        | Action::ReplaceFile
+        | Action::CreateDirectory
+        | Action::RemoveDirectory
+        | Action::DenyFile
+        | Action::DenyDirectory => false,
+    }
+}
+
+/// A path of `depth` names below a path, whose child of that path is at or above none of the paths; `None` where no
+/// name is left for the child.
+fn filler(alloc: Global, paths: &[Path], path: &Path, depth: usize) -> Result<Option<Path>, Memory>
+    requires below { length path.now < depth }
+    requires within { depth ≤ 8 }
+    ensures { IfOk result (λ found. IfSome found (λ filler. IsUnseenBelow paths.now path.now depth filler)) }
+{
+    for octet in b'0'..u8::MAX {
+        let filler = below(alloc, path, depth, octet)?;
+        let child = filler.beginning(alloc, path.depth() + 1)?;
+        if !is_shown(paths, &child) {
+            return Ok(Some(filler));
+        }
+    }
+    Ok(None)
+}
+
+/// Whether the path is at or above one of the paths.
+fn is_shown(paths: &[Path], path: &Path) -> bool
+    ensures { result ≡ is_shown paths.now path.now }
+{
+    paths.iter().any(|other| other.is_at_or_below(path))
+}
+
+/// A path of `depth` names below the path, whose own names are all this octet.
+fn below(alloc: Global, path: &Path, depth: usize, octet: u8) -> Result<Path, Memory>
+    requires below { length path.now < depth }
+    requires within { depth ≤ 8 }
+    ensures { IfOk result (λ filler. IsFiller path.now depth filler) }
+{
+    let longest = longest(alloc, octet)?;
+    let front = longest.beginning(alloc, path.depth())?;
+    let deep = longest.beginning(alloc, depth)?;
+    let filler = deep.rebased(alloc, &front, path)?;
+    Ok(filler)
+}
+
+/// A path of as many names as a path may have, all of them this octet, which is a name.
+fn longest(alloc: Global, octet: u8) -> Result<Path, Memory>
+    ensures { IfOk result (λ path. length path ≡ 8) }
+{
+    let text = [
+        octet, b'/', octet, b'/', octet, b'/', octet, b'/', octet, b'/', octet, b'/', octet, b'/',
+        octet,
+    ];
+    let Ok(path) = Path::parse(alloc, &text) else {
+        return Err(AllocError);
+    };
+    if path.depth() == MOST_NAMES {
+        Ok(path)
+    } else {
+        Err(AllocError)
+    }
+}

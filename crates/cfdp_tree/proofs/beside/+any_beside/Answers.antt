@@ -1,0 +1,111 @@
+use Rattle.std.proofs.Common.{◌≡◌, ◌||◌, ◌+◌, true, false, length, sym, ap, ◌∙◌, subst, arith}
+use Rattle.std.specs.List.{list_any}
+use Rattle.cfdp_order.specs.declared.links.Order.{Order}
+use Rattle.cfdp_order.specs.Orders.{nodes, left_of, right_of, IsOrder}
+use Rattle.cfdp_order.proofs.TreeLaws.{no_nodes}
+use Rattle.cfdp_tree.specs.code.Beside.{is_entry_beside}
+use Rattle.cfdp_tree.specs.code.Nodes.{nodes_in}
+use Rattle.cfdp_tree.specs.code.Walk.{StandAt}
+use Rattle.cfdp_tree.proofs.OfWalks.OtherLaws.{any_parts}
+use Rattle.cfdp_tree.proofs.OfWalks.WalkLaws.{filled, read_around, top_inside}
+use Rattle.cfdp_tree.proofs.beside.+any_beside.Goals as goal
+use Rattle.cfdp_tree.proofs.beside.+any_beside.Goals.{then-any_beside, else-any_beside}
+
+differ : true ≡ false → ⊥
+differ e = cc
+
+pub returns-then-is_empty : goal.returns-then-is_empty
+returns-then-is_empty t c =
+    ap (list_any (is_entry_beside c.args.others.now.directory.now c.args.others.now.paths.now (nodes_in c.args.arena.now)))
+    (sym (no_nodes c.args.orders.now.links.items c.args.order (c.is_empty.ensures.0 c.if-is_empty.true)))
+
+pub index-requires : goal.index-requires
+index-requires t c =
+    let top = top_inside c.args.arena.now c.requires.tree c.args.orders.now c.requires.ordered c.free-free.ensures.capacity.1 c.args.order
+    (length c.args.others.now.directory.now + 1)
+    c.requires.order (filled c.is_empty.result c.args.order.height c.if-is_empty.false c.is_empty.ensures.1) c.requires.deep in
+    omega (arith, c.from.ensures, top.0, c.args.orders.now.links.ok.0)
+
+pub any_beside-requires : goal.any_beside-requires
+any_beside-requires t c =
+    let p = read_around c.args.arena.now c.requires.tree c.args.orders.now c.requires.ordered c.free-free.ensures.capacity.1 c.args.order
+    (length c.args.others.now.directory.now + 1)
+    c.requires.order (filled c.is_empty.result c.args.order.height c.if-is_empty.false c.is_empty.ensures.1) c.requires.deep
+    c.from.result c.from.ensures c.index.result.now c.index.ensures in (
+      omega (arith, c.decreases, p.low_before, ap (λ (o : Order). o.height) c.left.ensures),
+      (
+        c.requires.tree,
+        (
+          c.requires.ordered,
+          (
+            subst (λ (o : Order). IsOrder c.args.orders.now.links.items o) (sym c.left.ensures) p.is_before,
+            subst (λ (o : Order). StandAt (nodes_in c.args.arena.now) (length c.args.others.now.directory.now + 1) (nodes c.args.orders.now.links.items o))
+                (sym c.left.ensures) p.deep_before,
+          ),
+        ),
+      ),
+    )
+
+pub leaves-requires : goal.leaves-requires
+leaves-requires t c =
+    let p = read_around c.args.arena.now c.requires.tree c.args.orders.now c.requires.ordered c.free-free.ensures.capacity.1 c.args.order
+    (length c.args.others.now.directory.now + 1)
+    c.requires.order (filled c.is_empty.result c.args.order.height c.if-is_empty.false c.is_empty.ensures.1) c.requires.deep
+    c.from.result c.from.ensures c.index.result.now c.index.ensures in
+    record { node = p.top.node; named = c.requires.tree.named c.args.order.root p.top.node }
+
+pub any_beside-requires-else-leaves : goal.any_beside-requires-else-leaves
+any_beside-requires-else-leaves t c =
+    let p = read_around c.args.arena.now c.requires.tree c.args.orders.now c.requires.ordered c.free-free.ensures.capacity.1 c.args.order
+    (length c.args.others.now.directory.now + 1)
+    c.requires.order (filled c.is_empty.result c.args.order.height c.if-is_empty.false c.is_empty.ensures.1) c.requires.deep
+    c.from.result c.from.ensures c.index.result.now c.index.ensures in (
+      omega (arith, c.decreases, p.low_after, ap (λ (o : Order). o.height) c.right.ensures),
+      (
+        c.requires.tree,
+        (
+          c.requires.ordered,
+          (
+            subst (λ (o : Order). IsOrder c.args.orders.now.links.items o) (sym c.right.ensures) p.is_after,
+            subst (λ (o : Order). StandAt (nodes_in c.args.arena.now) (length c.args.others.now.directory.now + 1) (nodes c.args.orders.now.links.items o))
+                (sym c.right.ensures) p.deep_after,
+          ),
+        ),
+      ),
+    )
+
+pub returns-then-leaves : goal.returns-then-leaves
+returns-then-leaves t c =
+    let links = c.args.orders.now.links.items in let around = c.index.result.now in let root = c.args.order.root in
+    let test = is_entry_beside c.args.others.now.directory.now c.args.others.now.paths.now (nodes_in c.args.arena.now) in
+    let p = read_around c.args.arena.now c.requires.tree c.args.orders.now c.requires.ordered c.free-free.ensures.capacity.1 c.args.order
+    (length c.args.others.now.directory.now + 1)
+    c.requires.order (filled c.is_empty.result c.args.order.height c.if-is_empty.false c.is_empty.ensures.1) c.requires.deep
+    c.from.result c.from.ensures c.index.result.now c.index.ensures in
+    let first = c.any_beside.ensures ∙ ap (λ (o : Order). list_any test (nodes links o)) c.left.ensures in
+    let whole = any_parts test (nodes links (left_of around)) root (nodes links (right_of around)) (nodes links c.args.order) p.listed in
+    elim c.if-any_beside.branch [
+      | then-any_beside w ↦ w.value-is ∙ w.if-any_beside.true
+          ∙ sym (whole ∙ ap (λ b. b || (test root || list_any test (nodes links (right_of around)))) (sym first ∙ w.if-any_beside.true))
+      | else-any_beside w ↦ c.if-leaves.true
+          ∙ sym (whole ∙ (λ k. (sym first ∙ w.if-any_beside.false) k
+          || ((sym w.leaves.ensures ∙ sym w.value-is ∙ c.if-leaves.true) k || list_any test (nodes links (right_of around)))))
+    ]
+
+pub returns-else-leaves : goal.returns-else-leaves
+returns-else-leaves t c =
+    let links = c.args.orders.now.links.items in let around = c.index.result.now in let root = c.args.order.root in
+    let test = is_entry_beside c.args.others.now.directory.now c.args.others.now.paths.now (nodes_in c.args.arena.now) in
+    let p = read_around c.args.arena.now c.requires.tree c.args.orders.now c.requires.ordered c.free-free.ensures.capacity.1 c.args.order
+    (length c.args.others.now.directory.now + 1)
+    c.requires.order (filled c.is_empty.result c.args.order.height c.if-is_empty.false c.is_empty.ensures.1) c.requires.deep
+    c.from.result c.from.ensures c.index.result.now c.index.ensures in
+    let first = c.any_beside.ensures ∙ ap (λ (o : Order). list_any test (nodes links o)) c.left.ensures in
+    let last = c.any_beside-else-leaves.ensures ∙ ap (λ (o : Order). list_any test (nodes links o)) c.right.ensures in
+    let whole = any_parts test (nodes links (left_of around)) root (nodes links (right_of around)) (nodes links c.args.order) p.listed in
+    elim c.if-any_beside.branch [
+      | then-any_beside w ↦ absurd (differ (sym w.if-any_beside.true ∙ sym w.value-is ∙ c.if-leaves.false))
+      | else-any_beside w ↦ last
+          ∙ sym (whole ∙ (λ k. (sym first ∙ w.if-any_beside.false) k
+          || ((sym w.leaves.ensures ∙ sym w.value-is ∙ c.if-leaves.false) k || list_any test (nodes links (right_of around)))))
+    ]

@@ -1,0 +1,20 @@
+use Rattle.std.proofs.Common.{◌≡◌, true, false, [], refl, sym, ap, ◌∙◌, slice_index_or}
+use Rattle.cfdp_paths.specs.Paths.{same_name}
+use Rattle.cfdp_paths.proofs.Comparing.{same_name-compared}
+use Rattle.cfdp_tree.proofs.OfWalks.OtherLaws.{entry_is, entry_other}
+use Rattle.cfdp_tree.proofs.beside.Others.is_entry.Goals as goal
+
+pub returns-then-is_child_of : goal.returns-then-is_child_of
+returns-then-is_child_of c =
+    let p = c.args.self.now.directory.now in let q = c.args.path.now in let name = c.args.name.now in
+    same_name-compared c.eq.result c.name.result.now name name c.eq.ensures refl
+    ∙ ap (λ n. same_name n name) (c.name.ensures.name ∙ ap (λ k. slice_index_or q k []) c.depth.ensures.depth)
+    ∙ entry_is p name q c.depth.ensures.within.some (c.is_child_of.ensures.0 c.if-is_child_of.true)
+
+pub returns-else-is_child_of : goal.returns-else-is_child_of
+returns-else-is_child_of c =
+    c.if-is_child_of.false
+    ∙ entry_other c.args.self.now.directory.now c.args.name.now c.args.path.now (λ above. differ (sym c.if-is_child_of.false ∙ c.is_child_of.ensures.1 above))
+  where
+    differ : false ≡ true → ⊥
+    differ e = cc

@@ -1,0 +1,199 @@
+/* The workloads with a receiver, for bench.c, which includes this after what they use of it. Their size is the number
+ * of other transactions: each has a list of 64 of the longest paths, and waits for its EOF PDU. */
+#ifndef BENCH_RECEIVER_H
+#define BENCH_RECEIVER_H
+
+#include "../../include/cfdp_receiver.h"
+#include "bench.h"
+
+enum {
+    RANGES = 32,                                /* pieces that came, each between two gaps */
+    GAPPED = (2 * RANGES + 1) * SMALL_PIECE,    /* octets of the file that they are of */
+    INTERVAL = 1000,                            /* of each timer */
+    LEAST_NAK = 72                              /* so that the gaps need the most NAK PDUs */
+};
+
+static struct cfdp_receiver receiver = CFDP_RECEIVER_EMPTY;
+static struct cfdp_report report;
+
+/* A call's report came: it has to say this of the input. */
+static void note_report(enum cfdp_answer answer, enum cfdp_became wanted) {
+    if (answer != CFDP_ANSWER_DONE || report.became != wanted) fail("another report");
+    note((uint64_t)report.became | (uint64_t)report.pdus << 8 | (uint64_t)report.indication.kind << 16);
+    note_reply(&report.reply);
+}
+
+/* The PDU that was made comes, in acknowledged mode. */
+static void hear(enum cfdp_became wanted) {
+    pdu[0] &= 0xfb;
+    note_report(cfdp_receiver_receive(&receiver, 0, pdu, length, &report), wanted);
+}
+
+static void make_receiver(void) {
+    const struct cfdp_mib mib = {.ack_interval = INTERVAL,
+        .ack_limit = 10,
+        .ack_handler = CFDP_HANDLER_CANCEL,
+        .nak_interval = INTERVAL,
+        .nak_limit = 10,
+        .nak_handler = CFDP_HANDLER_CANCEL,
+        .check_interval = INTERVAL,
+        .check_handler = CFDP_HANDLER_CANCEL,
+        .inactivity_interval = 2 * INTERVAL,
+        .inactivity_handler = CFDP_HANDLER_CANCEL,
+        .nak_mode = CFDP_NAK_DEFERRED,
+        .has_crc = 1,
+        .longest_nak = LEAST_NAK};
+    if (cfdp_receiver_new(&receiver, &engine, &mib) != CFDP_ANSWER_DONE) fail("no receiver");
+}
+
+static void make_others(uint32_t others) {
+    make_engine(BLOCKS);
+    make_receiver();
+    for (uint32_t i = 0; i < others; i++) {
+        make_long_list(FIRST_OTHER + i);
+        hear(CFDP_BECAME_REPLIED);
+    }
+}
+
+static uint32_t hear_one(uint32_t others) {
+    (void)others;
+    hear(CFDP_BECAME_REPLIED);
+    return 1;
+}
+
+static void prepare_heard_metadata(uint32_t others) {
+    make_others(others);
+    make_long_list(LIST_NUMBER);
+}
+
+/* A file is announced, and its first piece is made. */
+static void prepare_heard_data(uint32_t others) {
+    make_others(others);
+    make_metadata(FILE_NUMBER, GAPPED, "image");
+    hear(CFDP_BECAME_REPLIED);
+    make_data(FILE_NUMBER, 0, SMALL_PIECE);
+}
+
+/* Each second piece of a file came, from its second piece on. Its EOF PDU is made. */
+static void prepare_heard_eof(uint32_t others) {
+    prepare_heard_data(others);
+    for (uint32_t i = 0; i < RANGES; i++) {
+        make_data(FILE_NUMBER, (2 * i + 1) * SMALL_PIECE, SMALL_PIECE);
+        hear(CFDP_BECAME_REPLIED);
+    }
+    make_eof(FILE_NUMBER, checksum_of(GAPPED), GAPPED);
+}
+
+/* The gaps of the file were asked for. */
+static void prepare_expire(uint32_t others) {
+    prepare_heard_eof(others);
+    hear(CFDP_BECAME_REPLIED);
+}
+
+static uint32_t expire(uint32_t others) {
+    (void)others;
+    note_report(cfdp_receiver_expire(&receiver, INTERVAL, &report), CFDP_BECAME_EXPIRED);
+    return 1;
+}
+
+static uint32_t ask_deadline(uint32_t others) {
+    uint64_t moment = 0;
+    (void)others;
+    if (cfdp_receiver_deadline(&receiver, &moment) != CFDP_ANSWER_DONE || moment != INTERVAL) fail("another deadline");
+    note(moment);
+    return 1;
+}
+
+/* A list of 64 of the longest paths is complete. */
+static void prepare_work(uint32_t others) {
+    prepare_heard_metadata(others);
+    hear(CFDP_BECAME_REPLIED);
+    make_eof(LIST_NUMBER, 0, 0);
+    hear(CFDP_BECAME_REPLIED);
+}
+
+static uint32_t work(uint32_t others) {
+    (void)others;
+    note_report(cfdp_receiver_work(&receiver, 0, &report), CFDP_BECAME_REPLIED);
+    return 1;
+}
+
+/* All its requests are performed. */
+static void prepare_finish(uint32_t others) {
+    prepare_work(others);
+    for (uint32_t request = 0; request < LIST; request++) work(others);
+}
+
+static uint32_t finish(uint32_t others) {
+    (void)others;
+    note_report(cfdp_receiver_finish(&receiver, 0, &report), CFDP_BECAME_FINISHED);
+    return 1;
+}
+
+/* Its Finished PDU is to be written. */
+static void prepare_write(uint32_t others) {
+    prepare_finish(others);
+    finish(others);
+}
+
+static uint32_t write_one(uint32_t others) {
+    static uint8_t out[16490];
+    size_t count = 0;
+    (void)others;
+    if (report.pdus != 1 || cfdp_receiver_write(&receiver, 0, out, sizeof out, &count) != CFDP_ANSWER_DONE)
+        fail("no Finished PDU");
+    for (size_t at = 0; at < count; at++) note(out[at]);
+    return 1;
+}
+
+/* Its Finished PDU was sent, and the acknowledgement is made: an ACK PDU (5.2.4). */
+static void prepare_heard_ack(uint32_t others) {
+    prepare_write(others);
+    begin(0x20, LIST_NUMBER);
+    put("\x06\x51\x01", 3);
+    end();
+}
+
+static uint32_t hear_ack(uint32_t others) {
+    (void)others;
+    hear(CFDP_BECAME_ACKNOWLEDGED);
+    return 1;
+}
+
+/* A list of 64 of the longest paths waits for its EOF PDU. */
+static void prepare_receiver_cancel(uint32_t others) {
+    prepare_heard_metadata(others);
+    hear(CFDP_BECAME_REPLIED);
+}
+
+static uint32_t cancel_heard(uint32_t others) {
+    (void)others;
+    note_report(cfdp_receiver_cancel(&receiver, 0, 1, LIST_NUMBER, &report), CFDP_BECAME_CANCELLED);
+    return 1;
+}
+
+static uint32_t forget(uint32_t others) {
+    (void)others;
+    note_report(cfdp_receiver_forget_closed(&receiver, &report), CFDP_BECAME_NOTHING);
+    return 1;
+}
+
+static uint32_t open_receiver(uint32_t blocks) {
+    (void)blocks;
+    make_receiver();
+    return 1;
+}
+
+static uint32_t free_receiver(uint32_t others) {
+    (void)others;
+    if (cfdp_receiver_free(&receiver) != CFDP_ANSWER_DONE) fail("no receiver");
+    return 1;
+}
+
+/* The receiver is freed, and an engine is there as for the other workloads. */
+static void check_receiver(uint32_t others) {
+    free_receiver(others);
+    make_engine(BLOCKS);
+}
+
+#endif
