@@ -595,57 +595,7 @@ static void check_taken(uint32_t requests) {
     check_blocks(requests + 1);
 }
 
-/* The Metadata PDU of a list that denies 64 files, whose paths have eight names of 30 octets that no other path has. */
-static void make_long_list(uint32_t number) {
-    make_metadata(number, 0, "");
-    for (uint32_t request = 0; request < LIST; request++) {
-        char path[DEPTH * (LONG_NAME + 1) + 1], *at = path;
-        for (int level = 0; level < DEPTH; level++) {
-            at += sprintf(at, "%s%02u%02u", level ? "/" : "", (unsigned)number, (unsigned)request);
-            memset(at, 'x', LONG_NAME - 4);
-            at += LONG_NAME - 4;
-        }
-        *at = 0;
-        add_request(DENY_FILE, path, NULL);
-    }
-}
-
-/* Such lists of other transactions, and one more. */
-static void prepare_long(uint32_t others) {
-    make_engine(BLOCKS);
-    for (uint32_t i = 0; i < others; i++) {
-        make_long_list(FIRST_OTHER + i);
-        receive(CFDP_ADMITTED);
-    }
-    make_long_list(LIST_NUMBER);
-}
-
-/* 64 lists of the longest paths wait for their EOF PDUs: these, and one more. */
-static void prepare_live(uint32_t others) {
-    prepare_long(others);
-    receive(CFDP_ADMITTED);
-}
-
-/* The engine is gone, and another one can be made. */
-static void check_gone(uint32_t others) {
-    (void)others;
-    make_engine(BLOCKS);
-}
-
-static uint32_t cancel_list(uint32_t others) {
-    (void)others;
-    cancel(LIST_NUMBER);
-    return 1;
-}
-
-/* A directory, and a list that renames it 63 times, and then denies a file in it. */
-static void prepare_inside(uint32_t count) {
-    make_directory(count);
-    make_metadata(LIST_NUMBER, 0, "");
-    for (uint32_t i = 0; i + 1 < LIST; i++) add_request(RENAME, i % 2 ? "e" : "d", i % 2 ? "d" : "e");
-    add_request(DENY_FILE, "e/x", NULL);
-}
-
+#include "bench_lists.h"
 #include "bench_receiver.h"
 
 /* ---- the workloads */
@@ -718,6 +668,8 @@ static const struct workload workloads[] = {
     {"long-list", 1, LIVE, LIVE, RISING, prepare_long, admit, check_nothing},
     {"cancel-list", 1, LIVE, LIVE, RISING, prepare_live, cancel_list, check_nothing},
     {"free-live", 1, LIVE, LIVE, RISING, prepare_live, free_engine, check_gone},
+    /* the size: requests of a list */
+    {"nested-directories", 1, LIST, LIST, RISING, prepare_nest, admit, check_nothing},
     /* the size: other transactions of a receiver */
     {"receiver-metadata", 1, LIVE, LIVE, RISING, prepare_heard_metadata, hear_one, check_receiver},
     {"receiver-data", 1, LIVE, LIVE, RISING, prepare_heard_data, hear_one, check_receiver},

@@ -3,8 +3,8 @@
  * for itself is not counted.
  *
  * It fails if cfdp_new takes another number of octets than CFDP_NEW_OCTETS says, if a Metadata PDU takes more than
- * docs/C.md says, also one that is refused since it has too many requests, or if anything is kept after the last
- * outcome was taken. */
+ * docs/C.md says, also one that is refused since it has too many requests and one whose list renames directories that
+ * have entries, or if anything is kept after the last outcome was taken. */
 #include "../../include/cfdp.h"
 #include <inttypes.h>
 #include <stdbool.h>
@@ -184,6 +184,75 @@ static bool run(const struct shape *shape) {
     return cfdp_free(&engine) == CFDP_ANSWER_DONE && in_use == 0 && blocks_in_use == 0 && right;
 }
 
+/* A list in directories that have entries, each in the one before it: it renames files in each of them, and for each
+ * seven of these the first directory, there and back. */
+enum { NESTED = 7, FILES = 40 };
+
+/* The path of a directory, whose first name is `first`, and of a file in it, if a letter of files is given. */
+static struct cfdp_path nested(char first, unsigned directories, char letter, unsigned file) {
+    struct cfdp_path path = {0};
+    char *octets = (char *)path.octets;
+    for (unsigned level = 0; level < directories; level++) {
+        int name = level ? '0' + (int)level : first;
+        path.length += (uint32_t)sprintf(octets + path.length, "%s%c", level ? "/" : "", name);
+    }
+    if (letter) path.length += (uint32_t)sprintf(octets + path.length, "/%c%02u", letter, file);
+    return path;
+}
+
+/* What the formula adds for a path: 300 octets for it and for each directory above it, and twice their octets. */
+static size_t most_of_path(const struct cfdp_path *path) {
+    size_t octets = 0;
+    for (size_t end = 1; end <= path->length; end++)
+        if (end == path->length || path->octets[end] == '/') octets += 300 + 2 * end;
+    return octets;
+}
+
+/* Adds the rename, and returns what the formula adds for it. */
+static size_t put_rename(const struct cfdp_path *from, const struct cfdp_path *to) {
+    uint8_t tlv[] = {0x00, (uint8_t)(3 + from->length + to->length), 0x20, (uint8_t)from->length};
+    uint8_t lv = (uint8_t)to->length;
+    put(tlv, sizeof tlv);
+    put(from->octets, from->length);
+    put(&lv, 1);
+    put(to->octets, to->length);
+    return 150 + most_of_path(from) + most_of_path(to) + 2 * (from->length + to->length);
+}
+
+static bool run_nested(void) {
+    static const uint8_t head[] = {0x24, 0, 0, 0x00, 0x01, 1, 0x02, 0x07, 0x40, 0, 0, 0, 0, 0, 0};
+    struct cfdp_reply reply = {0};
+    bool right = make_engine(65536, 0);
+    for (unsigned directory = 1; directory <= NESTED; directory++) {
+        struct cfdp_path path = nested('d', directory, 0, 0);
+        right &= cfdp_put(&engine, &path, CFDP_ENTRY_DIRECTORY, pdu, 0) == CFDP_ANSWER_DONE;
+        for (unsigned file = 0; file < FILES; file++) {
+            path = nested('d', directory, 'f', file);
+            right &= cfdp_put(&engine, &path, CFDP_ENTRY_FILE, pdu, 0) == CFDP_ANSWER_DONE;
+        }
+    }
+    size_t before = in_use, blocks_before = blocks_in_use, bound = 2000;
+    length = 0;
+    put(head, sizeof head);
+    for (unsigned request = 0; request < LIST; request++) {
+        unsigned file = request / (NESTED + 1), directories = 1 + request % (NESTED + 1);
+        char now = file % 2 ? 'e' : 'd', then = file % 2 ? 'd' : 'e';
+        bool moves = directories > NESTED;
+        struct cfdp_path from = moves ? nested(now, 1, 0, 0) : nested(now, directories, 'f', file);
+        struct cfdp_path to = moves ? nested(then, 1, 0, 0) : nested(now, directories, 'g', file);
+        bound += put_rename(&from, &to);
+    }
+    pdu[1] = (uint8_t)((length - 7) >> 8);
+    pdu[2] = (uint8_t)(length - 7);
+    most = in_use;
+    right &= cfdp_receive(&engine, pdu, length, &reply) == CFDP_ANSWER_DONE && reply.kind == CFDP_REPLY_ADMITTED;
+    right &= most - before <= bound;
+    printf("64 renames of directories with entries and of files in them, in a PDU of %zu octets: it takes %zu octets"
+        " (at most %zu)\n", length, most - before, bound);
+    right &= end(&engine, 1) && in_use == before && blocks_in_use == blocks_before;
+    return cfdp_free(&engine) == CFDP_ANSWER_DONE && in_use == 0 && blocks_in_use == 0 && right;
+}
+
 /* The most that a list of too many requests takes until it is refused: 40 octets for each request, of which a PDU has
  * at most 16,381, and nothing for a name of no octets. */
 enum { MOST_REQUESTS = 16381, MOST_REFUSED = 40 * MOST_REQUESTS };
@@ -223,6 +292,7 @@ int main(void) {
     bool right = true;
     for (size_t i = 0; i < sizeof filestores / sizeof *filestores; i++) right &= measure(filestores[i]);
     for (size_t i = 0; i < sizeof shapes / sizeof *shapes; i++) right &= run(&shapes[i]);
+    right &= run_nested();
     right &= refuse();
     puts(right ? "nothing is kept after the last take" : "wrong");
     return !right;

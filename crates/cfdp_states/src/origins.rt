@@ -12,7 +12,6 @@ ghost use Rattle.cfdp_states.specs.code.Sparse.{HoldsLeased, SeesBy, back_over, 
 use cfdp_actions::Request;
 use cfdp_leases::Footprint;
 use cfdp_paths::{MOST_NAMES, Memory, Path};
-use cfdp_status::Action;
 use std::alloc::Global;
 
 /// The paths of the footprint, and those that the items name, where they were before the first item.
@@ -69,18 +68,16 @@ fn before_all(alloc: Global, requests: &[Request]) -> Result<Vec<Path>, Memory>
 fn back_over(alloc: Global, paths: Vec<Path>, request: &Request) -> Result<Vec<Path>, Memory>
     ensures { IfOk result (λ before. before.items ≡ back_over request.now paths.items) }
 {
-    match request.action() {
-        Action::RenameFile => {
-            moved_back(alloc, paths, request.first(), request.second().unwrap())
-        }
-        Action::CreateFile
-        | Action::DeleteFile
-        | Action::AppendFile
-        | Action::ReplaceFile
-        | Action::CreateDirectory
-        | Action::RemoveDirectory
-        | Action::DenyFile
-        | Action::DenyDirectory => Ok(paths),
+    match request {
+        Request::RenameFile(from, to) => moved_back(alloc, paths, from, to),
+        Request::CreateFile(_)
+        | Request::DeleteFile(_)
+        | Request::AppendFile(_, _)
+        | Request::ReplaceFile(_, _)
+        | Request::CreateDirectory(_)
+        | Request::RemoveDirectory(_)
+        | Request::DenyFile(_)
+        | Request::DenyDirectory(_) => Ok(paths),
     }
 }
 

@@ -15,7 +15,7 @@ use crate::view::View;
 use cfdp_actions::{Filestore, Protected, Request};
 use cfdp_leases::Footprint;
 use cfdp_paths::{Memory, Path};
-use cfdp_status::{Action, Status};
+use cfdp_status::Status;
 use std::alloc::Global;
 
 /// The most blocks that a store has.
@@ -114,19 +114,16 @@ impl<'a> SparseView<'a> {
     fn joins(&self, request: &Request) -> bool
         ensures { result ≡ joins_at self.now.view.extents request.now }
     {
-        match request.action() {
-            Action::RenameFile => {
-                let second = request.second().unwrap();
-                self.view.has_below(second) && !self.view.has(second)
-            }
-            Action::CreateFile
-            | Action::DeleteFile
-            | Action::AppendFile
-            | Action::ReplaceFile
-            | Action::CreateDirectory
-            | Action::RemoveDirectory
-            | Action::DenyFile
-            | Action::DenyDirectory => false,
+        match request {
+            Request::RenameFile(_, to) => self.view.has_below(to) && !self.view.has(to),
+            Request::CreateFile(_)
+            | Request::DeleteFile(_)
+            | Request::AppendFile(_, _)
+            | Request::ReplaceFile(_, _)
+            | Request::CreateDirectory(_)
+            | Request::RemoveDirectory(_)
+            | Request::DenyFile(_)
+            | Request::DenyDirectory(_) => false,
         }
     }
 }

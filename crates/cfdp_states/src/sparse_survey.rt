@@ -15,7 +15,6 @@ use crate::surveying::add_extent;
 use cfdp_actions::{Filestore, Request};
 use cfdp_leases::{Footprint, Lease, covers};
 use cfdp_paths::{MOST_NAMES, Memory, Path};
-use cfdp_status::Action;
 use std::alloc::{AllocError, Global};
 
 /// What is at the paths and above them, as far as the footprint covers it. A directory that is leased exclusively has
@@ -231,16 +230,16 @@ fn is_moved(requests: &[Request], path: &Path) -> bool
 fn moves(request: &Request, path: &Path) -> bool
     ensures { result ≡ moves_at request.now path.now }
 {
-    match request.action() {
-        Action::RenameFile => path.is_at_or_below(request.first()),
-        Action::CreateFile
-        | Action::DeleteFile
-        | Action::AppendFile
-        | Action::ReplaceFile
-        | Action::CreateDirectory
-        | Action::RemoveDirectory
-        | Action::DenyFile
-        | Action::DenyDirectory => false,
+    match request {
+        Request::RenameFile(from, _) => path.is_at_or_below(from),
+        Request::CreateFile(_)
+        | Request::DeleteFile(_)
+        | Request::AppendFile(_, _)
+        | Request::ReplaceFile(_, _)
+        | Request::CreateDirectory(_)
+        | Request::RemoveDirectory(_)
+        | Request::DenyFile(_)
+        | Request::DenyDirectory(_) => false,
     }
 }
 

@@ -199,6 +199,9 @@ impl Filestore for TreeStore {
         match find_path(&self.arena, &self.heads, &self.orders, path) {
             Some(node) => {
                 let entries = self.orders.of(&Some(node));
+                if others.is_empty() {
+                    return deepest_in(&self.arena, &self.orders, entries, path.depth() + 1) as u8;
+                }
                 let left_out = Others {
                     directory: path,
                     paths: others,

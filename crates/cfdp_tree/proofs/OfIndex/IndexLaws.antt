@@ -14,7 +14,7 @@ use Rattle.cfdp_arena.specs.Arena.{Blocks}
 use Rattle.cfdp_tree.specs.code.Tree.{node_fields_at}
 use Rattle.cfdp_tree.specs.code.Index.{index_chain}
 use Rattle.cfdp_tree.specs.code.Lists as lists
-use Rattle.cfdp_arena.proofs.GivenChains.{rest_all, rest_once}
+use Rattle.cfdp_arena.proofs.GivenChains.{rest_all}
 
 pub chain_more : (nodes : Blocks) (n m b : ℕ) → n ≡ suc m → index_chain nodes n b ≡ b ∷ index_chain nodes m (node_fields_at nodes b).same_head
 chain_more nodes n m b e = ap (λ k. index_chain nodes k b) e
