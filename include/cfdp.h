@@ -25,8 +25,8 @@
  * that are known keep together at most the sum of this, for each: 2000 octets, 150 for each request, 300 for each
  * path (those of the requests and of the destination, and each directory above one of them), twice the octets of
  * these paths, and twice those of the names in the Metadata PDU. That is at most 600000 octets for a transaction.
- * While cfdp_receive judges a Metadata PDU with more than 64 filestore requests it also takes, and gives back, 40 octets
- * for each of them.
+ * While cfdp_receive judges a Metadata PDU with more than 64 filestore requests it also takes, and gives back, 40
+ * octets for each of them.
  * After the last cfdp_take nothing is kept but what cfdp_new took, and a table that grows once, by 57032 octets,
  * where many transactions come and go with more than 32 known at once. examples/c/memory.c counts it.
  *
@@ -49,7 +49,7 @@
 #include <stdint.h>
 #include <string.h>
 
-/* The version of this header and of the library. It is said here alone. */
+/* The version of this header and of the library. `.ci/header` compares the program's with it. */
 #define CFDP_VERSION "0.1.0"
 
 #ifdef __cplusplus

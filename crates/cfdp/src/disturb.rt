@@ -78,7 +78,7 @@ struct Script<'a> {
     odds: Odds,
     random: Pcg32,
     link: Link,
-    /// What has come of the line that is being read, and its number, which counts from 1.
+    /// The octets so far of the line that is being read, and its number, counted from 1.
     line: Vec<u8>,
     number: u64,
     /// What is not written yet.

@@ -191,8 +191,8 @@ fn copy_of(alloc: Global, metadata: &Metadata) -> Result<Metadata, End> {
     })
 }
 
-/// The same upload with its pieces in order, so that it is complete if it is admitted: no more than one piece is kept
-/// at any time.
+/// The upload with its pieces in order, so that it is complete if it is admitted: no more than one piece is kept at any
+/// time.
 fn in_turn<'a>(alloc: Global, upload: &Upload<'_>, file: &'a [u8]) -> Result<Upload<'a>, End> {
     let order = in_order(alloc, piece_count(file.len(), SEGMENT))?;
     let metadata = copy_of(alloc, upload.metadata())?;

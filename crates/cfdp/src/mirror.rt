@@ -30,7 +30,7 @@ enum Difference {
     Turned,
     /// A file with other octets.
     Changed,
-    /// The same.
+    /// What the other one has.
     Same,
 }
 

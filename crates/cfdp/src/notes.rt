@@ -63,7 +63,7 @@ fn has_failed(words: &[u8]) -> bool {
     words.starts_with(b"performed ") && !words.ends_with(b"0")
 }
 
-/// Whether it is noted what became of an input. The fault of a timer is noted with its condition, as it is told.
+/// Whether it is noted what became of an input. The fault of a timer is noted with its condition, when it is indicated.
 pub fn is_noted(words: &[u8]) -> bool {
     words.starts_with(b"faulted ") || has_failed(words) || is_among(first_word(words), &NOTED)
 }

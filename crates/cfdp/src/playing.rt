@@ -197,8 +197,8 @@ impl<'a, R: AllocGlobal + Clock + Eprint + Files, I: Read + Drop> Playing<'a, R,
         }
     }
 
-    /// Carries out the next line, and puts what it writes into the text, in place of what was there. Returns false
-    /// where there is no further line.
+    /// Carries out the next line, and replaces the text by what it writes. Returns false where there is no further
+    /// line.
     pub fn next(&mut self, text: &mut Vec<u8>) -> Result<bool, End> {
         text.clear();
         self.line.clear();

@@ -3,7 +3,7 @@
 --     after-append                    changes in turn
 --     tree_at-all, find-tree_at       the entries of a tree are at or below its path, and those of the filestore
 --     node_at-vacated, node_at-settled
---     node_at-moved                   path by path
+--     moved_there, moved_apart        path by path
 --     rename-grows                    the blocks stay
 use Rattle.std.proofs.Common.{◌≡◌, ◌≢◌, refl, sym, ◌∙◌, ap, subst, Bool, true, false, cond, not, T, IsTrue, IsSome, is_some, Option, Some, None, ℕ, zero, suc, ◌+◌, ◌≤◌, List, [], ◌∷◌, ◌++◌, length, arith, true≢false, le_refl, if◌then◌else◌}
 use Rattle.std.specs.List.{AllByRecursion}

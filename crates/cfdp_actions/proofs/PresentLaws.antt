@@ -1,7 +1,7 @@
--- Paths that are in all of the places of a row.
---     present_at       what is in a place is the path of that number
---     present_after    after the last place there is none
---     same_present     two rows have the same in all places exactly where they have the same paths
+-- Paths that are in all of the entries of an array.
+--     present_at       what is in an entry is the path of that number
+--     present_after    after the last entry there is none
+--     same_present     two arrays have the same in all entries exactly where they have the same paths
 use Rattle.std.proofs.Common.{◌≡◌, ℕ, zero, suc, ◌≤◌, ◌<◌, Bool, ◌&&◌, List, [], ◌∷◌, length, Option, Some, None, refl, arith, slice_index_or}
 use Rattle.std.specs.Cmp.Lexicographic.{pointwise, slice_cmp}
 use Rattle.std.specs.declared.cmp.Ordering.{Ordering}

@@ -1,11 +1,11 @@
 -- What entries show: each change of the entries is that change of the paths and nodes that they show.
---     shown_put, shown_where, shown_relocated    one entry put into its place;  those whose path passes a test;  a tree moved
+--     shown_put, shown_where, shown_relocated    one entry put at its index;  those whose path passes a test;  a tree moved
 --     found_is, found_some, found_none           what is at a path
 --     put-put, put-same                          a path put twice;  what is there put again
 --     shown_twice                                 one entry put twice
 --     found_other, second_octets                  what is at another path than the one that was put, and its octets
 --     stands, put_stands                          that something is there
---     shown_deep, shown_below                    whether a tree is too deep for another place;  whether anything is below a path
+--     shown_deep, shown_below                    whether a tree is too deep for another path;  whether anything is below a path
 use Rattle.std.proofs.Common.{◌≡◌, ℕ, ◌||◌, Bool, true, false, not, nat_lt, if◌then◌else◌, List, [], ◌∷◌, Option, Some, None, is_some, length, refl, sym, ap, ◌∙◌, Bor, MatchOption, option_copied}
 use Rattle.std.specs.Cmp.{tied_itself}
 use Rattle.std.specs.FinMap.{find, put, is_sorted}

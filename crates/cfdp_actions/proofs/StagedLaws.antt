@@ -11,7 +11,7 @@ use Rattle.cfdp_actions.specs.Listed.{vector_octets}
 pub octets_of-set : (vs : List (Vec ℕ Global)) (i : ℕ) (v : Vec ℕ Global) → vector_octets (set vs i v) ≡ set (vector_octets vs) i v.items
 octets_of-set vs i v = map-set (λ (vector : Vec ℕ Global). vector.items) vs i v
 
--- v is what was read at the place
+-- v is what was read at the index
 pub octets_of-at : (vs : List (Vec ℕ Global)) (i : ℕ) (v : Vec ℕ Global) → i < length vs → v ≡ get_or vs i v → get_or (vector_octets vs) i [] ≡ v.items
 octets_of-at vs i v h e = get_or-map (λ (vector : Vec ℕ Global). vector.items) vs i v [] h ∙ ap (λ (vector : Vec ℕ Global). vector.items) (sym e)
 

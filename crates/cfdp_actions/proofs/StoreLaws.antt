@@ -1,7 +1,7 @@
 -- Entries as a store: what its look-ups answer, and what a change of the entries is to the store.
 --     node_at-found .. blocks-used      the filestore's words, on the entries
 --     octets_small, staged_small        every list of octets fits
---     put_store, put_kept               one entry put into its place
+--     put_store, put_kept               one entry put at its index
 --     gone_store, gone_kept             one path taken out
 --     moved_store, moved_kept           all at and below a path moved
 --     staged_store, staged_kept         one staged list changed

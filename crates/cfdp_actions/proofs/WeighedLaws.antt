@@ -1,5 +1,5 @@
 -- The blocks of entries in path order after a change.
---     weights-put, weights-put-le    one entry put into its place: exactly, and at most
+--     weights-put, weights-put-le    one entry put at its index: exactly, and at most
 --     weights-without                one path taken out
 --     weights-relocated-le           a tree moved, at most
 --     weights-relocated              a tree moved to where nothing exists

@@ -95,7 +95,7 @@ module _ {X : Type 0} (weigh : X → ℕ) where
   weighed None = 0
   weighed (Some x) = weigh x
 
-  -- at the place of k
+  -- at the index of k
   pub totals-put : (k : Path) (v : X) (es : List (Path × X)) → T (is_sorted path_cmp es) → totals (put path_cmp k v es) + weighed (find path_cmp k es)
       ≡ totals es + weigh v
   totals-put k v [] h = omega arith

@@ -268,7 +268,7 @@ bars prefixes (RemoveDirectory p) = is_protected prefixes p
 bars prefixes (DenyFile p) = is_protected prefixes p
 bars prefixes (DenyDirectory p) = is_protected prefixes p
 
--- an install is barred in place of a protected file
+-- an install that would replace a protected file is barred
 abbrev pub is_barred : List Path → Filestore → Item → Bool
 is_barred prefixes F (Install p) = is_some (node_at F p) && is_protected prefixes p
 is_barred prefixes F (Perform request) = bars prefixes request

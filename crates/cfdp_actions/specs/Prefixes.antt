@@ -1,4 +1,4 @@
--- The list of protected prefixes, as a row of places holds it.
+-- The list of protected prefixes, as the entries of an array hold it.
 --     same_paths        the same paths in the same order
 use Rattle.std.specs.Prelude.{Bool, List}
 use Rattle.std.specs.Cmp.Lexicographic.{slice_cmp}

@@ -6,7 +6,7 @@
 --     kind_of, kind_in, kind_at what is at a path: a file, a directory or nothing
 --     is_file_kind              of the two kinds
 --     extended octets size      zeros at the end, up to the size
---     overwritten octets at piece    the piece in place of what was at that place
+--     overwritten octets at piece    the piece instead of what was at that offset
 --     listing_entry, listing_of  a line of a listing, and all of them in path order
 --     standing_of, standings_of the same without checksums, for a path and what is below it
 use Rattle.std.specs.Prelude.{ℕ, ◌+◌, ◌-◌, Bool, true, false, List, ◌++◌, Option, Some, None, length, map, take, drop, replicate}
@@ -57,7 +57,7 @@ is_file_kind kind.Directory = false
 abbrev pub extended : List ℕ → ℕ → List ℕ
 extended octets size = octets ++ replicate (size - length octets) 0
 
--- the piece in place of what was at that place
+-- the piece instead of what was at that offset
 abbrev pub overwritten : List ℕ → ℕ → List ℕ → List ℕ
 overwritten octets at piece = take at octets ++ piece ++ drop (at + length piece) octets
 

@@ -173,8 +173,8 @@ pub trait Filestore: Drop {
         ensures err { OnErr result (state self.new ≡ state self.old) }
         ensures thrifty { IsTrue (state self.old).takes_no_memory → IsOk result };
 
-    /// Puts the second file's octets in the place of the first file's. Returns the blocks that are given back, those
-    /// that are taken and those that are moved; 0 where both paths are one, since nothing happens then.
+    /// Replaces the first file's octets by the second file's. Returns the blocks that are given back, those that are
+    /// taken and those that are moved; 0 where both paths are one, since nothing happens then.
     fn replace(&mut self, first: &Path, second: &Path) -> Result<u32, Memory>
         requires first { IsTrue (is_file (node_at (state self.old).filestore first.now)) }
         requires second { IsTrue (is_file (node_at (state self.old).filestore second.now)) }
@@ -203,7 +203,7 @@ pub trait Filestore: Drop {
         ensures err { OnErr result (state self.new ≡ state self.old) }
         ensures thrifty { IsTrue (state self.old).takes_no_memory → IsOk result };
 
-    /// Puts octets in the place of those that are staged in the slot from offset `at` on.
+    /// Replaces the octets that are staged in the slot, from offset `at` on, by these.
     fn stage_put(&mut self, slot: u8, at: u64, octets: &[u8])
         requires slot { slot < 64 }
         requires range { at + length octets.now ≤ length (staged_in (state self.old).filestore slot) }

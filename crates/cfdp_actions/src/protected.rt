@@ -71,7 +71,7 @@ impl Protected {
         self.prefixes.len()
     }
 
-    /// The protected path of this place, counted from 0 in the order in which they were added.
+    /// The protected path with this index, from 0, in the order in which they were added.
     pub fn get(&self, place: usize) -> Option<&Path>
         ensures { option_copied result ≡ slice_get self.now place }
     {
@@ -106,8 +106,8 @@ impl Protected {
         false
     }
 
-    /// Whether the request would change what is protected: by its first name where that is at or below a prefix, a
-    /// create apart; for a rename also where a prefix is at or below that name.
+    /// Whether the request would change what is protected. Creates are never barred; other requests if the first name
+    /// is at or below a prefix; renames also if a prefix is at or below it.
     pub fn bars(&self, request: &Request) -> bool
         ensures { result ≡ bars self.now request.now }
     {

@@ -22,7 +22,7 @@ pub fn extend(staged: &mut Vec<Vec<u8>>, slot: usize, size: usize) -> Result<(),
     Ok(())
 }
 
-/// Puts octets in the place of those of a list from offset `at` on.
+/// Replaces the octets of a list, from offset `at` on, by these.
 pub fn overwrite(staged: &mut Vec<Vec<u8>>, slot: usize, at: usize, octets: &[u8])
     requires slot { slot < vec_len staged.old }
     requires range { at + length octets.now ≤ length (slice_index_or (vector_octets staged.old.items) slot []) }
@@ -34,7 +34,7 @@ pub fn overwrite(staged: &mut Vec<Vec<u8>>, slot: usize, at: usize, octets: &[u8
     overwrite_list(staged[slot].as_mut_slice(), at, octets);
 }
 
-/// Puts octets in the place of those from offset `at` on.
+/// Replaces octets, from offset `at` on, by these.
 fn overwrite_list(list: &mut [u8], at: usize, octets: &[u8])
     requires { at + length octets.now ≤ length list.old }
     ensures { list.new ≡ overwritten list.old at octets.now }

@@ -1,7 +1,7 @@
 -- The free list under the changes that an arena makes.
 --     chain-set, vacated-set      a write off the chain
 --     live_is_absent              a live block is not on the chain
---     live_count-view             the count of live blocks
+--     live_count-value            the count of live blocks
 --     taken, given, written       the arena after a block was taken, given back or written
 use Rattle.std.proofs.Common.{◌≡◌, ◌≢◌, ℕ, suc, zero, ◌+◌, ◌<◌, List, [], ◌∷◌, length, map, get_or, set, Option, Some, None, refl, sym, ap, ◌∙◌, subst, inl, inr, arith, length-set}
 use Rattle.std.proofs.lemmas.List.{get_or-set_same, get_or-set_other, set-set, set_comm, map-set, length-map}
@@ -118,7 +118,7 @@ module _ {blocks : List (List ℕ)} {free head : ℕ} {value : Blocks} (sound : 
     absent = live_is_absent (free_chain blocks free head) (map Some blocks) number
         (subst (λ n. AreDistinctBlocks n (free_chain blocks free head)) (sym (length-map blocks Some)) sound.apart) live_here
 
-    -- holds what is in its place
+    -- holds what is at its number
     pub octets : octets_at value block ≡ Some (get_or blocks number [])
     unfolding arena_view
     octets =

@@ -1,6 +1,6 @@
 -- A chain of live blocks that is given back as one.
 --     length-chain_in                 how many blocks it has
---     last_within, last_absent, ..    its last block, which is linked to the old head
+--     first_live, last_live           its first and its last block are live
 --     all_room                        the count of free blocks has room for it
 --     all_given, all_given_sound      the arena after it
 use Rattle.std.proofs.Common.{◌≡◌, ◌≢◌, ℕ, suc, zero, ◌+◌, ◌-◌, ◌<◌, ◌≤◌, List, [], ◌∷◌, ◌++◌, length, map, get_or, set, Option, Some, None, refl, sym, ap, ◌∙◌, subst, arith, length-set, length-append}

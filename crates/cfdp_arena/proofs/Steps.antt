@@ -1,4 +1,4 @@
--- What the walks of the raw functions cite, from one place.
+-- What the walks of the raw functions cite, from one file.
 pub use Rattle.std.proofs.Common.{◌≡◌, ℕ, suc, zero, ◌+◌, ◌-◌, ◌*◌, ◌^◌, ◌<◌, ◌≤◌, List, [], ◌∷◌, ◌++◌, length, get_or, set, refl, sym, ap, ◌∙◌, subst, arith, lit<, w8, w64, MutBor, length-set}
 pub use seplogic.Ra.Ura.{Ura}
 pub use base.Fraction.{full_share}

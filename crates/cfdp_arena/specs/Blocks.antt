@@ -9,11 +9,11 @@ use Rattle.std.specs.Prelude.{ℕ, ◌+◌, List, ◌++◌, length, take, drop, 
 unfoldable pub blank_block : List ℕ
 blank_block = replicate 128 0
 
--- count octets of the block's payload, from the place at in it
+-- count octets of the block's payload, from the offset at in it
 abbrev pub payload_part : List ℕ → ℕ → ℕ → List ℕ
 payload_part block at count = take count (drop (8 + at) block)
 
--- the block with the octets in its payload from the place at on, as many as the part has, replaced by the part
+-- the block with the octets in its payload from the offset at on, as many as the part has, replaced by the part
 abbrev pub with_part : List ℕ → ℕ → List ℕ → List ℕ
 with_part block at part = take (8 + at) block ++ part ++ drop (8 + at + length part) block
 

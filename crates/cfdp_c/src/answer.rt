@@ -7,7 +7,7 @@ use cfdp_entity::NotHeard;
 use cfdp_pdus::PduFault;
 use cfdp_transactions::{ConfigFault, NotPut};
 
-/// What a call returns. After any other than `Done` nothing has changed, but for what the call's own text says.
+/// What a call returns. Unless its documentation says otherwise, any answer but `Done` leaves all state unchanged.
 #[derive(Clone, Copy, Debug, PartialEq, Eq)]
 pub(crate) enum Answer {
     /// The call was done.

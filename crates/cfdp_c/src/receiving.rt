@@ -78,7 +78,7 @@ pub extern "C" fn cfdp_receiver_new(
     }
 }
 
-/// ReceiverFrees the receiver, with its engine and all its memory.
+/// Frees the receiver, with its engine and all its memory.
 #[unsafe(no_mangle)]
 pub extern "C" fn cfdp_receiver_free(alloc: Global, receiver: &mut ReceiverHandle) -> u32
     ensures answer { ReceiverFrees receiver.old.slot.receiver result }
@@ -262,7 +262,7 @@ pub extern "C" fn cfdp_receiver_deadline(
     answer.code()
 }
 
-/// WritesSent the PDU with this number of the last answer.
+/// Writes the PDU with this number of the last answer.
 fn write_pdu(reception: &Reception, number: usize, out: &mut [u8], count: &mut usize) -> Answer
     ensures { WritesSent reception.now.machine.state.mib
         (slice_get (pdus_in reception.now) number) out.old out.new count.old count.new (answer_code result) }
@@ -277,7 +277,7 @@ fn write_pdu(reception: &Reception, number: usize, out: &mut [u8], count: &mut u
     }
 }
 
-/// WritesSent the PDU with this number of the answer to the last input.
+/// Writes the PDU with this number of the answer to the last input.
 #[unsafe(no_mangle)]
 pub extern "C" fn cfdp_receiver_write(
     alloc: Global,

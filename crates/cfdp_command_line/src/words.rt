@@ -71,7 +71,7 @@ pub fn parse<'a, S: AsStr>(alloc: Global, words: &'a [S]) -> Result<Asked<'a>, P
     }
 }
 
-/// The same with the errors of `clap`.
+/// Like `parse`, with the errors of `clap`.
 fn parse_command<'a, S: AsStr>(alloc: Global, words: &'a [S]) -> Result<Asked<'a>, Error>
     ensures asked { IfOk result (IsAsked (subcommand_of program (map S.text words.now))) }
     ensures taken { OnOk result (fault_of program (map S.text words.now) ≡ []) }

@@ -23,7 +23,7 @@ fn default_config() -> Config
     Config::new(2, 64, 2_400, 2, 1_000, Protected::new()).unwrap()
 }
 
-/// The configuration with these prefixes protected in the place of its own.
+/// The configuration with these prefixes protected instead of its own.
 fn with_prefixes(config: &Config, protected: Protected) -> Config
     ensures { result ≡ record config.now { prefixes = protected } }
 {

@@ -34,7 +34,7 @@ pub fn header(number: u32) -> Header
     }
 }
 
-/// The same of a transaction in unacknowledged mode.
+/// Like `header`, for a transaction in unacknowledged mode.
 pub fn unacknowledged(number: u32) -> Header
     ensures header { IsHeader result }
     ensures large { result.large ≡ false }

@@ -1,5 +1,5 @@
 -- What has begun of a PDU, as it is filled from the next piece of the stream.
---     IsGoing s               a stream that is not lost: it is empty, or begins with the version
+--     is_going s              a stream that is not lost is empty, or begins with the version
 --     none_whole, open_by     no PDU is whole while the fixed octets, or octets of the PDU, are missing
 --     whole_by                the PDU is whole
 use Rattle.std.proofs.Common.{◌≡◌, refl, sym, ◌∙◌, ap, inl, inr, ◌⊎◌, ℕ, ◌+◌, ◌*◌, ◌/◌, ◌==◌, ◌<◌, ◌≤◌, Bool, true, false, cond, List, [], ◌∷◌, ◌++◌, length, take, drop, max, Option, Some, None, arith, length-append}

@@ -122,7 +122,7 @@ impl Cutter {
         }
     }
 
-    /// How many octets have come of the PDU that has begun: 0 where the stream may end. Takes no memory.
+    /// How many octets of the PDU that has begun came so far: 0 where the stream may end. Takes no memory.
     pub fn len(&self) -> usize
         ensures { result ≡ length self.now }
     {

@@ -112,8 +112,8 @@ impl Link {
         Ok(())
     }
 
-    /// Takes the next line of a script, and what was drawn for it, and appends the lines that come now: whatever lines
-    /// come after it, all that comes is what was appended, and what results from them and the line that is held back.
+    /// Takes the next line of a script, and what was drawn for it, and appends the lines that come now. One line may be
+    /// held back until the next call. What was appended never changes, whatever lines follow.
     ///
     /// # Errors
     ///

@@ -15,7 +15,7 @@ pub(crate) struct Area {
     pub height: u64,
 }
 
-/// A place in the picture, in pixels.
+/// A point of the picture, in pixels.
 #[derive(Clone, Copy)]
 pub(crate) struct Spot {
     pub x: u64,

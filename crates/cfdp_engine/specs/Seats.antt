@@ -1,4 +1,4 @@
--- Those who hand in events, what they were informed of, and whether that is the journal.
+-- Those who hand in events, what is reported to them, and whether that is the journal.
 --     Seated                    a seat: its number, and its receipts
 --     receipts_in               how many receipts all seats have
 --     is_number_taken, SeatsDiffer  a seat among these has the number;  the seats' numbers differ, also from those of

@@ -1,9 +1,9 @@
-//! What a worker passes before it hands in what came.
+//! The hook that a worker runs for each message.
 
 use std::sync::Wait;
 
-/// What a worker passes with each message that it took, before it hands in what came; it may wait there. No lock is
-/// held.
+/// A hook that a worker runs for each message, after it took it and before it hands in its events. It may block; no
+/// lock is held.
 pub trait Gate {
     /// Lets the seat with this number pass with its message of this number, counted from 0; after 2⁶⁴ - 1 that number
     /// stays.

@@ -47,8 +47,8 @@ impl<S: Filestore> Model for Journaled<S> {
 }
 
 impl<S: Filestore> Journaled<S> {
-    /// A core that has just begun, with an empty journal. The room of the whole journal is taken now, and no more
-    /// later.
+    /// A core that has just begun, with an empty journal. Memory for the whole journal is taken now; the journal takes
+    /// none later.
     ///
     /// # Errors
     ///

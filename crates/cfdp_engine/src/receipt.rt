@@ -3,7 +3,8 @@
 use crate::event::SharedEvent;
 use cfdp_transactions::Reply;
 
-/// What a seat was informed of an event that it handed in: where the event is in the journal, the event, and the reply.
+/// What is reported to a seat about an event that it handed in: the index of its entry in the journal, the event, and
+/// the reply.
 #[derive(Drop)]
 pub struct Receipt {
     /// The number of its entry in the journal, from 0.

@@ -18,7 +18,7 @@ use cfdp_transactions::{Event, Reply};
 use std::alloc::Global;
 use std::sync::{Arc, Mutex, Wait};
 
-/// What a seat is informed of an event that was handed in, by the index that its entry gets and the reply.
+/// What is reported to a seat about an event that was handed in, by the index that its entry gets and the reply.
 ///
 /// # Errors
 ///

@@ -152,8 +152,8 @@ impl Entity {
         self.core.apply(event)
     }
 
-    /// The same as [`apply`](Entity::apply), for an event that is given away: its Metadata is moved into the table, not
-    /// copied. Out of memory the event is dropped. Cost: as `apply`, less the copy of the Metadata.
+    /// Like [`apply`](Entity::apply), but takes the event by value: its Metadata is moved into the table, not copied.
+    /// Out of memory the event is dropped. Cost: as `apply`, less the copy of the Metadata.
     pub fn apply_owned(&mut self, event: Event) -> Reply
         requires { IsReadable event }
         ensures follows { Follows self.old event result self.new }

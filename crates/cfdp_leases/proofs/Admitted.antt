@@ -3,7 +3,7 @@
 --     strangers                    who holds no footprint holds no path
 --     others-strangers, others-without      the holders of a path without those of one transaction
 --     first_leasing                the first holder of a path has the first grant that leases it
---     changing_first, changing_none      the same of an exclusive lease, since its holder is the only one
+--     first_exclusive, nobody_changing   the same of an exclusive lease, since its holder is the only one
 --     released                     what a release takes away
 use Rattle.std.proofs.Common.{◌≡◌, refl, sym, ◌∙◌, ap, subst, ℕ, ◌+◌, Bool, true, false, cond, not, inl, inr, List, [], ◌∷◌, ◌++◌, length, ◌==◌, Some, None, arith}
 use Rattle.std.specs.Prelude.{find, slice_get}

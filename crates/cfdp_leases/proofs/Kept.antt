@@ -1,6 +1,6 @@
 -- The slab of footprints, and the list of live transactions that names its keys.
 --     grants-push, footprints-push      one live transaction more
---     found_kept, elsewhere        the footprint of a transaction, and that those of others are under other keys
+--     grant_there, elsewhere       the footprint of a transaction, and that those of others are under other keys
 --     grants-filter, footprints-filter      one live transaction less
 --     own_key                      a transaction has one key in the list
 --     others-push, others-filter   the slab has no other footprints, with one live transaction more, and with one less

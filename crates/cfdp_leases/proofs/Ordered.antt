@@ -1,7 +1,7 @@
 -- Lists of paths in path order, each path once, and what a binary search in one finds.
 --     same_set_from, same_set-append, same_set-there, same_set-insert      lists of the same paths
 --     searchable                   how the paths of an ordered list compare with one path never falls
---     sorted-insert                a path is put in its place
+--     sorted-insert                a path is put at its index
 --     found_there                  a path that is found is there
 use Rattle.std.proofs.Common.{◌≡◌, ◌≢◌, length-take, refl, sym, ◌∙◌, ap, subst, ℕ, zero, suc, ◌<◌, ◌≤◌, ◌==◌, Bool, true, false, ◌||◌, inl, inr, List, [], ◌∷◌, ◌++◌, length, take, drop, get_or, arith, append_assoc, take-append-drop, ◌+◌, map, Option, Some, Result, Ok, Err}
 use Rattle.std.specs.Prelude.{flat_map, OnOk}

@@ -1,5 +1,5 @@
 -- A row reads only what the footprint covers.
---     covered_names, covered_above      what `IsWithin` says of the item's names and of what is above them
+--     covered_read, covered_parent      what `IsWithin` says of the item's names and of what is above them
 --     frame_of_reads
 use Rattle.std.proofs.Common.{◌≡◌, ◌≢◌, refl, sym, ◌∙◌, ap, ℕ, ◌+◌, ◌*◌, Bool, true, false, cond, not, ◌&&◌, List, [], ◌∷◌, ◌++◌, min, arith}
 use Rattle.std.specs.Prelude.{flat_map, Option, None, is_some, if◌then◌else◌, ◌==◌}

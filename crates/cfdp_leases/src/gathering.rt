@@ -194,8 +194,9 @@ fn insert_ancestors(
     Ok(parent)
 }
 
-/// The index of a path's parent if it is there: then all proper ancestors of the path are. Or else the index where it
-/// keeps the order. Cost: one comparison, and a binary search where the parent is not at the index `guess`.
+/// `Ok`: the index of the path's parent, and then all its proper ancestors are there. `Err`: the index at which the
+/// parent would have to be inserted. Cost: one comparison, and a binary search where the parent is not at the index
+/// `guess`.
 #[tactic(auto, using(crate::proofs::Closed::parent_there))]
 fn find_parent(paths: &[Path], path: &Path, guess: usize) -> Result<usize, usize>
     requires ordered { IsStrictlySortedBy path_cmp paths.now }
@@ -246,7 +247,7 @@ fn insert_beginning(
     Ok(())
 }
 
-/// Where the path of the first `depth` names of a path exists, or else the index where it keeps the order.
+/// `Ok`: the index of the path of the first `depth` names. `Err`: the index at which it would have to be inserted.
 fn find_beginning(paths: &[Path], path: &Path, depth: usize) -> Result<usize, usize>
     requires ordered { IsStrictlySortedBy path_cmp paths.now }
     requires within { depth ≤ length path.now }

@@ -62,8 +62,8 @@ impl Leases {
         }
     }
 
-    /// No leases, with room for this many transactions: no grant asks for memory for that, as long as no more are live.
-    /// The paths of footprints still take some.
+    /// No leases, with room for this many transactions. As long as no more are live, a grant takes memory only for the
+    /// paths of its footprint.
     ///
     /// # Errors
     ///
@@ -216,7 +216,7 @@ fn any_of(live: &[Live], transaction: TransactionId) -> bool
     live.iter().any(|live| live.transaction == transaction)
 }
 
-/// How many are before the transaction; all of them where it is none of them.
+/// How many come before the transaction; the length of the list if it is not in it.
 fn count_before(live: &[Live], transaction: TransactionId) -> usize
     ensures { result ≡ prefix_len (λ l. not (is_same l.transaction transaction)) live.now }
 {

@@ -1,9 +1,9 @@
 -- Where a run is in the middle of its script, and what moves it on.
 --
---   Place      the number of the line that is being read, the state before it, and what has come of it (place)
+--   Place      the number of the line that is being read, the state before it, and its octets so far (place)
 --   lines_by   the lines of some octets, where the script ends after them, or where it may go on
 --   report_at  what is reported from a state on, of the octets that come from there
---   Moves      some octets took a run from one place to another and wrote what is theirs
+--   Moves      some octets took a run from one point of the script to another and wrote what is theirs
 --   StopsBad   some octets ended a run at a bad line
 use Rattle.std.specs.Prelude.{◌≡◌, ℕ, Bool, true, false, List, ◌++◌, Option}
 use Rattle.cfdp_lines.specs.Lines.{lines_of, settled_lines}

@@ -32,8 +32,8 @@ pub enum LinkFault {
     BadLine(u8, u64),
     /// The journal was full.
     JournalFull,
-    /// The receipts of the seats are not the journal, a worker did not take the messages of its file, or the entity has
-    /// not the configuration of the files.
+    /// The receipts of the seats are not the journal, a worker did not take the messages of its file, or the entity's
+    /// configuration is not that of the files.
     ReceiptsDiffer,
 }
 

@@ -44,8 +44,8 @@ fn decode_spaced(line: &[u8], octets: &mut Vec<u8>) -> Result<(), LineFault>
     Ok(())
 }
 
-/// Puts the octets that a line of hexadecimal spells in the place of `octets`. A line that is one word is not gone
-/// through octet by octet for its spaces.
+/// Replaces `octets` by the octets that a line of hexadecimal spells. A line that is one word is not gone through octet
+/// by octet for its spaces.
 fn try_decode(line: &[u8], octets: &mut Vec<u8>) -> Result<(), LineFault>
     ensures octets { OnOk result (hex_octets line.now ≡ Some octets.new.items) }
     ensures bad { result ≡ Err Bad → hex_octets line.now ≡ None }
@@ -71,8 +71,8 @@ fn is_hexadecimal(line: &[u8]) -> bool
     true
 }
 
-/// Puts the octets that a line of hexadecimal spells in the place of `octets`: pairs of digits in either case, with
-/// spaces between pairs, before and after.
+/// Replaces `octets` by the octets that a line of hexadecimal spells: pairs of digits in either case, with spaces
+/// between pairs, before and after.
 ///
 /// # Errors
 ///
@@ -111,7 +111,7 @@ pub fn decode_within(line: &[u8], room: &mut [u8]) -> Option<usize>
     Some(len)
 }
 
-/// Puts the octets that the words of a line spell in the place of `octets`.
+/// Replaces `octets` by the octets that the words of a line spell.
 pub fn decode_words(line: &[u8], octets: &mut Vec<u8>) -> Result<(), LineFault>
     ensures octets { OnOk result (octets_of_words (words_of line.now) ≡ Some octets.new.items) }
     ensures bad { (result ≡ Err Bad) ↔ (octets_of_words (words_of line.now) ≡ None) }

@@ -29,7 +29,7 @@ pub const NEWLINE: u8 = b'\n';
 /// The octet that a line begins with which is passed over.
 pub const COMMENT: u8 = b'#';
 
-/// A script that is being run: what it does, what has come of the line that is being read, and the text that is not
+/// A script that is being run: what it does, the octets so far of the line that is being read, and the text that is not
 /// written yet.
 #[derive(Drop)]
 pub(crate) struct Session<S> {
@@ -106,7 +106,7 @@ impl<S: Script> Session<S> {
         answer_line(&mut self.script, alloc, &self.line, &mut self.text)
     }
 
-    /// Runs a whole line where it lies among the octets that came, where none of it came before. It is not copied.
+    /// Runs a line that is whole in the octets that came. It is not copied.
     fn run_whole(&mut self, alloc: Global, line: &[u8]) -> Result<(), LineFault>
         requires { self.old.number + 1 < 2 ^ 64 }
         ensures ok { OnOk result (AnswersLine (line_answer S.answer) (S.state self.old.script) (S.state self.new.script)

@@ -17,8 +17,8 @@ pub const INPUT_LIMIT: usize = 268_435_456;
 /// How much is read at once, in octets.
 const PIECE: usize = 65_536;
 
-/// How much to read where this many octets may still come: never nothing, since one octet more than there may
-/// be has to be seen.
+/// How many octets to read next, if this many more are allowed: at least one, so that an input over the limit is
+/// noticed.
 fn room_for(left: usize) -> usize
     ensures some { 0 < result }
     ensures fits { result ≤ PIECE }

@@ -1,7 +1,7 @@
 -- An order in one of whose parts a node was inserted.
 --     Balanced                       what `balance` does
---     Grown                          what `insert` does, but for the place of the node
---     grown_none                     a node inserted into an empty order
+--     Grown                          what `insert` does, but for the index of the node
+--     none_can, none_split           a node can be joined with two empty orders;  no nodes are before it, and none after it
 --     grown_right, grown_left        a node inserted to the right or to the left of the top
 --     placed_right, placed_left      where the node comes
 use Rattle.std.proofs.Common.{◌≡◌, ℕ, ◌+◌, ◌<◌, ◌≤◌, max, List, [], ◌∷◌, ◌++◌, length, refl, sym, ap, ◌∙◌, subst, inl, inr, arith, append_assoc}

@@ -1,6 +1,6 @@
 -- A search that goes down a tree.
 --     Reached            the part of an order to which a search has come, and the node that it found before: the first
---                        node after the wanted place is in the part, or else it is the one that was found
+--                        node after the wanted index is in the part, or else it is the one that was found
 --     reach_begin        at the beginning
 --     reach_right        one step to the right
 --     reach_left         one step to the left

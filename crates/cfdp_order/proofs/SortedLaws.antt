@@ -2,7 +2,7 @@
 --     head_pairs, tail_pairs     the first element with the later ones, and the later ones
 --     pairs_with                 one element more, between two parts
 --     pairs_without              one element less
---     splits_from, splits_after  the place of what is sought in such a list
+--     splits_from, splits_after  the index of what is sought in such a list
 use Rattle.std.proofs.Common.{◌≡◌, ◌≢◌, ℕ, zero, suc, ◌⊎◌, inl, inr, List, [], ◌∷◌, ◌++◌, refl, arith}
 use Rattle.std.specs.Prelude.{All, AllPairs}
 use Rattle.std.specs.declared.cmp.Ordering.{Ordering}

@@ -5,8 +5,8 @@
 --     NodesWithin            each node of an order has links, and an order has no more nodes than there are links
 --     NodesOnce              no two nodes of an order are equal, and a node is in its list exactly if it is there once
 --     OtherOrdersStay        an order none of whose nodes is in a list stays, if only links of nodes in the list change
---     SplitsOfSorted         a list that is sorted for what is sought has a place where it splits
---     SortedStays            a list whose nodes rise still does with one node more at its place, and with one node less
+--     SplitsOfSorted         a list that is sorted for what is sought has an index at which it splits
+--     SortedStays            a list whose nodes rise still does with one node more at its index, and with one node less
 use Rattle.std.specs.Prelude.{◌≡◌, ◌≢◌, ℕ, ◌<◌, ◌≤◌, ◌↔◌, List, [], ◌∷◌, ◌++◌, length, All, AllPairs, Contains}
 use Rattle.std.specs.declared.cmp.Ordering.{Ordering}
 use Rattle.std.specs.declared.cmp.Ordering.TheVariants.{Less, Greater}

@@ -64,7 +64,8 @@ fn turn_right(links: &mut [Links], left: Order, node: u16, right: Order) -> Orde
     join(links, top.left(), left.root, after)
 }
 
-/// The same where the left order is higher to its right: the node at the top there comes to the top. In constant time.
+/// Like `turn_right`, where the left order is higher to its right: the node at the top there comes to the top. In
+/// constant time.
 fn turn_right_twice(links: &mut [Links], left: Order, node: u16, right: Order) -> Order
     requires parts { CanJoin links.old left node right }
     requires small { length links.old ≤ 65536 }
@@ -102,7 +103,8 @@ fn turn_left(links: &mut [Links], left: Order, node: u16, right: Order) -> Order
     join(links, before, right.root, top.right())
 }
 
-/// The same where the right order is higher to its left: the node at the top there comes to the top. In constant time.
+/// Like `turn_left`, where the right order is higher to its left: the node at the top there comes to the top. In
+/// constant time.
 fn turn_left_twice(links: &mut [Links], left: Order, node: u16, right: Order) -> Order
     requires parts { CanJoin links.old left node right }
     requires small { length links.old ≤ 65536 }

@@ -6,8 +6,8 @@
 //! order of 65,536 nodes has at most 22 levels, whatever their sequence. Several orders of different nodes share one
 //! array.
 //!
-//! This crate knows nothing of names. A call that looks for a place takes a [`Sought`], which compares a node with what
-//! is sought, and it compares at most one node for each level. No call takes memory.
+//! This crate knows nothing of names. A call that searches takes a [`Sought`], which compares a node with what is
+//! sought, and it compares at most one node for each level. No call takes memory.
 #![tactic(auto)]
 
 mod balancing;

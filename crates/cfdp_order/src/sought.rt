@@ -6,8 +6,8 @@ use std::cmp::Ordering;
 
 /// What a search looks for, and how it compares a node with that.
 ///
-/// A search finds the right place if the order is sorted for what is sought: the nodes that come before it are the
-/// first ones, and those that come after it are the last ones. In any other order it may miss the place, and does no
+/// A search finds the right index if the order is sorted for what is sought: the nodes that come before it are the
+/// first ones, and those that come after it are the last ones. In any other order it may miss the index, and does no
 /// harm.
 ///
 /// For clauses, `can_compare` says which nodes it compares, and `side` what each comparison returns.

@@ -4,7 +4,7 @@
 --     prefix_len_of_point          what `partition_point` finds
 --     ranks_parted                 the entries before a path are at the front;  all_before: where the last is one
 --     put-.., find-.., without-..  by the comparison with the first entry
---     there, found_there           what is found is at its index
+--     there, found_at              what is found is at its index
 --     put-there, put-new, without_at  what a change of one entry does
 use Rattle.std.specs.List.{slice_get}
 use Rattle.std.proofs.lemmas.Option.{get_or_from_slice_get}

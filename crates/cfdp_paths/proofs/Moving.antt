@@ -324,7 +324,7 @@ module _ {X : Type 0} where
       ap (λ ys. put path_cmp x f.1 ys) left ∙ ap (λ (g : Path × X). put path_cmp x g.1 (rest_in p es)) same
       ∙ ap (λ y. put path_cmp y e.1 (rest_in p es)) made ∙ ap (λ ts. puts (rest_in p es) (moved_to p q ts)) (sym tree)
 
-  -- ---- one entry after the other, in its place
+  -- ---- one entry after the other, at its index
 
   -- the entries before the index are moved
   abbrev pub moved_up_to : Path → Path → List (Path × X) → ℕ → List (Path × X)

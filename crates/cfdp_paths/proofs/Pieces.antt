@@ -1,7 +1,7 @@
 -- What is at and below a path is one piece of the entries in path order.
 --     between_below            what is between a path and something at or below it is so too
 --     below_not_before         what is at or below a path is not before it
---     tree_split, rest_split   the entries at or below a path, and the others, by index
+--     tree_split               the entries at or below a path, and the others, by index
 --     spreads_parted           of the entries from the index of a path on, those at or below it are first
 --     any_below-tree           whether a path of the piece is another one
 use Rattle.std.proofs.Common.{◌≡◌, ℕ, zero, suc, ◌+◌, ◌-◌, ◌≤◌, true, false, not, ◌&&◌, ◌||◌, List, [], ◌∷◌, ◌++◌, length, take, drop, get_or, refl, sym, ap, subst, ◌∙◌, arith, length-drop}

@@ -5,7 +5,7 @@
 --     names_of-cut, cut_there, cut_nowhere             the names before and after a separator
 --     some_separator, cut_last                         two names have a separator;  the names before the last one
 --     names_of-next, names_of-last                     the first name, up to the first separator;  the last one, where there is none
---     text-names_of, names_of-parsed                   octets with `/` in place of each separator, and the other way round
+--     text-names_of, names_of-parsed                   octets with `/` instead of each separator, and the other way round
 --     length-joined                                    such octets are as many as the buffer has
 --     names_of-spelled                                 the names that octets spell, once each `/` between them was replaced
 --     replace_more                                     one more octet is replaced
@@ -172,7 +172,7 @@ pub names_of-cut : (a b : List ℕ) → names_of (a ++ 0 ∷ b) ≡ names_of a +
 names_of-cut [] b = refl
 names_of-cut (x ∷ a) b = cut_more x a (names_of (a ++ 0 ∷ b)) (names_of b) (is_separator x) (names_of-cut a b)
 
--- ---- `/` in place of each separator, and the other way round
+-- ---- `/` instead of each separator, and the other way round
 
 joined_first : (p : Path) → 1 ≤ length p → joined ([] ∷ p) ≡ slash ∷ joined p
 joined_first [] some = absurd (omega arith)

@@ -4,7 +4,7 @@
 --     tree_in, rest_in p es the entries at and below p;  the others
 --     any_below p es        whether a path is strictly below p
 --     puts es more          more entries, each put at its index
---     moved_to p q es       the entries at q/r in place of p/r
+--     moved_to p q es       the entries at q/r instead of p/r
 --     is_too_deep p q es    whether one of them would have more than 8 names there
 use Rattle.std.specs.Prelude.{Bool, not, nat_lt, IsTrue, List, [], ◌∷◌, map, length}
 use Rattle.std.specs.FinMap.{put, is_sorted}

@@ -11,7 +11,7 @@ use std::alloc::{AllocError, Global};
 /// What is between the names: no name holds it, and it comes before all that a name may hold.
 pub(crate) const SEPARATOR: u8 = 0;
 
-/// A copy of the octets, with `new` in place of each `old`. Cost: one allocation, and two passes over the octets.
+/// A copy of the octets, with each `old` replaced by `new`. Cost: one allocation, and two passes over the octets.
 pub(crate) fn replaced(
     alloc: Global,
     octets: &[u8],
@@ -25,7 +25,7 @@ pub(crate) fn replaced(
     Ok(copy)
 }
 
-/// Puts `new` in place of each `old`.
+/// Replaces each `old` by `new`.
 pub(crate) fn replace(octets: &mut [u8], old: u8, new: u8)
     ensures { octets.new ≡ map (λ octet. if octet == old then new else octet) octets.old }
 {
@@ -36,8 +36,8 @@ pub(crate) fn replace(octets: &mut [u8], old: u8, new: u8)
     }
 }
 
-/// Puts the octets `new` in place of the first `count` octets, of which there are as many or more. Takes no memory.
-/// Cost: one copy of the octets at most.
+/// Replaces the first `count` octets, of which there are as many or more, by the octets `new`. Takes no memory. Cost:
+/// one copy of the octets at most.
 pub(crate) fn replace_front(octets: &mut Vec<u8>, count: usize, new: &[u8])
     requires within { count ≤ length octets.old.items }
     requires short { length new.now ≤ count }

@@ -68,7 +68,7 @@ fn settle(a: &[u8], b: &[u8], both: usize) -> (u64, u64)
     (word(a, last), word(b, last))
 }
 
-/// The same of fewer octets than a word has.
+/// Like `settle`, for fewer octets than a word has.
 fn settle_few(a: &[u8], b: &[u8], both: usize) -> (u64, u64)
     requires few { both < 8 }
     requires in_a { both ≤ length a.now }

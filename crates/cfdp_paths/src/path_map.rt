@@ -44,7 +44,7 @@ impl<T: Drop> PathMap<T> {
         let _ = self.exchange(path, value);
     }
 
-    /// Puts the value at the path, in the place of what was there.
+    /// Puts the value at the path, and replaces what was there.
     ///
     /// # Errors
     ///
@@ -252,7 +252,7 @@ pub(crate) fn piece<T>(entries: &[(Path, T)], path: &Path) -> (usize, usize)
     (start, start + count)
 }
 
-/// Puts the value at the path, in the place of what was there. There is room for one more entry.
+/// Puts the value at the path, and replaces what was there. There is room for one more entry.
 pub(crate) fn put_reserved<T: Drop>(entries: &mut Vec<(Path, T)>, path: Path, value: T)
     requires ordered { IsOrdered entries.old.items }
     requires room { vec_len entries.old < vec_capacity entries.old }

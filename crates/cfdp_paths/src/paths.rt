@@ -276,7 +276,7 @@ impl Path {
         Ok(paths)
     }
 
-    /// The same path in memory of its own.
+    /// A copy of the path.
     ///
     /// # Errors
     ///
@@ -327,8 +327,8 @@ impl Path {
         self.octets.len() <= other.octets.len()
     }
 
-    /// Whether this path, which is `from/r`, is to become `to/r` in the memory that it has: where `to` has no more
-    /// octets than `from`, and the memory is at most twice the octets of `to/r`. Takes no memory. In constant time.
+    /// Whether this path `from/r` may become `to/r` in the memory that it has: if `to` has no more octets than `from`,
+    /// and the memory is at most twice the octets of `to/r`. Takes no memory. In constant time.
     pub(crate) fn may_stay(&self, from: &Path, to: &Path) -> bool
         requires { IsTrue (is_at_or_below self.now from.now) }
         ensures { IsTrue result → length (joined to.now) ≤ length (joined from.now) }

@@ -38,9 +38,8 @@ pub(crate) fn relocate<T: Drop>(
     Ok(())
 }
 
-/// Whether each of these paths, which are p/r, is to become q/r in the memory that it has: where `to` has no more
-/// octets than `from`, and the memory of each is at most twice the octets of q/r. Takes no memory. Cost: a look at
-/// each entry at most.
+/// Whether each of these paths p/r may become q/r in the memory that it has: if `to` has no more octets than `from`,
+/// and the memory of each is at most twice the octets of q/r. Takes no memory. Cost: a look at each entry at most.
 fn all_may_stay<T>(entries: &[(Path, T)], from: &Path, to: &Path) -> bool
     requires { IsTrue (list_all (λ e. is_at_or_below e.0 from.now) entries.now) }
     ensures { IsTrue result → length (joined to.now) ≤ length (joined from.now) }
@@ -79,8 +78,8 @@ fn relocate_entry<T: Drop>(
     Ok(())
 }
 
-/// The same where the second path has no more octets than the first: the path stays in the memory that it has. Takes no
-/// memory.
+/// Like `relocate_entry`, where the second path has no more octets than the first: the path stays in the memory that it
+/// has. Takes no memory.
 fn relocate_entry_in_memory<T: Drop>(
     entries: &mut Vec<(Path, T)>,
     place: usize,
@@ -152,7 +151,7 @@ fn new_paths<T>(
     Ok(paths)
 }
 
-/// Takes the entries from one place up to another out. What stays has room for them.
+/// Takes the entries from index `start` up to `end` out. What stays has room for them.
 fn detach<T>(
     entries: &mut Vec<(Path, T)>,
     start: usize,

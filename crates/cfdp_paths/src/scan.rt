@@ -29,7 +29,7 @@ pub(crate) fn first_separator(octets: &[u8]) -> Option<usize>
     first_of_16(octets, last)
 }
 
-/// The same of fewer than sixteen octets.
+/// The index of the first separator among fewer than sixteen octets.
 fn first_of_few(octets: &[u8]) -> Option<usize>
     requires { length octets.now < 16 }
     ensures { IsFirstByte is_separator octets.now result }
@@ -75,7 +75,7 @@ pub(crate) fn last_separator(octets: &[u8]) -> Option<usize>
     last_of_16(octets, 0)
 }
 
-/// The same of fewer than sixteen octets.
+/// The index of the last separator among fewer than sixteen octets.
 fn last_of_few(octets: &[u8]) -> Option<usize>
     requires { length octets.now < 16 }
     ensures { IsLastByte is_separator octets.now result }

@@ -34,7 +34,7 @@ pub finished_len : (header : Header) (finished : FinishedFields) → length (fin
 unfolding finished_field
 finished_len header finished = omega (arith, length-append (flat_map response_field finished.responses) (fault_location header.id_len finished.fault))
 
--- the same of the item at a place
+-- the same of the item at an index
 pub item_passes : {X : Type 0} (p : X → Bool) (xs : List X) (i : ℕ) (x : X) → x ≡ get_or xs i x → list_all p xs ≡ true → i < length xs → p x ≡ true
 item_passes p xs i x is all lt = ap p is ∙ passes_at p xs i x all lt
 

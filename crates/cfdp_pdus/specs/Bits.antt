@@ -1,5 +1,5 @@
 -- Bits and numbers in octets.
---   flag place octet        whether the bit at a place is 1, the lowest being place 0
+--   flag place octet        whether the bit with this number is 1, counted from 0 at the lowest
 --   digit b                 1 for true, 0 for false
 --   IsNumber octets len x   these are len octets, and the number that they spell, the highest first, is x
 --   fss large               how many octets a file size or an offset has (CCSDS 727.0-B-5 §5.1.10)

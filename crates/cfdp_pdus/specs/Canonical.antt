@@ -4,9 +4,9 @@
 --   pdu_octets                   a header, and a data field after it
 --   metadata_field, file_data_field, eof_field, finished_field
 --                                the data fields
---   AreSized ..                  the other numbers fit their fields
+--   IsSizedMetadata ..           the other numbers fit their fields
 --   IsAnswerable request         a request that its reader takes, and whose names a response can repeat
---   metadata_fits, finished_fits, file_data_fits, eof_fits
+--   metadata_fits, finished_fits, file_data_fits
 --                                each length fits its field
 use Rattle.std.specs.Prelude.{◌≤◌, ◌<◌, ℕ, ◌+◌, ◌-◌, ◌*◌, ◌^◌, ◌==◌, ◌&&◌, nat_le, if◌then◌else◌, Bool, not, List, [], ◌∷◌, ◌++◌, length, Option, Some, None, IfSome}
 use Rattle.std.specs.List.{flat_map, list_all}

@@ -1,4 +1,4 @@
--- What the receiver of a file is informed of a PDU.
+-- How the receiver of a file reads a PDU.
 --   received pdu             the PDU itself; of a Finished PDU, which only the file's sender takes, nothing
 --   received_of read         the same of what reading gives
 --   IsLeanToReceive pdu      nothing is copied of it: an EOF PDU, a Finished PDU, and one that is not ours

@@ -69,7 +69,7 @@ impl<'a> Model for Piece<'a> {
 }
 
 impl FileData {
-    /// The same, with the octets where they lie. Costs nothing.
+    /// This data field, with its octets lent. Costs nothing.
     pub fn piece(&self) -> Piece<'_>
         ensures { result ≡ self.now }
     {

@@ -127,7 +127,7 @@ fn skip_names(large: bool, octets: &[u8]) -> Result<&[u8], PduFault>
     Ok(options)
 }
 
-/// The same options, where each of them is whole and each request among them is one.
+/// Returns the options, if each of them is whole and each request among them is one.
 fn judge(options: &[u8]) -> Result<&[u8], PduFault>
     ensures { Answers (λ judged. judged.now) result (judged_options options.now) }
 {

@@ -84,14 +84,13 @@ fn read_whole(alloc: Global, octets: &[u8]) -> Result<Pdu, PduFault>
 
 /// The PDU that the octets spell (CCSDS 727.0-B-5 §5.1 to §5.3).
 ///
-/// The faults come in this order: no octet (`Truncated`), another version than 001 (`BadVersion`),
-/// a CRC (`CrcNotSupported`), a header that is cut (`Truncated`), fewer octets after the header than
-/// its data field length (`Truncated`), more (`LengthMismatch`). Then, inside the data field: no
-/// directive code (`LengthMismatch`), a code that is not listed (`BadDirective`), fixed fields,
-/// segment metadata or names past its end (`LengthMismatch`). Then the TLV fields from the left: one
-/// that is cut, a filestore request or response that is none, an entity ID of another length than 1
-/// to 8 (`BadTlv`), a request value of 255 octets (`RequestTooLong`). All of this is found before
-/// memory is asked for, so `Memory` is only in place of a PDU, and of none of EOF or not ours.
+/// The faults come in this order: no octet (`Truncated`), another version than 001 (`BadVersion`), a CRC
+/// (`CrcNotSupported`), a header that is cut (`Truncated`), fewer octets after the header than its data field length
+/// (`Truncated`), more (`LengthMismatch`). Then, inside the data field: no directive code (`LengthMismatch`), a code
+/// that is not listed (`BadDirective`), fixed fields, segment metadata or names past its end (`LengthMismatch`). Then
+/// the TLV fields from the left: one that is cut, a filestore request or response that is none, an entity ID of another
+/// length than 1 to 8 (`BadTlv`), a request value of 255 octets (`RequestTooLong`). All of this is found before memory
+/// is asked for, so `Memory` is only returned instead of a PDU, and of none of EOF or not ours.
 ///
 /// It goes over the octets twice at most: once without memory, and, where they spell a PDU, once to
 /// copy what is handed out.
@@ -100,7 +99,7 @@ pub fn read_pdu(alloc: Global, octets: &[u8]) -> Result<Pdu, PduFault>
     ensures found { IfOk result (SpellsPdu octets.now) }
     // What is spelled so is read, unless memory runs out.
     ensures only { (pdu : PduValue) → SpellsPdu octets.now pdu → (result ≡ Ok pdu) ⊎ (result ≡ Err Memory) }
-    // Which fault it is: `Memory` is only in place of a PDU.
+    // Which fault it is: `Memory` is only returned instead of a PDU.
     ensures exact { Gives Memory (λ pdu. pdu) result (pdu_at octets.now) }
     // An EOF PDU, and one that is not ours, are read without memory.
     ensures lean { (pdu : PduValue) → SpellsPdu octets.now pdu → IsLean pdu → result ≡ Ok pdu }
@@ -110,7 +109,7 @@ pub fn read_pdu(alloc: Global, octets: &[u8]) -> Result<Pdu, PduFault>
     read_whole(alloc, octets)
 }
 
-/// What a file's receiver is informed of a directive.
+/// A directive as a file's receiver reads it: none for a Finished PDU, which is only checked.
 #[tactic(auto, unfolding(crate::specs::First::directive_at))]
 fn receive_directive(alloc: Global, header: Header, field: &[u8]) -> Result<Option<Pdu>, PduFault>
     ensures exact { Gives Memory (λ told. told) result (received_of (directive_at header field.now)) }
@@ -138,8 +137,8 @@ fn receive_whole(alloc: Global, octets: &[u8]) -> Result<Option<Pdu>, PduFault>
 /// The PDU that the octets spell, as the receiver of a file takes it: `None` exactly where they spell a Finished PDU,
 /// which only the file's sender takes (CCSDS 727.0-B-5 §5.2.3). Its fields are judged as those of each other PDU.
 ///
-/// The faults are those of [`read_pdu`], in the same cases, but `Memory` is only in place of a Metadata PDU or of a
-/// File Data PDU: the others are read without memory.
+/// The faults are those of [`read_pdu`], in the same cases, but `Memory` is only returned instead of a Metadata PDU or
+/// of a File Data PDU: the others are read without memory.
 ///
 /// Cost: that of [`read_pdu`], and of a Finished PDU one pass over its octets.
 pub fn read_for_receiver(alloc: Global, octets: &[u8]) -> Result<Option<Pdu>, PduFault>
@@ -147,7 +146,7 @@ pub fn read_for_receiver(alloc: Global, octets: &[u8]) -> Result<Option<Pdu>, Pd
     ensures found { IfOk result (λ told. IfSome told (SpellsPdu octets.now)) }
     // What is spelled so is reported, unless memory runs out.
     ensures only { (pdu : PduValue) → SpellsPdu octets.now pdu → (result ≡ Ok (received pdu)) ⊎ (result ≡ Err Memory) }
-    // Which fault it is: `Memory` is only in place of a PDU.
+    // Which fault it is: `Memory` is only returned instead of a PDU.
     ensures exact { Gives Memory (λ told. told) result (received_of (pdu_at octets.now)) }
     // An EOF PDU, a Finished PDU, and one that is not ours, are read without memory.
     ensures lean { (pdu : PduValue) → SpellsPdu octets.now pdu → IsLeanToReceive pdu → result ≡ Ok (received pdu) }

@@ -106,9 +106,8 @@ fn by_paths(alloc: Global, action: Action, paths: &[u8]) -> Result<FilestoreRequ
 /// `rename app/new app/prog` (CCSDS 727.0-B-5 §5.4.1). Paths are written as listings print them:
 /// [`read_path`](crate::read_path).
 ///
-/// The first fault is returned: `Action`, `Paths`, `FirstPath`, `SecondPath`. `Memory` may be returned in place of each
-/// answer.
-/// Cost: a few passes over the text.
+/// The first fault is returned: `Action`, `Paths`, `FirstPath`, `SecondPath`. `Memory` may be returned instead of any
+/// answer. Cost: a few passes over the text.
 pub fn read_request(alloc: Global, text: &[u8]) -> Result<FilestoreRequest, RequestFault>
     ensures ok { IfOk result (λ request. request_in text.now ≡ Ok request) }
     ensures err { IfErr result (λ fault. (fault ≡ Memory) ⊎ (request_in text.now ≡ Err fault)) }

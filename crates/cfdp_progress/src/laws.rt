@@ -53,9 +53,9 @@ pub fn delivered_after_rounds()
     cfdp_retransmission::laws::whole_after_losses();
 }
 
-/// The same from the first NAK PDUs on. They are sent when the EOF PDU comes and octets are missing, or when the
-/// Metadata PDU comes after it. If the NAK limit is above what is lost in all, and the round more where it is needed,
-/// then it is not reached before.
+/// Like [`delivered_after_rounds`], from the first NAK PDUs on. They are sent when the EOF PDU comes and octets are
+/// missing, or when the Metadata PDU comes after it. If the NAK limit is above what is lost in all, and the round more
+/// where it is needed, then it is not reached before.
 pub fn delivered_after_losses()
     ensures { DeliveredAfterLosses }
 {

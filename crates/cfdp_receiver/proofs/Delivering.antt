@@ -76,7 +76,7 @@ idle_rest W h (p ∷ ps) d =
     let same = idle_same W h p d in
     subst (λ (V : World). Delivered (run V (piece_events h ps)) h) (sym same) (idle_rest W h ps d)
 
--- an entry that is put in its place
+-- an entry that is put at its index
 pub placed : (W V : World) (h : Header) (e new : Entry) → entry_of W (id_of h) ≡ Some e → Entries.name_of new ≡ id_of h → V.table
     ≡ slice_set W.table (index_of W (id_of h)) new → entry_of V (id_of h) ≡ Some new
 placed W V h e new here name table = ap (λ (t : List Entry). slice_get t (place_of (id_of h) t)) table ∙ set_own W.table (id_of h) e new name here

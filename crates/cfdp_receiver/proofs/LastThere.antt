@@ -232,7 +232,7 @@ module _ (W : World) (id : TransactionId) (e : Entry) (here : entry_of W id ≡ 
   same_joined : (reply : Reply) → JoinedIn id low (W, reply)
   same_joined reply now there = inl (ap (λ (x : Entry). continues x.received low) (sym (some_same e now (sym here ∙ there))) ∙ joined)
 
-  -- a world whose table has this entry in the place of that one
+  -- a world whose table has this entry instead of that one
   put_joined : (U : World) (new : Entry) (reply : Reply) → name_of new ≡ id → U.table ≡ slice_set W.table k new → Joined low new → JoinedIn id low (U, reply)
   put_joined U new reply name table j now there =
       let own : entry_of U id ≡ Some new = ap (λ (t : List Entry). slice_get t (place_of id t)) table ∙ set_own W.table id e new name here in

@@ -54,7 +54,7 @@ unfolding sealed_at pdu_first.start_at pdu_first.header_at pdu_first.number_at p
     pdu_first.requests_of pdu_first.fields_at pdu_first.some_fields_at lv_at
 metadata_with_crc = refl
 
--- the last octet of its CRC is 0 in place of 0x7e
+-- the last octet of its CRC is 0 instead of 0x7e
 data_with_another_crc : heard 0 (0x32 ∷ 0 ∷ 0x15 ∷ 0 ∷ 1 ∷ 5 ∷ 2 ∷ 0 ∷ 0 ∷ 0 ∷ 0 ∷ 0 ∷ 1 ∷ 2 ∷ 3 ∷ 4 ∷ 5 ∷ 6 ∷ 7 ∷ 8 ∷ 9 ∷ 0xa ∷ 0xb ∷ 0xc ∷ 0xd ∷ 0xe ∷ 0x55 ∷
     0 ∷ []) ≡
     Err (dropped.Crc crc_fault.BadCrc)

@@ -1,7 +1,7 @@
 -- What the code keeps and answers, and a turn of a state that is as late as its input.
 --     MachineFields             the state, and the Finished PDU of the transaction that was closed last when its
 --                               outcome was taken
---     AnswerParts               an answer, with the name of the transaction whose Finished PDU is sent in place of its
+--     AnswerParts               an answer, with the name of the transaction whose Finished PDU is sent instead of its
 --                               octets
 --     finished_for M id         these octets: they are kept with the session, or where the session is closed, beside
 --     answer_in M a             the answer with them

@@ -100,7 +100,7 @@ impl Unsent {
         }
     }
 
-    /// The same as a whole answer.
+    /// This answer as an [`Answer`] that sends nothing.
     pub(crate) fn answer(self) -> Answer
         ensures { result ≡ self }
     {

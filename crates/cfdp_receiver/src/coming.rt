@@ -362,7 +362,7 @@ impl Machine {
         Answer::replied(id, reply).with_indication(told)
     }
 
-    /// The same where a gap is asked for when it begins.
+    /// File data of a transaction that the core knows, in acknowledged mode and immediate NAK mode.
     fn takes_at_once(&mut self, index: usize, header: &Header, piece: &Piece<'_>) -> Answer
         requires ours { is_ours self.old.state header.now ≡ true }
         requires here { IsSessionAt self.old.state (id_of header.now) index }

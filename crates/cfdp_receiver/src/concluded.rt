@@ -6,8 +6,8 @@ ghost use Rattle.cfdp_transactions.specs.Writable.{longest_finished};
 use std::alloc::Global;
 use std::marker::Model;
 
-/// The octets of the Finished PDU of the transaction that was closed last when its outcome was taken: none before the
-/// first. They are 16,488 at most.
+/// A Finished PDU that awaits no acknowledgement closes its transaction at once. These are the octets of the last one:
+/// none before the first, at most 16,488.
 #[derive(Drop)]
 pub(crate) struct Concluded {
     octets: Vec<u8>,

@@ -287,7 +287,7 @@ impl Machine {
         }
     }
 
-    /// The same, where the transaction is in acknowledged mode and waits for what is missing.
+    /// The NAK sequence for a session whose transaction is in acknowledged mode and waits for what is missing.
     pub(crate) fn asks_where_awaiting(&self, session: &Session) -> Option<NakSequence>
         ensures { all_naks result ≡ asks_where_awaiting self.now.state.mib self.now.state.world session.now }
     {

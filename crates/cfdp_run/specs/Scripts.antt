@@ -5,7 +5,7 @@
 --     play_of stage             the head is over
 --     head_changed, written     what a line does: the stage after it, and what it writes
 --     unless wrong later        later, unless something is wrong
---     head_protected, put_node, put, octets_of  what `protect` and `put` do;  the octets that a file is to have
+--     head_protected, put_node, put, put_file  what `protect` and `put` do
 --     in_head word stage change     a line of the head, which is too late after it
 --     moved, heard_at, asked    octets come, or other inputs, at a time;  a question is answered
 --     is_written, expected      a line is among those that were written last;  it has to be

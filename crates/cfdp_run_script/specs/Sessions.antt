@@ -3,7 +3,7 @@
 --                                       and what became of the line
 --     why_at files ends place octets    why a script stops from a state on, of the octets that come from there, if it
 --                                       does
---     ScriptGoesOn files from to octets  after some octets it stops from one place for the reason for which it stops
+--     ScriptGoesOn files from to octets  after some octets it stops from one point for the reason for which it stops
 --                                       from another
 --     StopsFor files from octets why    some octets end a script for this reason, whatever comes after them, unless out
 --                                       of memory

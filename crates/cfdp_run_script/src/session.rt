@@ -80,7 +80,7 @@ impl Session {
         Ok(self.line.extend_from_slice(part)?)
     }
 
-    /// Carries out a whole line where it is among the octets that came, where none of it came before. It is not copied.
+    /// Carries out a line that is whole in the octets that came. It is not copied.
     fn run_whole<F: Files>(
         &mut self,
         alloc: Global,

@@ -2,7 +2,7 @@
 --     SessionFields             of one, without where it is in memory
 --     session_id s              the name of its transaction
 --     found ss id               the session of this name, if there is one;  IsFound ss id: there is one
---     replaced ss new           the sessions with this one in place of the one of the same name
+--     replaced ss new           the sessions with this one instead of the one of the same name
 --     without_session ss id     the sessions without the one of this name
 --     AreDistinct ss            no two of them have one name
 --     IsEnding                  what is sent where a transaction is over fits a Finished PDU

@@ -34,8 +34,8 @@ pub enum Stage {
     Waiting,
 }
 
-/// What is kept of one transaction. Contracts see it without where its octets are. What is sent of it always fits its
-/// PDUs: its numbers fit their fields, and its Finished PDU has 16,488 octets at most.
+/// What is kept of one transaction. Contracts see its values, and not where its octets lie in memory. What is sent of
+/// it always fits its PDUs: its numbers fit their fields, and its Finished PDU has 16,488 octets at most.
 #[derive(Debug, Drop)]
 pub struct Session {
     /// The header of the PDU that began it; that of its Metadata PDU once that came.

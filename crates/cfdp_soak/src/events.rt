@@ -136,7 +136,7 @@ fn request_of(
     Request::new(action, path_of(alloc, first)?, second).ok_or(AllocError)
 }
 
-/// The same as it is sent.
+/// The filestore request for the action at these names, as it is sent.
 fn sent(
     alloc: Global,
     action: Action,

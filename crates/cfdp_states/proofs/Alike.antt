@@ -121,7 +121,7 @@ foreign_change reads stays prefixes fp F G slot items alike rooted_F rooted_G he
     let runs = runs_alike reads stays prefixes fp slot F G items (record { alike = alike; held_F = held_F; held_G = held_G }) rooted_F rooted_G within in
     (runs.statuses, runs.growths, same_gap (peak prefixes F slot items) (peak prefixes G slot items) (blocks F) (blocks G) runs.peak, runs.steps)
 
--- f and g blocks, of which s are staged, and x in their place
+-- f and g blocks, of which s are staged, and x instead of these
 restaged : (a b f g h k s x : ℕ) → a + k ≡ b + h → h + s ≡ f + x → k + s ≡ g + x → a - f ≡ b - g
 restaged a b f g h k s x runs first second = omega arith
 

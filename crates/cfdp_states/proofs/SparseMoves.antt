@@ -119,7 +119,7 @@ module _ (visible : Path → Bool) (F : Filestore) (p q : Path) (seen_p : visibl
         | inr out ↦ absurd (true≢false (sym r.there ∙ ap is_some (moved-gone F p q empty x out under)))
       ]
 
-  -- nor where so many names are
+  -- nor where more than 8 names are
   hides-deep : (c : Path) (n : ℕ) → is_at_or_below c q ≡ true → nat_lt 8 (length c) ≡ true →
       Hides (passes_after (RenameFile p q) visible) (moved F p q) c n → {A : Type 0} → A
   hides-deep c n at deep r =

@@ -6,7 +6,7 @@
 --     nothing_hidden, empty_hidden  nothing is to be put below a path that is not leased exclusively, or that has nothing below it
 --     same_below                    what the footprint covers below a path that is leased exclusively
 --     no_beginning, next_beginning, all_beginnings      the beginnings of a path, one after another
---     no_path, next_path, all_paths                     the paths, one after another
+--     next_path, all_paths                              the paths, one after another
 use Rattle.std.proofs.Common.{◌≡◌, refl, sym, ◌∙◌, ap, subst, inl, inr, Bool, true, false, cond, if◌then◌else◌, not, ◌||◌, ◌&&◌, is_some, Some, None, ℕ, zero, suc, ◌+◌, ◌<◌, ◌≤◌, List, [], ◌∷◌, length, length-take, take, take_all, get_or, true≢false, arith}
 use Rattle.std.proofs.lemmas.Bool.{cases_lt, cases_Bool, or_cases, or_left, or_right, and_parts, and_from}
 use Rattle.std.proofs.lemmas.List.Folds.{list_any_more}

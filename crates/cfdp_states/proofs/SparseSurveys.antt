@@ -2,7 +2,7 @@
 --     nothing_sparse, as_sparse       no path;  the same test
 --     already_sparse                  a path that the map has
 --     stepped                         one more path
---     beginnings-more                 one more name of a path
+--     take_take, same_front           one more name of a path
 --     sparse_view                     the view of what was put in
 use Rattle.std.proofs.Common.{◌≡◌, refl, sym, ◌∙◌, ap, subst, ◌⊎◌, inl, inr, ◌↔◌, Bool, true, false, cond, ◌||◌, ◌&&◌, is_some, Option, Some, None, ℕ, zero, suc, ◌<◌, ◌≤◌, List, [], ◌∷◌, length, length-take, take, take_all, if◌then◌else◌, true≢false, arith}
 use Rattle.std.proofs.lemmas.Bool.{cases_lt, cases_Bool, or_cases, or_parts, or_left, or_right, and_parts, false_from_ne_true}
@@ -245,7 +245,7 @@ module _ (known visible : Path → Bool) where
       deep = r.deep;
     }
 
-    -- nothing is hidden below a path of so many names
+    -- nothing is hidden below a path of more than 8 names
     none_below : (p x : Path) → visible p ≡ true → 8 < length p → is_below x p ≡ true → visible x ≡ false → {A : Type 0} → A
     none_below p x seen more below out =
         not_both (visible x) (wide p x seen (omega (arith, more)) ((is_below-Decides x p).0 below).0) out

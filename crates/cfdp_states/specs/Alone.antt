@@ -46,7 +46,7 @@ reached prefixes F slot (item ∷ items) = reached prefixes (performed prefixes 
 abbrev pub need : List Path → Filestore → ℕ → List Item → ℕ
 need prefixes F slot items = peak prefixes F slot items - blocks F
 
--- with x staged in place of what is staged now
+-- with x staged instead of what is staged now
 abbrev pub stage : Filestore → ℕ → List ℕ → Filestore
 stage F slot x = changed F (Stages slot x)
 

@@ -100,7 +100,7 @@ impl Extents {
         ensures value { result ≡ total_blocks self.now }
         ensures within { result < 2 ^ 122 }
     {
-        // No list has this many entries that their blocks pass what is reported.
+        // Read for its contract: the number of entries bounds the sum of their blocks.
         let _ = self.entries.entries().len();
         self.used
     }
@@ -128,7 +128,7 @@ impl Extents {
         self.used = used - u128::from(old.blocks());
     }
 
-    /// The same for a path that is given away.
+    /// Like [`put`](Extents::put), but takes the path by value.
     pub fn insert(&mut self, path: Path, extent: Extent) -> Result<(), Memory>
         ensures ok { OnOk result (self.new ≡ finite.insert self.old path extent) }
         ensures err { OnErr result (self.new ≡ self.old) }

@@ -17,9 +17,9 @@ use cfdp_leases::{Footprint, Lease, covers};
 use cfdp_paths::{MOST_NAMES, Memory, Path};
 use std::alloc::{AllocError, Global};
 
-/// What is at the paths and above them, as far as the footprint covers it. A directory that is leased exclusively has
-/// one entry instead of those that are on the way to no path; it is as deep as these where the requests move it.
-/// `None` where that cannot be said.
+/// What is at the paths and above them, as far as the footprint covers it. In a directory that is leased exclusively,
+/// one made-up directory takes the role of all entries that lead to none of the paths. If the requests move the leased
+/// directory, the made-up one is as deep as the deepest of what it represents. `None` if no such directory can be made.
 ///
 /// Cost: for each path at or above one of the paths a `kind`, a `has_entries`, and a `size` where that is a file; for
 /// each that is leased exclusively and has entries a `has_beside`, and where a request moves it a `deepest_beside`.
@@ -135,8 +135,8 @@ fn add_node<S: Filestore>(
     }
 }
 
-/// Adds one directory below a path, where something is there that is on the way to none of the paths; `false` where no
-/// name is left for it.
+/// Adds the made-up directory below a path, if an entry there leads to none of the paths; `false` where no name is left
+/// for it.
 fn add_filler<S: Filestore>(
     alloc: Global,
     extents: &mut Extents,
@@ -161,8 +161,9 @@ fn add_filler<S: Filestore>(
     Ok(true)
 }
 
-/// The number of names of the directory that is added below a path, where something is there that is on the way to
-/// none of the paths: as many as the longest such path has, if a request moves the path. `None` where nothing is there.
+/// How many names the path of the made-up directory below a path has. If a request moves the path: as many as the
+/// longest path at or below an entry that leads to none of the paths; else one more than the path. `None` where each
+/// entry leads to one of the paths.
 fn hidden_depth<S: Filestore>(
     alloc: Global,
     store: &S,
@@ -182,7 +183,7 @@ fn hidden_depth<S: Filestore>(
     Ok(depth_beside(store, &others, requests, path))
 }
 
-/// The same, where the others are the children of the path that are on the way to the paths.
+/// Like `hidden_depth`, given `others`: the children of the path that lead to the paths.
 fn depth_beside<S: Filestore>(
     store: &S,
     others: &[Path],

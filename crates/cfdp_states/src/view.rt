@@ -27,8 +27,8 @@ const MOST_NEED: u128 = 1 << 32;
 /// list of items goes when it runs alone (CCSDS 727.0-B-5, filestore procedures), how many blocks it needs and how many
 /// steps it takes.
 ///
-/// Sizes stop at the greatest u64, and what is said of blocks and steps at the greatest u32. The need is counted one
-/// further, so that one that no u32 can say still differs from the greatest that one can.
+/// Sizes stop at the greatest u64, and what is said of blocks and steps at the greatest u32. The need saturates at
+/// 2^32, so 'more than u32::MAX' differs from exactly u32::MAX.
 #[derive(Drop)]
 pub struct View<'a> {
     protected: &'a Protected,
@@ -138,10 +138,10 @@ impl<'a> View<'a> {
         Ok(status)
     }
 
-    /// Installs a delivered file of at most `bound` octets at the path (CCSDS 727.0-B-5, copy file procedures), in
-    /// place of a file that is there, and returns whether that is allowed: its parent is the root or a directory,
-    /// and neither a directory nor a protected file is there. Where it is not allowed the view is as before. The
-    /// blocks of the staged file are counted too.
+    /// Installs a delivered file of at most `bound` octets at the path (CCSDS 727.0-B-5, copy file procedures), and
+    /// replaces a file that is there. Returns whether that is allowed: its parent is the root or a directory, and
+    /// neither a directory nor a protected file is there. Where it is not allowed the view is as before. The blocks of
+    /// the staged file are counted too.
     ///
     /// # Errors
     ///

@@ -12,7 +12,7 @@ pub enum Action {
     RenameFile,
     /// Adds the second file's octets to the end of the first file.
     AppendFile,
-    /// Puts the second file's octets in the place of the first file's.
+    /// Replaces the first file's octets by the second file's.
     ReplaceFile,
     /// Makes an empty directory.
     CreateDirectory,

@@ -20,7 +20,7 @@
 --   not_ours         the line of a PDU that is not for the receiver
 --   is_plain         an octet of a path that is written as it is: no space, no control character, no `%`
 --   shown_octet, shown_path    an octet and a path, with `%` and two digits for the others
---   size_text, checksum_text   a file's size, and its checksum in eight digits
+--   checksum_text    the checksum of a file in eight digits
 --   entry_line       the line of what is at a path
 --   blocks_line      the blocks in use, those that are free, and those of them that nobody was granted
 --   listing_text     that line and those of all that exists, in path order

@@ -2,7 +2,7 @@
 --   read >>= next                goes on with what was read, unless there was a fault
 --   Answers view r read          r, seen by view, is what reading gives
 --   Fails memory fault read      reading gives this fault, or the fault is memory and reading gives a value
---   Gives memory view r read     r, seen by view, is what reading gives, or memory in place of a value
+--   Gives memory view r read     r, seen by view, is what reading gives, or memory instead of a value
 use Rattle.std.specs.Prelude.{◌≡◌, ◌⊎◌, Result, Ok, Err, IsOk}
 
 infixl 10 ◌>>=◌

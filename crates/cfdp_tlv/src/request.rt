@@ -226,7 +226,7 @@ pub fn read_request(alloc: Global, value: &[u8]) -> Result<FilestoreRequest, Tlv
     // What is spelled so is read, unless memory runs out.
     ensures only { (request : RequestFields) → SpellsRequest value.now request → (result ≡ Ok request)
         ⊎ (result ≡ Err Memory) }
-    // Which fault it is: `Memory` is only in place of a request.
+    // Which fault it is: `Memory` is only returned instead of a request.
     ensures exact { Gives Memory (λ request. request) result (request_at value.now) }
 {
     copied(alloc, value)

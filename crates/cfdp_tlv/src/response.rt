@@ -246,8 +246,7 @@ pub fn response_parts(value: &[u8]) -> Result<ResponseParts<'_>, TlvFault>
 }
 
 impl<'a> ResponseParts<'a> {
-    /// The response with names and a message of its own, in one allocation. The only fault is want
-    /// of memory.
+    /// The response with names and a message of its own, in one allocation. The only fault is out of memory.
     pub fn copy(&self, alloc: Global) -> Result<FilestoreResponse, AllocError>
         ensures { IfOk result (λ response. response ≡ self.now) }
     {
@@ -274,7 +273,7 @@ pub fn read_response(alloc: Global, value: &[u8]) -> Result<FilestoreResponse, T
     // What is spelled so is read, unless memory runs out.
     ensures only { (response : ResponseFields) → SpellsResponse value.now response → (result ≡ Ok response)
         ⊎ (result ≡ Err Memory) }
-    // Which fault it is: `Memory` is only in place of a response.
+    // Which fault it is: `Memory` is only returned instead of a response.
     ensures exact { Gives Memory (λ response. response) result (response_at value.now) }
 {
     copied(alloc, value)

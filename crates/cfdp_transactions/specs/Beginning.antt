@@ -9,9 +9,6 @@
 --     StartIsEmpty              `start` is the start over the empty filestore
 --     EmptyIsGood, PutIsGood    that one is good;  and one stays good with what is put there
 --     PutIsSound                what is put keeps an entity sound
---     put_all, ArePut           several are put, one after the other;  each of them can be
---     PutBackIsSame             what a filestore has, in path order, can be put into an empty one, which is then the
---                               same
 --     GoodStartIsSound          an entity over a good filestore is sound
 --     HeadlineFrom, EachKeyIsAPathFrom, DoneIsInstalledFrom, FirstIsInstalledFrom, OutcomesFitFrom
 --                               the laws of the same names, of each run from such an entity

@@ -70,7 +70,7 @@ pub record IsCarriedOn (performing : Bool) (F G : Filestore) (e now : Entry) : T
   pub steps_granted : now.steps_granted ≡ e.steps_granted
   -- it spends the blocks that the filestore grows by, no more and no less
   pub blocks_spent : now.blocks_spent ≡ spend e.blocks_spent (blocks G) (blocks F)
-  -- statuses and steps come of its items alone
+  -- only its items change its statuses and steps
   pub steps_spent : IsFalse performing → now.steps_spent ≡ e.steps_spent
   pub statuses : IsFalse performing → now.statuses ≡ e.statuses
 

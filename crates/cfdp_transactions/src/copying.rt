@@ -7,7 +7,7 @@ use cfdp_pdus::Metadata;
 use cfdp_tlv::FilestoreRequest;
 use std::alloc::Global;
 
-/// The same Metadata in memory of its own (CCSDS 727.0-B-5 §5.2.5).
+/// A copy of the Metadata (CCSDS 727.0-B-5 §5.2.5).
 ///
 /// # Errors
 ///
@@ -25,7 +25,7 @@ pub(crate) fn copy_metadata(alloc: Global, metadata: &Metadata) -> Result<Metada
     })
 }
 
-/// The same requests.
+/// A copy of the requests.
 fn copy_requests(
     alloc: Global,
     requests: &[FilestoreRequest],

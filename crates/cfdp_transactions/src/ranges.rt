@@ -11,8 +11,7 @@ use std::marker::Model;
 /// How many separate pieces of one file may be received at most.
 pub(crate) const MOST_PIECES: usize = 32;
 
-/// The most gaps between this many pieces, before the first and after the last: also the pieces that there are with one
-/// more.
+/// One more than `MOST_PIECES`: the most gaps around 32 ranges, and the length of a list during an insert.
 pub const MOST_GAPS: usize = MOST_PIECES + 1;
 
 /// A start, and an end that is no longer part of it: offsets in octets.

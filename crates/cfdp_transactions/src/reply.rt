@@ -52,7 +52,7 @@ pub enum Reply {
 }
 
 impl Reply {
-    /// The same reply once more. It copies nothing and allocates nothing.
+    /// Another handle of the reply. It copies nothing and allocates nothing.
     ///
     /// # Errors
     ///

@@ -58,8 +58,9 @@ pub(crate) fn take<S: Filestore>(
     (Reply::Taken(outcome), Reply::Taken(again))
 }
 
-/// The same with the reply once: the names of the requests are moved into the outcome. Where memory is refused nothing
-/// has changed. Cost: two allocations, a move of each request, and the drop of the rest of what the table has.
+/// Like `take`, but returns the reply once: the names of the requests are moved into the outcome. Where memory is
+/// refused nothing has changed. Cost: two allocations, a move of each request, and the drop of the rest of what the
+/// table has.
 pub(crate) fn take_moved<S: Filestore>(
     alloc: Global,
     store: &S,
@@ -93,8 +94,8 @@ pub(crate) fn take_moved<S: Filestore>(
     Reply::Taken(handle)
 }
 
-/// The same for an outcome that was made before: the transaction at an index is forgotten, and the outcome handed out.
-/// Where memory is refused nothing has changed. Cost: one allocation.
+/// Like `take`, for an outcome that the caller made before: the transaction at an index is forgotten, and the outcome
+/// handed out. Where memory is refused nothing has changed. Cost: one allocation.
 pub(crate) fn hand_out<S: Filestore>(
     alloc: Global,
     store: &S,
@@ -205,7 +206,7 @@ fn bare_outcome(alloc: Global, entry: &Entry) -> Outcome
     }
 }
 
-/// The outcome with these responses in place of its own.
+/// The outcome with these responses instead of its own.
 fn with_responses(outcome: Outcome, responses: Vec<FilestoreResponse>) -> Outcome
     ensures { result ≡ answered_by responses.items outcome }
 {

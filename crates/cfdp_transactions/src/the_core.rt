@@ -345,10 +345,9 @@ impl<S: Filestore> Core<S> {
         }
     }
 
-    /// The same as [`apply`](Core::apply), for an event that is given away: its Metadata is moved, not copied. Out of
-    /// memory the event is dropped. Cost: as `apply`, less the copy of the Metadata. Vectors of it that have room to
-    /// spare keep that room as long as the transaction is in the table; those of
-    /// [`read_event`](crate::read_event) have none.
+    /// Like [`apply`](Core::apply), but takes the event by value: its Metadata is moved, not copied. Out of memory the
+    /// event is dropped. Cost: as `apply`, less the copy of the Metadata. Vectors of it that have room to spare keep
+    /// that room as long as the transaction is in the table; those of [`read_event`](crate::read_event) have none.
     pub fn apply_owned(&mut self, event: Event) -> Reply
         ensures follows { Follows self.old.world event result self.new.world }
         ensures answered { IsFalse (may_want_memory self.old.takes_no_memory event) → IsAnswered result }
@@ -364,8 +363,8 @@ impl<S: Filestore> Core<S> {
         }
     }
 
-    /// The same as [`apply`](Core::apply), with its reply twice: for the journal and for the caller. An outcome's
-    /// second handle is made before anything changes.
+    /// Like [`apply`](Core::apply), but returns the reply twice: once for the journal, once for the caller. An
+    /// outcome's second handle is made before anything changes.
     pub fn apply_both(&mut self, event: &Event) -> (Reply, Reply)
         ensures follows { Follows self.old.world event.now result.0 self.new.world }
         ensures same { result.1 ≡ result.0 }
@@ -533,7 +532,7 @@ impl<S: Filestore> Core<S> {
         taken_outcome::take(self.alloc, &self.store, &mut self.books, place)
     }
 
-    /// The same, with the reply once: no name is copied.
+    /// Like `take`, but returns the reply once: no name is copied.
     fn take_moved(&mut self, id: TransactionId) -> Reply
         ensures follows { Follows self.old.world (Take id) result self.new.world }
         ensures lean { IsNone (outcome_in self.old.world id) → IsAnswered result }

@@ -13,7 +13,7 @@
 --     Kept         the store that an arena is
 --     Slots        its staged lists
 --     Changes      what is made
---     Walk         walks over what is below a place, in path order
+--     Walk         walks over what is below a node or the root, in path order
 --     Survey       the nodes of what is there
 --     Beside       the entries of a directory but for some of them
 --     Text         the octets of a path

@@ -83,6 +83,7 @@ pub(crate) fn any_beside(
     ensures { result ≡ list_any (is_entry_beside others.now.directory.now others.now.paths.now (nodes_in arena.now))
         (nodes orders.now.links.items order) }
 {
+    // Read for its contract alone: an arena has 1 to 65,536 blocks.
     let _free = arena.free();
     if order.is_empty() {
         return false;
@@ -116,6 +117,7 @@ pub(crate) fn deepest_beside(
         (nodes orders.now.links.items order)))) }
     ensures within { result ≤ 8 }
 {
+    // Read for its contract alone: an arena has 1 to 65,536 blocks.
     let _free = arena.free();
     if order.is_empty() {
         return most;

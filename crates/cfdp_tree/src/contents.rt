@@ -178,8 +178,8 @@ impl Contents {
         self.run.read(arena, ways, from, at as usize, buffer)
     }
 
-    /// Adds this many zeros at the end, and returns the index of the last block before them, from which they are found
-    /// at once. In time linear in the blocks that are taken.
+    /// Adds this many zeros at the end, and returns a cursor to the last block before them, so that writing them needs
+    /// no search. In time linear in the blocks that are taken.
     fn make_room(&mut self, arena: &mut Arena, ways: &mut [Way], more: u32) -> Cursor
         requires filled { IsFilled arena.old self.old }
         requires ways { HasWays arena.old ways.old self.old.run }
@@ -262,8 +262,7 @@ impl Contents {
         self.sum = self.sum.wrapping_add(added);
     }
 
-    /// Puts the octets of another list in the place of these, whose blocks go back first. In time linear in the other
-    /// list.
+    /// Replaces these octets by those of another list; their blocks go back first. In time linear in the other list.
     pub(crate) fn replace(&mut self, arena: &mut Arena, ways: &mut [Way], source: &Contents)
         requires filled { IsFilled arena.old self.old }
         requires ways { HasWays arena.old ways.old self.old.run }

@@ -93,7 +93,7 @@ impl Run {
     }
 
     /// Puts the first `len` octets of another run, or of this one where they end at `at` or before, over those of this
-    /// run from the offset `at` on. In time linear in the octets, and in the steps from the place `to` to the first
+    /// run from the offset `at` on. In time linear in the octets, and in the steps from the cursor `to` to the first
     /// block that is written.
     pub(crate) fn copy(&self, arena: &mut Arena, to: Cursor, at: usize, source: &Run, len: usize)
         requires held { IsHeld arena.old self.now }

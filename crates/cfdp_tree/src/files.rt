@@ -98,6 +98,7 @@ pub(crate) fn set_contents(arena: &mut Arena, node: &BlockId, contents: &Content
     ensures free { free_count arena.new ≡ free_count arena.old }
     ensures capacity { length arena.new ≡ length arena.old }
 {
+    // Read for its contract alone: an arena has 1 to 65,536 blocks.
     let _free = arena.free();
     let block = arena.bytes_mut(*node);
     set_run(block, &contents.run);

@@ -82,6 +82,7 @@ pub(crate) fn insert(
     ensures free { free_count arena.new ≡ free_count arena.old }
     ensures size { length arena.new ≡ length arena.old }
 {
+    // Read for its contract alone: an arena has 1 to 65,536 blocks.
     let _free = arena.free();
     let place = place_of(heads, directory, name);
     let head = heads[place];

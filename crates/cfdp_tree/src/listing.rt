@@ -55,7 +55,7 @@ pub(crate) fn only_standing(
     Ok(all)
 }
 
-/// The same with the checksums of the files. In time linear in the number of the nodes.
+/// Like `standings`, with the checksums of the files. In time linear in the number of the nodes.
 ///
 /// # Errors
 ///
@@ -96,7 +96,7 @@ fn standing(arena: &Arena, path: Path, node: &BlockId) -> Standing
     }
 }
 
-/// The same with the checksum of a file.
+/// Like `standing`, with the checksum of a file.
 fn entry(arena: &Arena, path: Path, node: &BlockId) -> Entry
     requires { IsSoundNode arena.now (path, node.now) }
     ensures { result ≡ listing_entry (shown_node arena.now (nodes_in arena.now) (path, node.now)) }

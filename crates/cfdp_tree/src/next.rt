@@ -63,9 +63,9 @@ impl TreeStore {
     }
 }
 
-/// The first node in path order after the path that a place and more names make, among the nodes at and below the
-/// place; `None` is the root. Takes no memory. In time logarithmic in the entries of the directories on the way, by at
-/// most 9 calls within one another.
+/// The first node in path order after the path that a node, or the root for `None`, and more names make, among the
+/// nodes at and below it. Takes no memory. In time logarithmic in the entries of the directories on the way, by at most
+/// 9 calls within one another.
 fn next_below(
     arena: &Arena,
     orders: &Orders,

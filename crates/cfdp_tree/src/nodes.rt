@@ -64,6 +64,7 @@ pub(crate) fn rename_node(
     ensures free { free_count arena.new ≡ free_count arena.old }
     ensures capacity { length arena.new ≡ length arena.old }
 {
+    // Read for its contract alone: an arena has 1 to 65,536 blocks.
     let _free = arena.free();
     let parent = directory.unwrap_or(*node);
     let block = arena.bytes_mut(*node);

@@ -106,6 +106,7 @@ impl Orders {
         requires entry { IsEntry (nodes_in arena.now) directory name.now node.now }
         ensures { IsInOrders (nodes_in arena.now) self.new None }
     {
+        // Read for its contract alone: an arena has 1 to 65,536 blocks.
         let _free = arena.free();
         let order = self.of(&directory);
         let sought = ByName { arena, name };
@@ -127,6 +128,7 @@ impl Orders {
         requires entry { IsEntry (nodes_in arena.now) directory name.now node.now }
         ensures { IsInOrders (nodes_in arena.now) self.new (Some node.now) }
     {
+        // Read for its contract alone: an arena has 1 to 65,536 blocks.
         let _free = arena.free();
         let order = self.of(&directory);
         let sought = ByName { arena, name };
@@ -149,6 +151,7 @@ impl Orders {
         ensures found { IfSome result (λ b. IsEntry (nodes_in arena.now) directory.now name.now b) }
         ensures none { IfNone result ((b : ℕ) → IsEntry (nodes_in arena.now) directory.now name.now b → ⊥) }
     {
+        // Read for its contract alone: an arena has 1 to 65,536 blocks.
         let _free = arena.free();
         let order = self.of(directory);
         let found = first_from(&self.links, order, &ByName { arena, name })?;
@@ -177,6 +180,7 @@ impl Orders {
         ensures none { IfNone result (All (λ c. IsBehind (option_map (λ name. name.now) after.entry)
             (name_at (nodes_in arena.now) c) → ⊥) (in_order self.now directory.now)) }
     {
+        // Read for its contract alone: an arena has 1 to 65,536 blocks.
         let _free = arena.free();
         let order = self.of(directory);
         let found = match after {

@@ -191,6 +191,7 @@ pub(crate) fn take_block(arena: &mut Arena) -> BlockId
     ensures capacity { length arena.old ≤ 65536 }
     ensures zeros { arena.new ≡ with_block arena.old result blank_block }
 {
+    // Read for its contract alone: an arena has 1 to 65,536 blocks.
     let _free = arena.free();
     let Some(block) = arena.take() else {
         unreachable!();

@@ -134,8 +134,8 @@ impl Slot {
         self.blank_from = self.blank_from.max(end);
     }
 
-    /// The gap once octets are written from the offset `at` up to `end`: what is left of it, or what was never written
-    /// between the octets before them and them, whichever is longer.
+    /// The gap after octets are written from the offset `at` up to `end`. It is the longer of two: what is left of the
+    /// gap, and the octets from `blank_from` up to `at`, which were never written.
     fn gap_after(&self, at: usize, end: usize) -> Gap
         requires ordered { self.now.gap.from ≤ self.now.gap.to }
         ensures blank { (octets part : List ℕ) → length octets ≡ self.now.contents.size → at + length part ≡ end

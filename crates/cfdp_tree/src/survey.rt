@@ -1,4 +1,4 @@
-//! What exists at a place of the tree and below it, in path order.
+//! What exists at a node of the tree or the root, and below it, in path order.
 ghost use Rattle.std.specs.Prelude.{◌≡◌, ◌≤◌, ℕ, Some, All, IfOk, length, map};
 ghost use Rattle.cfdp_tree.specs.code.Nodes.{nodes_in};
 ghost use Rattle.cfdp_tree.specs.code.Tree.{IsTree, IsNode};
@@ -14,7 +14,7 @@ use cfdp_arena::{Arena, BlockId};
 use cfdp_paths::{Memory, Path};
 use std::alloc::Global;
 
-/// A place, `None` for the root, whose path has `depth` names, and all that is below it, each with its path, in path
+/// A node whose path has `depth` names, or the root for `None`, and all that is below it, each with its path, in path
 /// order; the root itself is left out. In time linear in the octets of the paths.
 ///
 /// # Errors

@@ -1,4 +1,4 @@
-//! Walks over what is below a place, in path order.
+//! Walks over what is below a directory or the root, in path order.
 ghost use Rattle.std.specs.Prelude.{◌≡◌, ◌≤◌, ◌++◌, OnOk};
 ghost use Rattle.cfdp_order.specs.Orders.{nodes, IsOrder};
 ghost use Rattle.cfdp_tree.specs.code.Nodes.{nodes_in};
@@ -23,6 +23,7 @@ pub(crate) fn deepest_in(arena: &Arena, orders: &Orders, order: Order, depth: us
         (walks_at orders.now depth (nodes orders.now.links.items order)) }
     ensures within { result ≤ 8 }
 {
+    // Read for its contract alone: an arena has 1 to 65,536 blocks.
     let _free = arena.free();
     if order.is_empty() {
         return 0;
@@ -70,6 +71,7 @@ pub(crate) fn collect_nodes(
     ensures { OnOk result (found.new.items ≡ found.old.items
         ++ walks_at orders.now depth (nodes orders.now.links.items order)) }
 {
+    // Read for its contract alone: an arena has 1 to 65,536 blocks.
     let _free = arena.free();
     if order.is_empty() {
         return Ok(());

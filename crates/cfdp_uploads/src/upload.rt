@@ -66,8 +66,8 @@ impl<'a> Upload<'a> {
     /// indices, which count from 0. The direction of the header, and the size and the checksum type of the Metadata,
     /// are set here: each PDU goes toward the receiver, and the checksum is the modular one.
     ///
-    /// The first [`UploadFault`] is returned, in their order. `Memory` may be returned in place of each answer.
-    /// Cost: one pass over the requests and the order; an octet of memory for each piece, which is given back.
+    /// The first [`UploadFault`] is returned, in their order. `Memory` may be returned instead of any answer. Cost: one
+    /// pass over the requests and the order; an octet of memory for each piece, which is given back.
     pub fn new(
         alloc: Global,
         header: Header,

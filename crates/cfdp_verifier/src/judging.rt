@@ -25,8 +25,7 @@ pub struct Costs {
     pub steps: u32,
 }
 
-/// Runs the items alone, and returns what they cost where no more than that is left: the list may take this many steps,
-/// and this many blocks are to spare.
+/// Runs the items alone. Returns their cost if it is at most 65,536 steps and `spare` blocks, else the refusal.
 pub fn judge<S: Filestore>(
     alloc: Global,
     store: &S,

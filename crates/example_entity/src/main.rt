@@ -2,7 +2,7 @@
 //! item that is performed and each Finished PDU go out on standard output.
 //!
 //! The entity has number 2 and a filestore of 64 blocks, in which there is a directory `app` with a file `app/prog`
-//! before the first PDU. `docs/GUIDE.md`, 'The engine', explains the calls. Between two PDUs all items that can be
+//! before the first PDU. `docs/GUIDE.md`, 'The core', explains the calls. Between two PDUs all items that can be
 //! performed are performed, and each outcome is taken.
 #![tactic(auto)]
 

@@ -1,5 +1,5 @@
 -- What only the proofs of the code need of `Prefixes`.
---     present places    the paths that are in the places, in order
+--     present places    the paths that are in the entries, in order
 use Rattle.std.specs.Prelude.{List, [], ◌∷◌, Option, Some, None}
 use Rattle.cfdp_paths.specs.Paths.{Path}
 

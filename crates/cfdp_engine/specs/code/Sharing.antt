@@ -1,6 +1,6 @@
 -- What only the proofs of the code need of `Sharing`.
---     receipt_of                what a seat is informed of an event that it handed in: the receipt, or why it was not
---                               taken
+--     receipt_of                what is reported to a seat about an event that it handed in: the receipt, or why it was
+--                               not taken
 use Rattle.std.specs.Prelude.{ℕ, Result, Ok, Err}
 use Rattle.cfdp_transactions.specs.declared.event.Event.{Event}
 use Rattle.cfdp_transactions.specs.declared.reply.Reply.{Reply}

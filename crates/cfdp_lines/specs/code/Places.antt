@@ -1,6 +1,6 @@
 -- Where a session is.
 --
---   session_place  the place of a session, by what its script's state is seen as
+--   session_place  where a session is in its script, by what the script's state is seen as
 use Rattle.cfdp_lines.specs.Session.{Place, place}
 use Rattle.cfdp_lines.specs.declared.session.Session.{Session}
 

@@ -3,7 +3,7 @@
 --     AtIndex ss index P        P of the session with this index
 --     IsSessionAt R id index    the session of this name has this index
 --     in_world V M              the machine in another world
---     timer_in ss due           the timer that is due, with its session in place of its index
+--     timer_in ss due           the timer that is due, with its session instead of its index
 --     is_expired                            whether a timer has expired
 --     Turns M N a i             from M to N with the answer a is the turn of the input i; M is as late as i
 --     IsWholeReceiver R         what is true of a receiver at all times

@@ -118,7 +118,7 @@ installs : shown (next (delivered config []) (Step (id 10))) ≡ (Reply.Installe
 unfolding row free_row install blocks blocks_of
 installs = simp look_ups
 
--- in place of a file of two blocks
+-- over a file of two blocks
 installs_over : shown (next (delivered config ((codes "f" ∷ [], File (replicate 121 5)) ∷ [])) (Step (id 10)))
     ≡ (Reply.Installed, (codes "f" ∷ [], File (replicate 15 7)) ∷ [], (negsuc 0, 3) ∷ [])
 unfolding row free_row install blocks blocks_of

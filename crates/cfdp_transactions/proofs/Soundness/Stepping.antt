@@ -50,7 +50,7 @@ noted_counts : (prefixes : List Path) (F : Filestore) (slot : ℕ) (item : Item)
 noted_counts prefixes F slot (Install p) items ss = rw (noted_none ss _ (row_of_install prefixes F slot p).answer) refl
 noted_counts prefixes F slot (Perform request) items ss = omega (arith, noted_one ss _ (row_of_request prefixes F slot request).answer)
 
--- 'successful' of its own action, in its place
+-- 'successful' of its own action, at its index
 noted_in_order : (prefixes : List Path) (F : Filestore) (slot : ℕ) (item : Item) (items : List Item) (ss : List Status) →
     IsTrue (succeeded (row prefixes F slot item).answer) →
     noted ss (row prefixes F slot item).answer ++ successes items ≡ ss ++ successes (item ∷ items)

@@ -2,7 +2,7 @@
 --     without_first, without_other     the list's first node is the one, or is another one
 --     without_all, without_has     without a node that is not in it;  the other nodes are there still
 --     length_without     it is shorter by one
---     links_after        the node that a list's node names as the next one is in it too, one place later
+--     links_after        the node that a list's node names as the next one is in it too, one index later
 --     in_list, in_nodes  a node that is not the last one of a list is in it
 --     cut_chain          where the node before it names the node after it, the list is without it
 use Rattle.std.proofs.Common.{◌≡◌, ◌≢◌, ℕ, suc, zero, ◌+◌, ◌-◌, List, [], ◌∷◌, cond, length, refl, sym, ap, ◌∙◌, subst, inl, inr, arith}

@@ -3,7 +3,7 @@
 --     ends_by_length            a way ends within as many nodes as it has names
 --     path_by_home              a node's path is that of its directory, and its name
 --     some_path                 it has a name
---     same_place, entry_at, path_entry      a path is that of one place;  and what is in it
+--     same_place, entry_at, path_entry      a path is that of one node or of the root;  and what is in it
 --     beginning                 each beginning of a node's path is the path of a node
 use Rattle.std.proofs.Common.{◌≡◌, ℕ, suc, zero, ◌<◌, ◌≤◌, [], ◌∷◌, ◌++◌, length, length-append, take, Option, Some, None, refl, sym, ap, ◌∙◌, subst, inl, inr, arith}
 use Rattle.std.proofs.lemmas.Bool.{cases_lt}
@@ -76,7 +76,7 @@ module _ (nodes : Blocks) (tree : IsTree nodes) where
   same_place (Some c) None xs ys e = absurd (some_path c (xs c refl) e)
   same_place (Some c) (Some d) xs ys e = ap Some (same_node nodes tree c d (xs c refl) (ys d refl) e)
 
-  -- what has a name more than a place is in it
+  -- what has a name more than a directory is in it
   pub entry_at : (place : Option ℕ) (p : Path) (name : Name) (b : ℕ) → StandsAt nodes place p → IsNode nodes b → path_of_node nodes b ≡ p ++ name ∷ [] →
       IsEntry nodes place name b
   entry_at place p name b stands node e =

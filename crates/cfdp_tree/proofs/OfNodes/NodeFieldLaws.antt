@@ -91,7 +91,7 @@ pub length-name : (block : List ℕ) → length block ≡ 128 → (node_fields_o
     (node_fields_of block).name_length
 length-name block whole fits = length-take-le (node_fields_of block).name_length (drop 32 block) (omega (arith, length-drop 32 block))
 
--- a name in its place
+-- a name at its offset
 pub name-put : (block name : List ℕ) → length block ≡ 128 → take (length name) (drop 32 (with_part block 24 name)) ≡ name
 name-put block name whole =
     let front : length (take 32 block) ≡ 32 = length-take-le 32 block (omega arith) in

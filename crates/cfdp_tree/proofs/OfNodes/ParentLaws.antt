@@ -1,6 +1,6 @@
--- The place of a path's parent, where it is the root or a directory.
+-- A path's parent, where it is the root or a directory.
 --     parent_directory, parent_path     a node that is found is a directory, and its path is that of the parent
---     parent_place                      it is a place
+--     parent_place                      it is the root or a directory
 use Rattle.std.proofs.Common.{◌≡◌, ℕ, zero, suc, ◌+◌, true, not, length, take, Option, Some, None, refl, sym, ap, ◌∙◌, subst, ◌≤◌, arith}
 use Rattle.std.specs.Prelude.{IfSome, IfNone}
 use Rattle.cfdp_paths.specs.Paths.{Path}

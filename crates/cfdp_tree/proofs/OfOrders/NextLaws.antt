@@ -83,10 +83,10 @@ name_upto m n (l ∷ t) upto greater = by_order (name_cmp m n) refl
     by_order Equal e = less_greater (ap (λ o. ordering_then o Less) e) greater
     by_order Greater e = upto e
 
--- ---- the nodes that follow, at and below a place
+-- ---- the nodes that follow, at and below a node or the root
 
 module _ (nodes : Blocks) (tree : IsTree nodes) (place : Option ℕ) (a : Path) (stands : StandsAt nodes place a) where
-  -- such a node has a name more than the place
+  -- such a node has a name more than that
   module _ (p : Path) (c : ℕ) (follows : ComesAfter nodes a (a ++ p) c) where
     rest : Path
     rest = drop (length a) (path_of_node nodes c)
@@ -159,7 +159,7 @@ module _ (nodes : Blocks) (tree : IsTree nodes) (place : Option ℕ) (a : Path) 
                 (sym (path_cmp-append a (name_at nodes b ∷ []) (name_at nodes at.0 ∷ at.3)) ∙ (λ k. path_cmp (sym way k) (sym at.4 k)) ∙ greater));
           }
 
-  -- all entries follow the place itself
+  -- all entries follow the directory or the root itself
   pub apart_last : (list : List ℕ) (is_list : IsListOf nodes place list) → IsApart list is_list [] None
   apart_last list is_list c m t follows way behind = tt
 

@@ -1,10 +1,10 @@
 -- Entries in order of their names, as one of them comes and goes.
---     member_at                   a node of an order is one of its place
---     apart_places                no node is in the orders of two places
+--     member_at                   a node of an order is one of its directory
+--     apart_places                no node is in the orders of two directories
 --     out_nowhere                 a node that is out is in none
---     entered, left               the orders once an entry is put into that of its place, and once it is taken out
+--     entered, left               the orders once an entry is put into that of its directory, and once it is taken out
 --     same_change, same_others    what stays, by what was read first
---     place_inside, home_node     a place that is there has an order
+--     place_inside, home_node     a directory that is there has an order
 use Rattle.std.proofs.Common.{◌≡◌, ◌≢◌, ℕ, ◌+◌, ◌<◌, ◌≤◌, List, ◌∷◌, ◌++◌, length, Option, Some, None, refl, sym, ap, ◌∙◌, subst, inl, inr, arith}
 use Rattle.std.proofs.lemmas.Bool.{cases_eq, cases_lt}
 use Rattle.std.proofs.lemmas.List.Elements.{All-weaker}
@@ -50,7 +50,7 @@ module _ (nodes : Blocks) (orders : Orders) (out : Option ℕ) (ordered : IsInOr
   pub out_nowhere : (b : ℕ) → out ≡ Some b → (place : Option ℕ) → times_in b (in_order orders place) ≡ 0
   out_nowhere b is place = none_times b (in_order orders place) (λ some. (member_at place b some).listed is)
 
--- the orders of all places but one stay
+-- the orders of all directories but one stay
 module _ (nodes : Blocks) (old now : Orders) (was out : Option ℕ) (place : Option ℕ) (list : List ℕ) (ordered : IsInOrders nodes old was)
     (links : length now.links.items ≡ length nodes) (directories : length now.directories.items ≡ length nodes)
     (here : IsOrder now.links.items (order_at now place)) (here_is : in_order now place ≡ list)
@@ -95,7 +95,7 @@ module _ (nodes : Blocks) (tree : IsTree nodes) (old : Orders) (place : Option �
   some_same : {x y : ℕ} → Some x ≡ Some y → x ≡ y
   some_same e = cc
 
-  -- the orders of other places, whose nodes are not in a list
+  -- the orders of other directories, whose nodes are not in a list
   module _ (out : Option ℕ) (ordered : IsInOrders nodes old out) (links : List Links) (changed : List ℕ) (others : OtherLinksStay old.links.items links changed)
       (apart : (p : Option ℕ) → p ≢ place → (m : ℕ) → 1 ≤ times_in m (in_order old p) → times_in m changed ≡ 0)
       (now : Orders) (links_now : now.links.items ≡ links) (elsewhere : (p : Option ℕ) → p ≢ place → order_at now p ≡ order_at old p) where
@@ -264,7 +264,7 @@ pub same_others : (ls ms new : List Links) (o p : Order) → ls ≡ ms → o ≡
 same_others ls ms new o p e f others =
     subst (λ l. OtherLinksStay l new (trees.nodes l p)) e (subst (λ (q : Order). OtherLinksStay ls new (trees.nodes ls q)) f others)
 
--- the index of a place that is there
+-- the index of a node that is there
 pub place_inside : (nodes : Blocks) (orders : Orders) (out place : Option ℕ) → IsInOrders nodes orders out → ((d : ℕ) → place ≡ Some d → IsNode nodes d) →
     (d : ℕ) → place ≡ Some d → d < length orders.directories.items
 place_inside nodes orders out place ordered node d e = omega (arith, live_within nodes d (node d e), ordered.directories)

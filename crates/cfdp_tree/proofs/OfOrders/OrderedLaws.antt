@@ -4,7 +4,7 @@
 --     ordered_kept                 then the entries stay in order
 --     ordered_out, ordered_back    a block that is no node is out of all orders
 --     ordered_made, ordered_moved, ordered_gone    a node is made, is put elsewhere, goes
---     listed_in                    the order of a place has just its nodes
+--     listed_in                    the order of a directory or the root has just its nodes
 --     ordered_written              the octets of a file change
 --     ordered_none                 where there are no nodes
 use Rattle.std.proofs.Common.{◌≡◌, ◌≢◌, ℕ, ◌<◌, List, [], length, get_or, set, length-set, Option, Some, None, is_some, sym, ap, ◌∙◌, subst, arith}

@@ -2,9 +2,9 @@
 --     of_times, at_times       what is true of each node of a list, by how many times it is there
 --     split_at                 a list with a node that is in it
 --     pairs_front, pairs_back  the nodes before a node of such a list, and those after it
---     less_back, side_of       how a name compares with that of a node
+--     less_back                how a name compares with that of a node
 --     less_first, greater_last the nodes with names before another name come first, and those with names after it last
---     place_cases              two places are one or not
+--     place_cases              two directories are one or not
 --     none_from, other_from, there_from    the first node that does not come before a name, and whether it has the name
 --     first_least, after_least the first node is that of the least name, and the first one after a name the next one
 use Rattle.std.proofs.Common.{◌≡◌, ◌≢◌, ℕ, ◌≤◌, List, [], ◌∷◌, ◌++◌, get_or, Option, Some, None, refl, sym, ap, ◌∙◌, subst, ◌⊎◌, inl, inr, arith}

@@ -1,5 +1,5 @@
 -- A run whose first octets are copied, to another run or after itself, after one write of the copy.
---     front_held, front_nth     it is held, and its places are where they were
+--     front_held, front_nth     it is held, and its blocks are where they were
 --     front_take                the octets that are copied are what they were
 use Rattle.std.proofs.Common.{◌≡◌, ℕ, ◌≤◌, List, length, take, sym, ap, ◌∙◌, subst, inl, inr}
 use Rattle.std.proofs.lemmas.Bool.{cases_eq}

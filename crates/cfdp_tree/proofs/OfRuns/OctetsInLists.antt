@@ -1,4 +1,4 @@
--- Octets put in the place of others, in a list that is two lists joined.
+-- Octets that replace others, in a list that is two lists joined.
 --     overwritten-left, overwritten-right     in the first of them, in the second
 --     overwritten-join, overwritten-none      one part after another, and no octets
 --     overwritten-extended                    octets put after a list that was lengthened by zeros

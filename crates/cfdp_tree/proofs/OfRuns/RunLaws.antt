@@ -3,7 +3,7 @@
 --     nth_part, nth_more, length-run         a part of a run;  one step further;  120 octets a block
 --     run_slice                              octets of one block
 --     KeepsFrom, kept_run, kept_octets, kept_nth     the parts from a rank on hold what they held, so the run is as it was
---     others_keep                            the run of another owner, where the others stay
+--     beyond_keeps                           another block for one part keeps the parts after it
 --     written_run, written_octets, written_nth       the payload of one part is written
 --     linked_run, linked_octets, linked_nth, linked_before    one more part after the last one
 use Rattle.std.proofs.Common.{◌≡◌, ◌≢◌, ℕ, suc, zero, ◌+◌, ◌*◌, ◌<◌, ◌≤◌, List, [], ◌++◌, length, take, drop, set, Option, Some, None, refl, sym, ap, ◌∙◌, subst, arith, length-append, length-drop}

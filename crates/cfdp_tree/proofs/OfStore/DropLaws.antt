@@ -3,7 +3,7 @@
 --     seen_found                            where something is at a path its node is found
 --     held_filled, held_by_node, held_small, weight_is     what the node holds
 --     node_name                             its name is the path's last one
---     tree_kept, index_kept, entry_kept     it is taken out of the list of its directory
+--     tree_one, index_one, entry_one        it is taken out of the list of its directory
 --     drop_view, drop_store                 the store once it is given back
 use Rattle.std.proofs.Common.{◌≡◌, ◌≢◌, ℕ, ◌+◌, ◌-◌, ◌≤◌, true, false, not, List, [], ◌∷◌, ◌++◌, length, length-append, map, get_or, Option, Some, None, refl, sym, ap, ◌∙◌, subst, inl, inr, arith}
 use Rattle.std.proofs.lemmas.List.{get_or-set_same, get_or-set_other, get_or-append_right, get_or_append_left, get_or_past}

@@ -5,7 +5,7 @@
 --     found_same, found_apart    two of them are at one node, or their octets are apart
 --     found_one, found_two       and their paths are one, or two
 --     append_most, append_room   there are blocks for the octets of both, those of the other one after these
---     replace_room, replace_most there are blocks for the octets of the other one in the place of these
+--     replace_room, replace_most there are blocks for the octets of the other one instead of these
 --     found_store, found_changes     its octets change
 use Rattle.std.proofs.Common.{◌≡◌, ◌≢◌, ℕ, ◌+◌, ◌-◌, ◌≤◌, Bool, true, false, List, [], ◌∷◌, length, get_or, Option, Some, None, refl, sym, ap, ◌∙◌, subst, arith}
 use Rattle.std.specs.FinMap as finite

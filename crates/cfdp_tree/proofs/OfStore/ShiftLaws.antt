@@ -2,7 +2,7 @@
 --     shallow_each                      each path of a tree that is not too deep has at most 8 names
 --     place_nodes, place_other          the new directory is a node, and another one
 --     tree_three, index_three, entry_three     the node is put into it while it is in no list
---     shift_view, shift_store           the store once it is in the lists of its new place
+--     shift_view, shift_store           the store once it is in the lists of its new directory
 use Rattle.std.proofs.Common.{◌≡◌, ◌≢◌, ℕ, ◌+◌, ◌≤◌, nat_lt, Bool, true, false, not, cond, ◌||◌, List, [], ◌∷◌, ◌++◌, length, take, get_or, Option, Some, None, is_some, refl, sym, ap, ◌∙◌, subst, inr, arith}
 use Rattle.std.proofs.lemmas.Bool.Decides.{nat_tests}
 use Rattle.std.specs.FinMap as finite

@@ -2,8 +2,8 @@
 --     Contains-flat_map, All-flat_map, AllPairs-append, AllPairs-flat_map     lists made of lists
 --     Before                        a node whose path is less
 --     walk_own, walk_all, walk_rising    what is walked over from a node
---     walks_own, walks_all, walks_rising from the entries of a place
---     survey_from, survey_rising    of a place
+--     walks_own, walks_all, walks_rising from the entries of a directory or the root
+--     survey_from, survey_rising    of a node or the root
 use Rattle.std.proofs.Common.{◌≡◌, ◌≢◌, ℕ, zero, suc, ◌+◌, ◌-◌, ◌<◌, true, List, [], ◌∷◌, ◌++◌, length, length-append, take, drop, get_or, Option, Some, None, refl, sym, ap, ◌∙◌, subst, inl, inr, arith}
 use Rattle.std.proofs.lemmas.Bool.{cases_lt}
 use Rattle.std.proofs.lemmas.List.{append-nil, append_assoc, take_at, take_all, take_more, take-append-drop}
@@ -73,14 +73,14 @@ module _ (nodes : Blocks) (tree : IsTree nodes) (orders : Orders) (ordered : IsI
   none_some : {x : ℕ} → None ≡ Some x → ⊥
   none_some e = cc
 
-  -- the path of a member of a place
+  -- the path of an entry of a directory or the root
   member_path : (place : Option ℕ) (e : ℕ) → IsNode nodes e → home nodes e ≡ place → path_of_node nodes e ≡ path_at nodes place ++ name_at nodes e ∷ []
   member_path place e node there = path_by_home nodes tree e node ∙ ap (λ x. path_at nodes x ++ name_at nodes e ∷ []) there
 
   member_length : (place : Option ℕ) (e : ℕ) → IsNode nodes e → home nodes e ≡ place → length (path_of_node nodes e) ≡ length (path_at nodes place) + 1
   member_length place e node there = omega (arith, ap length (member_path place e node there), length-append (path_at nodes place) (name_at nodes e ∷ []))
 
-  -- what is walked over from the entries of a place
+  -- what is walked over from the entries of a directory or the root
   deeper : (place : Option ℕ) (e : ℕ) → IsNode nodes e → home nodes e ≡ place → (c : ℕ) → IsUnder nodes (path_of_node nodes e) c →
       IsDeeper nodes (path_at nodes place) c
   deeper place e node there c under = record {
@@ -120,7 +120,7 @@ module _ (nodes : Blocks) (tree : IsTree nodes) (orders : Orders) (ordered : IsI
       Contains-flat_map (walk orders n) list entry.0 c (has entry.0 entry.1 at.there)
       (below entry.0 c entry.1 (record { node = deep.under.node; below = under }) (omega (arith, short, member_length place entry.0 entry.1 at.there)))
 
-  -- of two entries of one place all that is at the one or below it comes before all that is so at the other
+  -- of two entries of one directory all that is at the one or below it comes before all that is so at the other
   abbrev pub Before : ℕ → ℕ → Type 0
   Before b c = path_cmp (path_of_node nodes b) (path_of_node nodes c) ≡ Less
 
@@ -205,7 +205,7 @@ module _ (nodes : Blocks) (tree : IsTree nodes) (orders : Orders) (ordered : IsI
       less_itself (path_of_node nodes (get_or list i d)) (ap (λ x. path_cmp (path_of_node nodes (get_or list i d)) (path_of_node nodes x)) same
       ∙ rising i j d less within)
 
-  -- all that is at a place and below it
+  -- all that is at a node or the root and below it
   pub survey_rising : (place : Option ℕ) (depth : ℕ) → ((d : ℕ) → place ≡ Some d → IsNode nodes d) → AllPairs Before (walk_from orders depth place)
   survey_rising None depth node = walks_rising (8 - depth) (walk_own (8 - depth)) (walk_rising (8 - depth)) None
   survey_rising (Some b) depth node = walk_rising (suc (8 - depth)) b (node b refl)

@@ -1,15 +1,15 @@
--- Walks over what is below a place.
+-- Walks over what is below a directory or the root.
 --     max_three, longest-append     of numbers and of nodes together
 --     few_names                 a path has no more than 8 names
 --     deep_parts                of an order, a node and those before and after it
 --     longest_parts, walks_parts    the longest path, and a walk, in these parts
---     place_deep                the entries of a place have a name more
+--     place_deep                the entries of a directory have a name more
 --     Parts, parts              an order that is not empty, with the orders of its parts
 --     falls_below               how far a walk has to go yet
 --     no_walk                   of an empty order nothing is walked over
 --     filled, read_parts, read_around, top_inside    the same by what a walk reads
---     place_few                 a place has 8 names at most
---     some_begun, none_begun, one_deeper    where a walk from a place begins
+--     place_few                 the path of a directory has 8 names at most
+--     some_begun, none_begun, one_deeper    where a walk from a directory or the root begins
 use Rattle.std.proofs.Common.{◌≡◌, ℕ, zero, suc, ◌+◌, ◌≤◌, max, ◌-◌, ◌*◌, ◌<◌, List, [], ◌∷◌, ◌++◌, length, length-append, get_or, Bool, true, false, inl, inr, Option, Some, None, refl, sym, ap, ◌∙◌, subst, arith}
 use Rattle.std.proofs.Math.Nat.{zero-max}
 use Rattle.std.proofs.lemmas.Grind.{flat_map-append}
@@ -97,7 +97,7 @@ walks_parts orders n m sofar before b after e =
     ∙ sym (append_assoc (sofar ++ first) (b ∷ below) last)
     ∙ ap (λ list. list ++ last) (sym (append_assoc (sofar ++ first) (b ∷ []) below))
 
--- a name more than the place
+-- a name more than the directory
 pub place_deep : (nodes : Blocks) → IsTree nodes → (orders : Orders) → IsInOrders nodes orders None → (place : Option ℕ) (depth : ℕ) →
     length (path_at nodes place) ≡ depth → StandAt nodes (depth + 1) (in_order orders place)
 place_deep nodes tree orders ordered place depth long = All-weaker (IsMember nodes None place) (StandsDeep nodes (depth + 1)) (λ e member. record {
@@ -251,7 +251,7 @@ pub place_few : (nodes : Blocks) (place : Option ℕ) → length (path_at nodes 
 place_few nodes None = omega arith
 place_few nodes (Some d) = few_names nodes d
 
--- where a walk from a place begins
+-- where a walk from a directory or the root begins
 pub some_begun : (orders : Orders) (depth : ℕ) (place : Option ℕ) (start : List ℕ) (b : ℕ) → place ≡ Some b → start ≡ b ∷ [] → start
     ++ walks orders (8 - depth) (in_order orders place) ≡ walk_from orders depth place
 some_begun orders depth place start b e is = (λ k. is k ++ walks orders (8 - depth) (in_order orders (e k))) ∙ ap (walk_from orders depth) (sym e)

@@ -2,8 +2,8 @@
 --     name_cmp                  the order of names by octets
 --     IsBehind after name       the name is greater, where another one is given
 --     IsLeast nodes after list b    the least name after it is that of this node of the list
---     IsListOf nodes place list     the nodes of the list are just those that are in the place
---     ComesAfter nodes place p b  a node at or below the place, after p
+--     IsListOf nodes place list     the nodes of the list are just the entries of the directory or the root
+--     ComesAfter nodes place p b  a node at or below the node or the root, after p
 --     IsFirst nodes place p b   the first one of these
 use Rattle.std.specs.Prelude.{◌≡◌, ◌≢◌, ℕ, true, List, Option, Some, None, All, Contains}
 use Rattle.std.specs.Cmp.Lexicographic.{slice_cmp}

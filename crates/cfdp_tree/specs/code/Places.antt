@@ -1,6 +1,6 @@
--- Directories as places, of which the root is one.
+-- Nodes and the root, which is none of them, with their paths.
 --     path_at nodes place       the path of a directory;  none of the root
---     StandsAt nodes place p    the place is one, and has this path
+--     StandsAt nodes place p    it is a node or the root, and has this path
 use Rattle.std.specs.Prelude.{◌≡◌, ℕ, [], Option, Some}
 use Rattle.std.specs.Option.{option_map_or}
 use Rattle.cfdp_arena.specs.Arena.{Blocks}

@@ -46,7 +46,7 @@ fn new_entity(alloc: Global) -> Result<Entity, Memory> {
     }
 }
 
-/// The same over a store that takes memory for each change.
+/// Like `new_entity`, but a core over a store that takes memory for each change.
 fn new_core(alloc: Global) -> Result<Core<ListStore>, Memory> {
     match Config::new(2, 16, 2400, 2, 1000, Protected::new()) {
         Ok(config) => Core::new(alloc, config, ListStore::new(alloc, 16)?),

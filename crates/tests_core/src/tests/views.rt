@@ -174,7 +174,7 @@ fn is_refused_at(
     Ok(is_refused && is_same && is_installed && answers(&view, &allowed) == (Some(15), 2, 2))
 }
 
-/// In place of a protected file, of a directory, and where there is no parent; the view then goes on.
+/// An install over a protected file, over a directory, and where there is no parent; the view then goes on.
 #[test]
 fn an_install_that_is_not_allowed_changes_nothing(rt: HostRuntime) -> Result<(), Memory> {
     let scene = Scene::new(&rt, rt.alloc(), 64, PROTECTED)?;

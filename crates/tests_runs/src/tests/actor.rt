@@ -170,7 +170,7 @@ fn made(alloc: Global, config: Config) -> Result<Result<Receiver, NotMade>, Allo
     Ok(Receiver::new(alloc, MIB, entity))
 }
 
-/// The same, made once more where it was refused memory. `None` of a configuration that is out of range.
+/// A receiver, made once more where it was refused memory. `None` of a configuration that is out of range.
 fn made_at_last(alloc: Global) -> Result<Option<Receiver>, AllocError> {
     for _ in 0..2 {
         let Ok(config) = Config::new(2, 64, 2_400, 2, 1_000, Protected::new()) else {
@@ -270,7 +270,7 @@ impl Actor {
         }
     }
 
-    /// The same, once more where memory was refused.
+    /// Like `hand_in`, once more where memory was refused.
     fn hand_in_at_last(&mut self, alloc: Global, octets: &[u8]) -> Result<Answer, Dropped> {
         let before = self.seen();
         let next = self.moment.saturating_add(self.stride);

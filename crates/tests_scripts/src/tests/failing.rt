@@ -336,7 +336,7 @@ fn read(calls: &[Call]) -> (Result<usize, Failed>, bool, bool) {
     (answer, before, reader.has_failed())
 }
 
-/// The same of a write.
+/// Like `read`, of a write.
 fn written(calls: &[Call]) -> (Result<usize, Failed>, bool, bool) {
     let mut writer = ToWrite::new(Scripted { calls });
     let before = writer.has_failed();
@@ -370,7 +370,7 @@ fn end_of_unwritten(alloc: Global, example: &Example) -> Result<(), RunFault> {
     }
 }
 
-/// The same, of a second run where memory was refused to the first one.
+/// Like `end_of_unwritten`, of a second run where memory was refused to the first one.
 fn end_of_unwritten_at_last(alloc: Global, example: &Example) -> Result<(), RunFault> {
     match end_of_unwritten(alloc, example) {
         Err(RunFault::Memory) => end_of_unwritten(alloc, example),
@@ -398,7 +398,7 @@ fn read_twice(calls: &[Call]) -> (Result<usize, Failed>, Result<usize, Failed>, 
     (first, second, reader.has_failed())
 }
 
-/// The same of two writes.
+/// Like `read_twice`, of two writes.
 fn written_twice(calls: &[Call]) -> (Result<usize, Failed>, Result<usize, Failed>, bool) {
     let mut writer = ToWrite::new(Scripted { calls });
     let first = writer.write(&OCTETS);

@@ -99,7 +99,7 @@ fn ends_at_write(end: Result<(), LinkFault>, writer: &Writer, text: &[u8], k: us
         && text.starts_with(&writer.text)
 }
 
-/// The same of a run of one file.
+/// Like `ends_at_write`, of a run of one file.
 fn fails_at_write<R: Abort + Threads + Wait + Sync>(rt: &R, alloc: Global, k: usize) -> bool
     requires { k < 6 }
 {

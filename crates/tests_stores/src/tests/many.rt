@@ -102,7 +102,7 @@ const STANDING: &[Stands<'static>] = &[
     (b"d/8", Kind::File, 242, 0),
 ];
 
-/// Octets that are installed, appended, put in the place of others, and given back.
+/// Octets that are installed and appended, that replace others, and that are given back.
 const MOVE_OCTETS: &[Step<'static>] = &[
     Step::Takes(Asked::Extend(0, 121), 2, 17),
     Step::Puts(0, 0, SEVENS),

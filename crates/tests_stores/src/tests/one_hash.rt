@@ -31,14 +31,14 @@ const J: &[u8] = b"jjjjjjjj\x15\x7c\x4a\x7f\xb9\x79\x37\x9e";
 
 const K: &[u8] = b"kkkkkkkk\x15\x7c\x4a\x7f\xb9\x79\x37\x9e";
 
-/// The same names below `d`.
+/// Three of these names below `d`.
 const BELOW_A: &[u8] = b"d/aaaaaaaa\x15\x7c\x4a\x7f\xb9\x79\x37\x9e";
 
 const BELOW_B: &[u8] = b"d/bbbbbbbb\x15\x7c\x4a\x7f\xb9\x79\x37\x9e";
 
 const BELOW_K: &[u8] = b"d/kkkkkkkk\x15\x7c\x4a\x7f\xb9\x79\x37\x9e";
 
-/// The same below the directory `K`.
+/// The name `A` below the directory `K`.
 const IN_K: &[u8] =
     b"kkkkkkkk\x15\x7c\x4a\x7f\xb9\x79\x37\x9e/aaaaaaaa\x15\x7c\x4a\x7f\xb9\x79\x37\x9e";
 

@@ -313,8 +313,8 @@ fn tells<S: Filestore>(store: &S, path: &Path) -> Told {
     }
 }
 
-/// The same of the path of an operation, and the octets at its place, in the file and in the slot; `None` where there
-/// are no such places.
+/// What a store says of the path of an operation, and the octets at its offset, in the file and in the slot; `None`
+/// where it has no such offset.
 type Said = (Told, Option<Vec<u8>>, Option<Vec<u8>>);
 
 fn says<S: Filestore>(
@@ -344,7 +344,7 @@ fn stand_at<S: Filestore>(alloc: Global, store: &S, path: &Path) -> Result<Stand
     })
 }
 
-/// The same for each path of the listing.
+/// A `Stand` for each path of the listing.
 fn stands<S: Filestore>(alloc: Global, store: &S) -> Result<Vec<Stand>, Memory> {
     let mut stands = Vec::new(alloc);
     for entry in store.listing(alloc)? {
@@ -367,7 +367,7 @@ fn staged_in<S: Filestore>(alloc: Global, store: &S, slot: u8) -> Result<Staged,
     })
 }
 
-/// The same of each slot that is used.
+/// A `Staged` for each slot that is used.
 fn all_staged<S: Filestore>(alloc: Global, store: &S) -> Result<Vec<Staged>, Memory> {
     let mut all = Vec::new(alloc);
     for slot in 0..SLOTS {

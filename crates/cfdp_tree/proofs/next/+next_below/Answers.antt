@@ -25,7 +25,7 @@ not_some : {A : Type 0} (r : Option A) {P : Type 0} → ((x : A) → r ≡ Some 
 not_some None absent p = p
 not_some (Some x) absent p = absurd (absent x refl)
 
--- the place of the call
+-- the node or the root of the call
 here : (nodes : Blocks) (place : Option ℕ) → ((d : ℕ) → place ≡ Some d → IsNode nodes d) → StandsAt nodes place (path_at nodes place)
 here nodes place node = record { node = node; path = refl }
 

@@ -156,7 +156,7 @@ impl Beside {
         first
     }
 
-    /// Ends the transaction at a place of the plain list, if there is one.
+    /// Ends the transaction at an index of the plain list, if there is one.
     fn end(&mut self, place: usize) {
         if let Some((transaction, _)) = self.plain.grants.get(place) {
             let transaction = *transaction;

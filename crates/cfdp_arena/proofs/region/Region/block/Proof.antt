@@ -1,4 +1,4 @@
--- `block` reads the base through the `&`, and shows the block that lies at its place. Assumes `Logic`.
+-- `block` reads the base through the `&`, and shows the block with its number. Assumes `Logic`.
 use Rattle.cfdp_arena.proofs.Steps.{ℕ, ◌+◌, ◌*◌, ◌^◌, ◌<◌, List, [], ◌∷◌, length, get_or, refl, sym, ap, arith, w64, never, id⊢, ftrue, flft, fhide, named, Val, vint, vptr, fact, tables, ‵, raw, ◌⊛◌, at_ret, ◌$◌, ◌∵◌, !, qed, done, move, keep, drop, use1, split, join, fsplit, fjoin, feq_i, feq_l, flt_l, rewrite, suffices, frame, whole, sub, look_in, enter, of_opd, lit, bin, addr, load, stop, fld, first, blocks, exec, returns, alloc_all, pass_all, free_all, look_at, get, through, sets, sets_last, is, env, usize, RefOf, yes, Is, shows, cell_at, shared_of, hidden_shr, hide, unhide, uint_vals, uint_Tells, owns, ptr_val, block_ptr, in_a_block, shr_vals, shr_Tells, plain, types_at, nothing, heard, peeks, looks, shuts, Stays, walk_of, stay_dropped, Goes-dropped, ends_at, proved, after}
 use denote.Struct.Lending.{lent_out}
 use Rattle.core.proofs.mem.Facts.{says_two}

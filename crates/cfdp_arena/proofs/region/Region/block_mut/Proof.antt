@@ -1,4 +1,4 @@
--- `block_mut` lends the block that lies at its place, and the region follows it. Assumes `Logic`.
+-- `block_mut` lends the block with its number, and the region follows it. Assumes `Logic`.
 use Rattle.cfdp_arena.proofs.Steps.{◌≡◌, ℕ, ◌+◌, ◌*◌, ◌^◌, ◌<◌, List, [], ◌∷◌, length, get_or, set, refl, sym, ap, arith, w64, length-set, full_share, ent, sep, never, id⊢, Fml, fsep, ftrue, flft, named, Val, vint, vptr, fact, tables, sem, ‵, raw, ◌⊛◌, later, some, given, at_ret, ◌$◌, ◌∵◌, !, qed, done, by, move, keep, use1, use2, split, split3, join, fsplit, fsplit3, fjoin, flt_l, pick, await, learn, rewrite, suffices, frame, group, whole, sub, look_in, enter, of_opd, lit, bin, addr, load, stop, fld, first, blocks, exec, returns, alloc_all, pass_all, free_all, look_at, get, through, sets, sets_last, is, env, usize, yes, no, Is, shows, mem, cell_at, part_at, shares, uint_vals, uint_Tells, owns, ptr_val, in_a_block, MutBor, MutRef, mut_vals, mut_Tells, plain, types_at, nothing, opens, heard, peeks, Stays, walk_of, stay_dropped, Goes-dropped, Goes-spent_ref, ends_at, proved, after}
 use denote.Follow.{follows, Part, lends_Part}
 use denote.Index.{others}

@@ -5,7 +5,7 @@ use Rattle.cfdp_paths.specs.Paths.{Path}
 use Rattle.cfdp_paths.specs.PathMaps.{is_too_deep, tree_in}
 use Rattle.cfdp_paths.proofs.tests.moves.relocate.Goals as goal
 
--- with a names before and b in their place, c names are more than 8
+-- with b names instead of the first a, c names are more than 8
 same_test : (a b c : ℕ) → b ≤ 8 → nat_lt 8 (b + (c - a)) ≡ nat_lt (8 + a) (c + b)
 same_test a b c few = grind (arith, nat_tests)
 

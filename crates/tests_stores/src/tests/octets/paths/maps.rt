@@ -132,7 +132,7 @@ fn relocate(map: &mut PathMap<usize>, from: &Path, to: &Path) -> Result<(), Memo
     map.relocate(from, to)
 }
 
-/// The same, of the paths that the octets spell.
+/// Like `relocate`, of the paths that the octets spell.
 fn move_to(alloc: Global, map: &mut PathMap<usize>, from: &[u8], to: &[u8]) -> Result<(), Memory> {
     let from = parsed(alloc, from)?;
     let to = parsed(alloc, to)?;

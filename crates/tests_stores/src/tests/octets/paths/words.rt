@@ -26,7 +26,7 @@ fn is_in_order(alloc: Global, one: &[u8], other: &[u8]) -> Result<bool, Memory> 
     Ok(path.cmp(&second) == one.cmp(other) && (path == second) == (one == other))
 }
 
-/// The same of a name and all names of a length, each with another octet at each of its indices.
+/// Like `is_in_order`, of a name and all names of a length, each with another octet at each of its indices.
 fn are_in_order(alloc: Global, one: &[u8], length: usize, octet: u8) -> Result<bool, Memory> {
     for index in 0..length {
         let other = name(alloc, length, index, octet)?;
@@ -37,7 +37,7 @@ fn are_in_order(alloc: Global, one: &[u8], length: usize, octet: u8) -> Result<b
     Ok(true)
 }
 
-/// The same of all names of a length beside all those of another.
+/// Like `are_in_order`, of all names of a length beside all those of another.
 fn all_are_in_order(alloc: Global, length: usize, other: usize) -> Result<bool, Memory> {
     for index in 0..length {
         for (octet, second) in CHANGED {
