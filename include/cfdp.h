@@ -30,13 +30,13 @@
  * After the last cfdp_take nothing is kept but what cfdp_new took, and a table that grows once, by 57032 octets,
  * where many transactions come and go with more than 32 known at once. examples/c/memory.c counts it.
  *
- * THE LONGEST CALLS on a full filestore of 65536 blocks take, in millions of instructions: cfdp_receive 300 (Metadata:
- * 63 renames of a directory of 60000 entries, and a request that names something in it), 48 (Metadata that denies
- * something in such a directory, and then the directory), 3.0 (File Data at the end of a file of 7.8 MB of which
- * nothing came) and 2.5 (Metadata: 64 renames of such a directory); cfdp_free 15 (64 lists of long paths are live),
- * cfdp_step 10.5 (an append of 3.9 MB), cfdp_put 8.1 (a file of 7.8 MB), cfdp_read 2.7 (7.8 MB), cfdp_new 1.6,
- * cfdp_cancel 0.9 (a list of 64 long paths), and as much each call by which such a list ends. Each other call takes
- * less than 0.1. docs/C.md has the longest case of each.
+ * THE LONGEST CALLS on a full filestore of 65536 blocks take, in millions of instructions: cfdp_receive 7.0 (Metadata:
+ * 63 renames of a directory of 60000 entries, and a request that names something in it), 3.2 (Metadata: 32 renames in
+ * the last of seven directories, each in the one before it, and 32 of the first one), 3.0 (File Data at the end of a
+ * file of 7.8 MB of which nothing came) and 2.5 (Metadata: 64 renames of a directory of 65000 entries); cfdp_free 15
+ * (64 lists of long paths are live), cfdp_step 10.5 (an append of 3.9 MB), cfdp_put 8.1 (a file of 7.8 MB), cfdp_read
+ * 2.7 (7.8 MB), cfdp_new 1.6, cfdp_cancel 0.9 (a list of 64 long paths), and as much each call by which such a list
+ * ends. Each other call takes less than 0.1. docs/C.md has the longest case of each.
  *
  * NAMES begin with cfdp_ or CFDP_, and those of an enumeration say which one. Other CFDP packages use some of the
  * short names that came before, such as CFDP_DONE. They are macros at the end of this header until version 0.2.0;
@@ -207,7 +207,7 @@ enum cfdp_answer cfdp_free(struct cfdp_engine *engine);
  * CFDP_ANSWER_REQUEST_TOO_LONG); CFDP_ANSWER_NO_MEMORY for a Metadata PDU alone. The octets are not kept. Cost: one
  * pass over them, and that of the event: of File Data and of an EOF PDU as docs/CONFORMANCE.md says; of a Metadata
  * PDU the paths of its requests, a few searches among the leased paths for each, and a walk over what is in a
- * directory that it names (see THE LONGEST CALLS). */
+ * directory that a request renames (see THE LONGEST CALLS). */
 enum cfdp_answer cfdp_receive(struct cfdp_engine *engine, const uint8_t *octets, size_t length,
                               struct cfdp_reply *reply);
 

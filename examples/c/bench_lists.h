@@ -55,43 +55,46 @@ static void prepare_inside(uint32_t count) {
     add_request(DENY_FILE, "e/x", NULL);
 }
 
-enum { NESTED = 7, FILES = 9 }; /* directories, each in the one before it, and files in each */
+enum { NESTED = 7, FILES = LIST / 2 }; /* directories, each in the one before it, and files in the last one */
 
-/* The first directories, each in the one before it: 0/1/2 and so on. It returns how many octets this has. */
-static int nest(char path[DEPTH * 4], int directories) {
-    int octets = 0;
-    for (int i = 0; i < directories; i++) octets += sprintf(path + octets, "%s%d", i ? "/" : "", i);
-    return octets;
+/* The path of a file in the last directory, or of this directory without a letter. The first directory has the name
+ * `first`. */
+static void spell_nested(char path[DEPTH * 4], char first, char letter, uint32_t file) {
+    int octets = sprintf(path, "%c", first);
+    for (int i = 1; i < NESTED; i++) octets += sprintf(path + octets, "/%d", i);
+    if (letter) sprintf(path + octets, "/%c%02u", letter, (unsigned)file);
 }
 
-/* Nested directories with files, and a list that renames files in each of them and, for each seven of these, the first
- * directory, there and back. So all of them are renamed, have entries, and have names in them. */
+/* Nested directories with files, and a list that renames a file in the last directory and then the first directory,
+ * there and back, by turns. */
 static void prepare_nest(uint32_t requests) {
+    static const char names[] = {'d', 'e'};
     char from[DEPTH * 4], to[DEPTH * 4];
     make_engine(BLOCKS);
-    for (int i = 1; i <= NESTED; i++) {
-        int octets = nest(from, i);
-        make_metadata(LIST_NUMBER, 0, "");
-        add_request(CREATE_DIRECTORY, from, NULL);
-        for (int file = 0; file < FILES; file++) {
-            sprintf(from + octets, "/z%d", file);
-            add_request(CREATE_FILE, from, NULL);
-        }
-        receive(CFDP_ADMITTED);
-        perform(1 + FILES);
+    make_metadata(LIST_NUMBER, 0, "");
+    spell_nested(from, names[0], 0, 0);
+    for (int i = 0; i < NESTED; i++) {
+        memcpy(to, from, sizeof to);
+        to[1 + 2 * i] = 0;
+        add_request(CREATE_DIRECTORY, to, NULL);
     }
+    for (uint32_t file = 0; file < FILES; file++) {
+        spell_nested(from, names[0], 'f', file);
+        add_request(CREATE_FILE, from, NULL);
+    }
+    receive(CFDP_ADMITTED);
+    perform(NESTED + FILES);
     make_metadata(LIST_NUMBER, 0, "");
     for (uint32_t i = 0; i < requests; i++) {
-        int file = (int)(i / (NESTED + 1)), octets = nest(from, 1 + (int)(i % (NESTED + 1)));
-        if (i % (NESTED + 1) == NESTED) {
-            add_request(RENAME, file % 2 ? "a" : "0", file % 2 ? "0" : "a");
-            continue;
+        uint32_t turn = i / 2;
+        char now = names[turn % 2];
+        if (i % 2 == 0) {
+            spell_nested(from, now, 'f', turn);
+            spell_nested(to, now, 'g', turn);
+            add_request(RENAME, from, to);
+        } else {
+            add_request(RENAME, (char[]){now, 0}, (char[]){names[(turn + 1) % 2], 0});
         }
-        if (file % 2) from[0] = 'a';
-        memcpy(to, from, sizeof to);
-        sprintf(from + octets, "/z%d", file);
-        sprintf(to + octets, "/y%d", file);
-        add_request(RENAME, from, to);
     }
 }
 

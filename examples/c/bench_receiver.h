@@ -168,7 +168,7 @@ static void prepare_receiver_cancel(uint32_t others) {
 
 static uint32_t cancel_heard(uint32_t others) {
     (void)others;
-    note_report(cfdp_receiver_cancel(&receiver, 0, 1, LIST_NUMBER, &report), CFDP_BECAME_CANCELLED);
+    note_report(cfdp_receiver_cancel(&receiver, 0, 1, LIST_NUMBER, &report), CFDP_BECAME_REPLIED);
     return 1;
 }
 
