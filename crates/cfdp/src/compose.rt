@@ -1,7 +1,7 @@
 //! `cfdp compose`: the script of a plan.
 
 use crate::end::End;
-use crate::plan::{Entity, Plan};
+use crate::plan::{EntitySection, Plan};
 use crate::show::print;
 use crate::shown::push_path;
 use crate::spent::{Progress, Spent};
@@ -44,7 +44,11 @@ fn push_protected(
 }
 
 /// Writes the first lines of a script.
-fn write_head<R: AllocGlobal + Print>(rt: &R, player: Player, entity: &Entity) -> Result<(), End> {
+fn write_head<R: AllocGlobal + Print>(
+    rt: &R,
+    player: Player,
+    entity: &EntitySection,
+) -> Result<(), End> {
     let mut text = Vec::new(rt.alloc());
     push_config(
         entity.id,
@@ -138,7 +142,7 @@ fn write<R: AllocGlobal + Clock + Eprint + Print>(
     rt: &R,
     player: Player,
     name: &str,
-    entity: &Entity,
+    entity: &EntitySection,
     uploads: &[Upload<'_>],
 ) -> Result<(), End> {
     write_head(rt, player, entity)?;

@@ -11,7 +11,7 @@ use std::{fs, io};
 
 /// A script by its names.
 #[derive(Clone, Copy)]
-struct Names<'a> {
+struct ScriptNames<'a> {
     /// In messages.
     name: &'a str,
     /// In the picture.
@@ -88,7 +88,7 @@ fn finish<R: AllocGlobal + Print>(
 /// Draws what is played. Where the script stops at a line, the picture shows what there was up to it.
 fn draw_played<R: AllocGlobal + Clock + Eprint + Files + Print, I: Read + Drop>(
     rt: &R,
-    names: Names<'_>,
+    names: ScriptNames<'_>,
     playing: &mut Playing<'_, R, I>,
 ) -> Result<(), End> {
     let mut drawing = Drawing::new(rt.alloc(), names.title, playing.script())?;
@@ -99,7 +99,7 @@ fn draw_played<R: AllocGlobal + Clock + Eprint + Files + Print, I: Read + Drop>(
 /// Draws the script that an input has.
 fn draw<R: AllocGlobal + Clock + Eprint + Files + Print, I: Read + Drop>(
     rt: &R,
-    names: Names<'_>,
+    names: ScriptNames<'_>,
     input: I,
 ) -> Result<(), End> {
     let mut playing = Playing::new(rt, names.name, input)?;
@@ -112,13 +112,13 @@ pub fn run<R: AllocGlobal + Clock + Eprint + Files + Input + Print>(
     path: Option<&str>,
 ) -> Result<(), End> {
     let Some(path) = path else {
-        let names = Names {
+        let names = ScriptNames {
             name: "-",
             title: "standard input",
         };
         return draw(rt, names, rt.reader());
     };
-    let names = Names {
+    let names = ScriptNames {
         name: path,
         title: path,
     };

@@ -31,7 +31,7 @@ pub enum Names {
 /// Something in a folder: where it is on this computer, and the octets of its path in the filestore, which are none for
 /// the folder itself.
 #[derive(Drop)]
-struct Found {
+struct FolderEntry {
     place: String,
     path: Vec<u8>,
 }
@@ -115,7 +115,12 @@ fn octets_of(alloc: Global, names: Names, place: &str, name: &str) -> Result<Vec
 }
 
 /// What a directory has by a name.
-fn beside(alloc: Global, names: Names, directory: &Found, name: &str) -> Result<Found, End> {
+fn beside(
+    alloc: Global,
+    names: Names,
+    directory: &FolderEntry,
+    name: &str,
+) -> Result<FolderEntry, End> {
     let above = directory.place.as_str();
     let place = format!(in alloc; "{above}/{name}")?;
     let mut path = Vec::from_slice(alloc, &directory.path)?;
@@ -123,11 +128,11 @@ fn beside(alloc: Global, names: Names, directory: &Found, name: &str) -> Result<
         path.push(b'/')?;
     }
     path.extend_from_slice(&octets_of(alloc, names, place.as_str(), name)?)?;
-    Ok(Found { place, path })
+    Ok(FolderEntry { place, path })
 }
 
 /// The path of the filestore of something in a folder.
-fn path_of(alloc: Global, found: &Found) -> Result<Path, End> {
+fn path_of(alloc: Global, found: &FolderEntry) -> Result<Path, End> {
     match Path::parse(alloc, &found.path) {
         Ok(path) => Ok(path),
         Err(PathFault::Memory) => Err(End::Memory),
@@ -141,7 +146,7 @@ fn path_of(alloc: Global, found: &Found) -> Result<Path, End> {
 /// How the program ends where something that needs `blocks` blocks was not put.
 fn was_put(
     alloc: Global,
-    found: &Found,
+    found: &FolderEntry,
     blocks: u64,
     free: u32,
     answer: Result<(), NotPut>,
@@ -165,7 +170,7 @@ fn was_put(
 /// Puts a file into a filestore. It is not read where there is no room for it.
 fn put_file<R: AllocGlobal + Files + Input>(
     rt: &R,
-    found: &Found,
+    found: &FolderEntry,
     len: u64,
     entity: &mut Entity,
 ) -> Result<(), End> {
@@ -186,10 +191,10 @@ fn put_file<R: AllocGlobal + Files + Input>(
 /// Puts what a directory has into a filestore, and returns the directories in it.
 fn put_all<R: AllocGlobal + Clone + Drop + Files + Input>(
     rt: &R,
-    directory: &Found,
+    directory: &FolderEntry,
     names: Names,
     entity: &mut Entity,
-) -> Result<Vec<Found>, End> {
+) -> Result<Vec<FolderEntry>, End> {
     let alloc = rt.alloc();
     let mut directories = Vec::new(alloc);
     for name in &names_in(rt, directory.place.as_str())? {
@@ -232,7 +237,7 @@ pub fn put<R: AllocGlobal + Clone + Drop + Files + Input>(
 ) -> Result<(), End> {
     let alloc = rt.alloc();
     let mut open = Vec::new(alloc);
-    open.push(Found {
+    open.push(FolderEntry {
         place: String::from_str(alloc, folder)?,
         path: Vec::new(alloc),
     })?;

@@ -42,7 +42,7 @@ fn narrow(number: u64) -> u32 {
 }
 
 /// The receiving entity of a plan or of a setup, with an empty filestore.
-pub fn entity_of(alloc: Global, entity: &plan::Entity) -> Result<Entity, End> {
+pub fn entity_of(alloc: Global, entity: &plan::EntitySection) -> Result<Entity, End> {
     let mut protected = Protected::new();
     for octets in &entity.protected {
         if let Some(path) = path_of(alloc, octets)? {
@@ -241,7 +241,7 @@ fn judge<R: AllocGlobal + Print>(
 /// The entity of a plan, whose filestore has what a folder has, or nothing without one.
 fn begin<R: AllocGlobal + Clone + Drop + Files + Input>(
     rt: &R,
-    asked: &plan::Entity,
+    asked: &plan::EntitySection,
     on: Option<&str>,
 ) -> Result<Entity, End> {
     let mut receiver = entity_of(rt.alloc(), asked)?;
@@ -270,7 +270,7 @@ fn judge_all<R: AllocGlobal + Print>(
 /// Judges the uploads of a plan with its entity, which begins over a folder, or over nothing without one.
 fn judge_on<R: AllocGlobal + Clone + Drop + Files + Input + Print>(
     rt: &R,
-    asked: &plan::Entity,
+    asked: &plan::EntitySection,
     on: Option<&str>,
     uploads: &[Upload<'_>],
     files: &[Vec<u8>],

@@ -16,16 +16,16 @@ const UNREAD_LINK: &str =
 
 /// The order of the octets of a number.
 #[derive(Clone, Copy)]
-enum Order {
+enum OctetOrder {
     Big,
     Little,
 }
 
 /// The order of the octets of numbers, where octets are a capture.
-fn order_of(octets: &[u8]) -> Option<Order> {
+fn order_of(octets: &[u8]) -> Option<OctetOrder> {
     match octets {
-        [0xa1, 0xb2, 0xc3, 0xd4, ..] | [0xa1, 0xb2, 0x3c, 0x4d, ..] => Some(Order::Big),
-        [0xd4, 0xc3, 0xb2, 0xa1, ..] | [0x4d, 0x3c, 0xb2, 0xa1, ..] => Some(Order::Little),
+        [0xa1, 0xb2, 0xc3, 0xd4, ..] | [0xa1, 0xb2, 0x3c, 0x4d, ..] => Some(OctetOrder::Big),
+        [0xd4, 0xc3, 0xb2, 0xa1, ..] | [0x4d, 0x3c, 0xb2, 0xa1, ..] => Some(OctetOrder::Little),
         _ => None,
     }
 }
@@ -41,13 +41,13 @@ pub fn is_pcapng(octets: &[u8]) -> bool {
 }
 
 /// The number of four octets at an index, if they are there.
-fn number_at(order: Order, octets: &[u8], index: usize) -> Option<usize> {
+fn number_at(order: OctetOrder, octets: &[u8], index: usize) -> Option<usize> {
     let [a, b, c, d] = octets.get(index..index.saturating_add(4))? else {
         return None;
     };
     let number = match order {
-        Order::Big => u32::from_be_bytes([*a, *b, *c, *d]),
-        Order::Little => u32::from_le_bytes([*a, *b, *c, *d]),
+        OctetOrder::Big => u32::from_be_bytes([*a, *b, *c, *d]),
+        OctetOrder::Little => u32::from_le_bytes([*a, *b, *c, *d]),
     };
     Some(number as usize)
 }
@@ -159,14 +159,14 @@ fn take(alloc: Global, number: u64, frame: Frame<'_>, contents: &mut Contents) -
 }
 
 /// The frame whose header is at an index; `None` where the octets end within it.
-fn frame_at(order: Order, octets: &[u8], index: usize) -> Option<&[u8]> {
+fn frame_at(order: OctetOrder, octets: &[u8], index: usize) -> Option<&[u8]> {
     let len = number_at(order, octets, index.saturating_add(8))?;
     let start = index.saturating_add(FRAME_HEADER);
     octets.get(start..start.saturating_add(len))
 }
 
 /// The link type of a capture.
-fn link_of(alloc: Global, name: &str, order: Order, octets: &[u8]) -> Result<Link, End> {
+fn link_of(alloc: Global, name: &str, order: OctetOrder, octets: &[u8]) -> Result<Link, End> {
     let Some(number) = number_at(order, octets, 20) else {
         return Err(End::stream(alloc, name, "the capture ends within its header"));
     };

@@ -12,7 +12,7 @@ const MOST: u64 = i64::MAX as u64;
 
 /// The receiving entity: what `config` and `protect` lines say.
 #[derive(Drop)]
-pub struct Entity {
+pub struct EntitySection {
     pub id: u64,
     pub blocks: u64,
     pub cap: u64,
@@ -63,18 +63,18 @@ pub struct Transaction {
 /// A plan.
 #[derive(Drop)]
 pub struct Plan {
-    pub entity: Entity,
+    pub entity: EntitySection,
     pub transactions: Vec<Transaction>,
 }
 
 /// The entity of a plan or of a setup.
-pub fn read_entity(section: &Section<'_>) -> Result<Entity, PlanFault> {
+pub fn read_entity(section: &Section<'_>) -> Result<EntitySection, PlanFault> {
     section.check_keys(&["id", "blocks", "cap", "checks", "journal", "protect"])?;
     let protected = section.paths("protect")?;
     if protected.len() > 8 {
         return Err(section.expected("protect", "at most 8 paths"));
     }
-    Ok(Entity {
+    Ok(EntitySection {
         id: section.number("id", 0..=MOST, 2)?,
         blocks: section.number("blocks", 16..=65_536, 64)?,
         cap: section.number("cap", 0..=7_864_320, 2_400)?,

@@ -2,7 +2,7 @@
 
 use crate::end::End;
 use crate::input;
-use crate::plan::{Entity, read_entity, read_table, wrong_top};
+use crate::plan::{EntitySection, read_entity, read_table, wrong_top};
 use crate::section::{PlanFault, Section};
 use crate::uploads::end_of;
 use cfdp_receiver::{Handler, Mib, NakMode, Retries, Watch};
@@ -32,7 +32,7 @@ const KEYS: [&str; 14] = [
 /// What is left to the management of a receiving entity whose clock has milliseconds.
 #[derive(Drop)]
 pub struct Setup {
-    pub entity: Entity,
+    pub entity: EntitySection,
     pub mib: Mib,
 }
 

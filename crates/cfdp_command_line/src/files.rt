@@ -25,23 +25,23 @@ fn fault_of(error: &Error) -> RunFault
 /// Where files are opened by their paths: the file system, or what is used instead.
 pub trait Opens {
     /// A file that is open for reading.
-    type File: Read + Drop;
+    type Opened: Read + Drop;
 
     // A file that was opened by this path.
-    ghost IsOpened: { List ℕ → Self.File → Type 0 };
+    ghost IsOpened: { List ℕ → Self.Opened → Type 0 };
 
     /// Opens the file of this path for reading.
     ///
     /// # Errors
     ///
     /// `Read` where it cannot be opened, and `Memory` out of memory.
-    fn open(&self, path: &str) -> Result<Self::File, RunFault>
+    fn open(&self, path: &str) -> Result<Self::Opened, RunFault>
         ensures opened { IfOk result (λ file. IsOpened path.now file) }
         ensures ends { IfErr result IsInputFault };
 }
 
 impl<F: Files> Opens for F {
-    type File = F::File;
+    type Opened = F::File;
 
     // No contract says what the file system opens.
     ghost IsOpened = { λ _ _. Unit };
@@ -59,7 +59,7 @@ impl<F: Files> Opens for F {
 /// # Errors
 ///
 /// Those of [`Opens::open`], of the first file that has one.
-fn open_all<O: Opens>(files: &O, alloc: Global, paths: &[&str]) -> Result<Vec<O::File>, RunFault>
+fn open_all<O: Opens>(files: &O, alloc: Global, paths: &[&str]) -> Result<Vec<O::Opened>, RunFault>
     ensures opened { IfOk result (λ opened. AllPaired (λ path file. O.IsOpened path.now file) paths.now opened.items) }
     ensures ends { IfErr result IsInputFault }
 {
@@ -134,7 +134,7 @@ pub fn read_all<O: Opens>(
     paths: &[&str],
 ) -> Result<Vec<Vec<u8>>, RunFault>
     // Of each path, in order, a file was opened, and this is what it had.
-    ensures read { IfOk result (λ scripts. AllPaired (λ path script. IsRead O.IsOpened O.File.remaining path.now
+    ensures read { IfOk result (λ scripts. AllPaired (λ path script. IsRead O.IsOpened O.Opened.remaining path.now
         script.items) paths.now scripts.items) }
     ensures each { IfOk result (λ scripts. length scripts.items ≡ length paths.now) }
     ensures short { IfOk result (λ scripts. AllByRecursion

@@ -5,7 +5,7 @@
 --   command_of     the same of a value of the program
 --   keyword_of     what the first word of a line says, if it says something
 --   local_event    the event of a transaction
---   alone          what a line says that has no other word than its first
+--   without_words  what a line says that has no other word than its first
 --   command_by     what a line says, by its first word and the words after it; nothing where it is bad
 --   command_in     what a line says, if it has a word; nothing where it is bad
 --   IsPdu          it is a PDU that came;  SaysPdu: a line says so. Only the octets of a PDU take memory
@@ -78,17 +78,17 @@ pdu_by None = None
 pdu_by (Some []) = None
 pdu_by (Some (octet ∷ octets)) = Some (Pdu (octet ∷ octets))
 
-abbrev pub alone : Command → List (List ℕ) → Option Command
-alone what [] = Some what
-alone what (word ∷ words) = None
+abbrev pub without_words : Command → List (List ℕ) → Option Command
+without_words what [] = Some what
+without_words what (word ∷ words) = None
 
 abbrev pub command_by : Keyword → List (List ℕ) → Option Command
 command_by keyword.Config words = config_by (numbers_of words)
 command_by keyword.Protect words = protect_by (octets_of_words words)
 command_by keyword.Pdu words = pdu_by (octets_of_words words)
 command_by (keyword.Local which) words = local_by which (id_by (numbers_of words))
-command_by keyword.Run words = alone Run words
-command_by keyword.List words = alone ListAll words
+command_by keyword.Run words = without_words Run words
+command_by keyword.List words = without_words ListAll words
 
 abbrev pub words_say : List (List ℕ) → Option (Option Command)
 words_say [] = Some None

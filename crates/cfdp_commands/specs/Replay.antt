@@ -3,16 +3,15 @@
 --   Stage             before the first event, the configuration so far and whether it may still be given (Preparing);
 --                     and then the world (Running)
 --   at_first          the default configuration, which a script may replace by its first line
---   most_runs         how many steps `run` takes at most
 --   configured        the stage after a configuration is given, by its five numbers
 --   protected         the stage after a path is protected, by its octets
 --   stage_world       the world as the first event, and each later one, finds it
---   silent            the stage after a line that writes nothing
+--   without_text      the stage after a line that writes nothing
 --   told_events       the stage after some events, and the lines of their replies
 --   steps_from        the steps of `run`, of the first transaction that can take one until none can
 --   read_told         what a PDU comes to, from what reading it answers
 --   obeyed            what a command does; nothing where it is bad at this stage
---   answered          what a line does, by what it says; one without words does nothing
+--   line_answered     what a line does, by what it says; one without words does nothing
 --   replay_answer     what a line does
 --   replay_report     what a whole script writes, and the bad line that ends it, if one does
 use Rattle.std.specs.Prelude.{ℕ, zero, suc, nat_lt, Bool, true, false, if◌then◌else◌, List, [], ◌∷◌, ◌++◌, length, Option, Some, None, option_map, Result, Ok, Err}
@@ -25,6 +24,7 @@ use Rattle.cfdp_transactions.specs.Events.{event_at}
 use Rattle.cfdp_transactions.specs.declared.event.Event.{Event}
 use Rattle.cfdp_transactions.specs.declared.event.Event.TheVariants as events
 use Rattle.cfdp_transactions.specs.Next.{next, run, replies}
+use Rattle.cfdp_transactions.specs.Settling.{most_settled}
 use Rattle.cfdp_transactions.specs.World.{World, start, next_runnable}
 use Rattle.cfdp_commands.specs.Commands.{Command, command_in, local_event}
 use Rattle.cfdp_commands.specs.Commands as command
@@ -40,9 +40,6 @@ default_config = record { entity = 2; blocks = 64; cap = 2400; checks = 2; journ
 
 abbrev pub at_first : Stage
 at_first = Preparing true default_config
-
-abbrev pub most_runs : ℕ
-most_runs = 4224
 
 -- ---- the configuration
 
@@ -97,26 +94,26 @@ read_told W (Ok (Some event)) = told_events W (event ∷ [])
 -- ---- lines
 
 -- the configuration and the paths that are protected write nothing
-abbrev pub silent : {A : Type 0} → Option Stage → Option (Stage × List A)
-silent next = option_map (λ stage. (stage, [])) next
+abbrev pub without_text : {A : Type 0} → Option Stage → Option (Stage × List A)
+without_text next = option_map (λ stage. (stage, [])) next
 
 abbrev pub obeyed : Stage → Command → Option (Stage × List ℕ)
 obeyed stage (command.Config entity blocks cap checks journal) =
-    silent (configured stage entity blocks cap checks journal)
-obeyed stage (command.Protect octets) = silent (protected stage octets)
+    without_text (configured stage entity blocks cap checks journal)
+obeyed stage (command.Protect octets) = without_text (protected stage octets)
 obeyed stage (command.Pdu octets) = Some (read_told (stage_world stage) (event_at octets))
 obeyed stage (command.Local which id) = Some (told_events (stage_world stage) (local_event which id ∷ []))
-obeyed stage command.Run = Some (told_events (stage_world stage) (steps_from most_runs (stage_world stage)))
+obeyed stage command.Run = Some (told_events (stage_world stage) (steps_from most_settled (stage_world stage)))
 obeyed stage command.ListAll = Some (Running (stage_world stage), listing_text (stage_world stage))
 
 -- a bad line, one without words, or a command
-abbrev pub answered : Stage → Option (Option Command) → Option (Stage × List ℕ)
-answered stage None = None
-answered stage (Some None) = Some (stage, [])
-answered stage (Some (Some said)) = obeyed stage said
+abbrev pub line_answered : Stage → Option (Option Command) → Option (Stage × List ℕ)
+line_answered stage None = None
+line_answered stage (Some None) = Some (stage, [])
+line_answered stage (Some (Some said)) = obeyed stage said
 
 abbrev pub replay_answer : Stage → List ℕ → Option (Stage × List ℕ)
-replay_answer stage line = answered stage (command_in line)
+replay_answer stage line = line_answered stage (command_in line)
 
 abbrev pub replay_report : List ℕ → Report
 replay_report script = script_report replay_answer at_first script

@@ -1,6 +1,6 @@
 //! What a line of `replay` and of `links` says.
 ghost use Rattle.std.specs.Prelude.{◌≡◌, ◌↔◌, Some, None, Err, IfOk, OnErr, option_map};
-ghost use Rattle.cfdp_commands.specs.Commands.{IsPdu, SaysPdu, alone, command_by, command_in, command_of, config_by, keyword_of, local_by, local_event, pdu_by, protect_by};
+ghost use Rattle.cfdp_commands.specs.Commands.{IsPdu, SaysPdu, without_words, command_by, command_in, command_of, config_by, keyword_of, local_by, local_event, pdu_by, protect_by};
 ghost use Rattle.cfdp_lines.specs.Hexadecimal.{octets_of_words};
 ghost use Rattle.cfdp_lines.specs.Words.{id_by, numbers_of, words_of};
 ghost use Rattle.cfdp_lines.specs.declared.script.LineFault.TheVariants.{Bad};
@@ -195,7 +195,7 @@ fn read_local<'a>(which: Local, words: &[u8]) -> Option<Command<'a>>
 
 /// What a line says that has no other word than its first.
 fn read_alone<'a>(words: &[u8], command: Command<'a>) -> Option<Command<'a>>
-    ensures { option_map command_of result ≡ alone (command_of command.entry) (words_of words.now) }
+    ensures { option_map command_of result ≡ without_words (command_of command.entry) (words_of words.now) }
 {
     let mut rest = words;
     match next_word(&mut rest) {

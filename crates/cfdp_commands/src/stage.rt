@@ -2,8 +2,9 @@
 ghost use Rattle.std.specs.Prelude.{◌≡◌, ◌↔◌, ◌++◌, ℕ, List, [], ◌∷◌, None, Some, OnOk, Err};
 ghost use Rattle.cfdp_transactions.specs.Writable.{IsReadable};
 ghost use Rattle.cfdp_transactions.specs.Events.{event_at};
+ghost use Rattle.cfdp_transactions.specs.Settling.{most_settled};
 ghost use Rattle.cfdp_commands.specs.Commands.{command_of};
-ghost use Rattle.cfdp_commands.specs.Replay.{Running as IsRunning, at_first, configured, most_runs, obeyed, protected, read_told, steps_from, told_events, stage_world};
+ghost use Rattle.cfdp_commands.specs.Replay.{Running as IsRunning, at_first, configured, obeyed, protected, read_told, steps_from, told_events, stage_world};
 ghost use Rattle.cfdp_texts.specs.Replies.{listing_text};
 ghost use Rattle.cfdp_commands.specs.Stages.{stage_of};
 ghost use Rattle.cfdp_commands.specs.code.Stages.{HasBegun};
@@ -127,7 +128,7 @@ impl Stage {
     /// Performs the next items until there are none, and appends the lines of the replies.
     fn run(&mut self, alloc: Global, text: &mut Vec<u8>) -> Result<(), AllocError>
         ensures { OnOk result ((lines : List ℕ) × (told_events (stage_world (stage_of self.old))
-            (steps_from most_runs (stage_world (stage_of self.old)))
+            (steps_from most_settled (stage_world (stage_of self.old)))
             ≡ (stage_of self.new, lines)) × (text.new.items ≡ text.old.items ++ lines)) }
     {
         self.begin(alloc)?;

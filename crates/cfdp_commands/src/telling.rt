@@ -2,19 +2,17 @@
 ghost use Rattle.std.specs.Prelude.{◌≡◌, ◌++◌, ℕ, List, OnOk};
 ghost use Rattle.cfdp_transactions.specs.Events.{about, event_at};
 ghost use Rattle.cfdp_transactions.specs.Next.{next, replies, run};
+ghost use Rattle.cfdp_transactions.specs.Settling.{most_settled};
 ghost use Rattle.cfdp_transactions.specs.Writable.{FitsReply, IsReadable};
 ghost use Rattle.cfdp_entity.specs.Hearing.{heard_event};
-ghost use Rattle.cfdp_commands.specs.Replay.{Running, most_runs, read_told, steps_from};
+ghost use Rattle.cfdp_commands.specs.Replay.{Running, read_told, steps_from};
 ghost use Rattle.cfdp_texts.specs.Replies.{listing_text, reply_line, told_lines};
 
 use cfdp_entity::{Entity, NotHeard};
 use cfdp_pdus::PduFault;
 use cfdp_texts::{fault_line, not_ours_line, write_listing, write_reply};
-use cfdp_transactions::{Event, Reply};
+use cfdp_transactions::{Event, MOST_SETTLED, Reply};
 use std::alloc::{AllocError, Global};
-
-/// How many steps `run` takes at most.
-const MOST_RUNS: u32 = 4_224;
 
 /// An event happens, and the line of its reply is appended.
 pub(crate) fn tell(
@@ -56,11 +54,11 @@ pub(crate) fn receive(
 /// The next items are performed, of one transaction after the other, until none has any: at most 4,224. The lines of
 /// the replies are appended.
 pub(crate) fn run(alloc: Global, entity: &mut Entity, text: &mut Vec<u8>) -> Result<(), AllocError>
-    ensures world { OnOk result (entity.new ≡ run entity.old (steps_from most_runs entity.old)) }
+    ensures world { OnOk result (entity.new ≡ run entity.old (steps_from most_settled entity.old)) }
     ensures text { OnOk result (text.new.items ≡ text.old.items
-        ++ told_lines (steps_from most_runs entity.old) (replies entity.old (steps_from most_runs entity.old))) }
+        ++ told_lines (steps_from most_settled entity.old) (replies entity.old (steps_from most_settled entity.old))) }
 {
-    'steps: for _ in 0..MOST_RUNS {
+    'steps: for _ in 0..MOST_SETTLED {
         let Some(id) = entity.core().next_runnable() else {
             return Ok(());
         };

@@ -27,7 +27,7 @@ use Rattle.cfdp_transactions.proofs.Soundness.Parsing.{granted_parsed}
 use Rattle.cfdp_uploads.specs.Uploads.{UploadFields, IsUpload, piece_of, pieces_of, eof_of}
 use Rattle.cfdp_uploads.proofs.Pieces.{part, begins_within}
 use Rattle.cfdp_completion.specs.Delivering.{data_event, data_events, upload_events, kept_piece, kept_after, StaysFew, AdmittedIsComplete}
-use Rattle.cfdp_completion.proofs.Keeping.{file_kept}
+use Rattle.cfdp_completion.proofs.FileKept.{file_kept}
 
 -- ---- choices
 

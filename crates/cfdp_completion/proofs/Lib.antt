@@ -1,4 +1,4 @@
-pub mod Keeping
+pub mod FileKept
 pub mod Arriving
 pub mod Ordering
 pub mod Reading

@@ -4,7 +4,7 @@ use Rattle.std.proofs.Common.{◌≡◌, refl, sym, ◌∙◌, ap, ℕ, ◌+◌,
 use Rattle.std.specs.Prelude.{bytes_eq, if◌then◌else◌}
 use Rattle.cfdp_disturb.specs.declared.draws.Copies.TheVariants.{Lost, Once, Twice}
 use Rattle.cfdp_disturb.specs.Disturbing.{Copies, Drawn, both, copies_of, disturbed, is_held, is_pdu_line, said}
-use Rattle.cfdp_disturb.proofs.Taking.{alone}
+use Rattle.cfdp_disturb.proofs.TakenLines.{alone}
 use Rattle.cfdp_disturb.specs.Laws.{IsQuiet, QuietIsSame, OthersPart, EachComes, count_of, times_of_line, times_drawn}
 use Rattle.std.proofs.lemmas.Bool.{and_right}
 

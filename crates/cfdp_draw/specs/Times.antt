@@ -1,6 +1,6 @@
 -- The times of a picture.
 --     free_after           where the next time may be after one
---     is_shown             a time is written: it is another one than the last, and there is room
+--     is_time_written      a time is written: it is another one than the last, and there is room
 --     time_text            a time below the lanes, and a line from there to their top
 --     times_text           the times of moments, where there is room for them
 use Rattle.std.specs.Prelude.{ℕ, ◌+◌, ◌*◌, ◌==◌, ◌&&◌, Bool, true, not, nat_le, if◌then◌else◌, List, [], ◌∷◌, ◌++◌, Option, Some, None, codes}
@@ -19,8 +19,8 @@ abbrev pub is_other : Option ℕ → ℕ → Bool
 is_other None time = true
 is_other (Some last) time = not (last == time)
 
-unfoldable pub is_shown : ℕ → Option ℕ → ℕ → ℕ → Bool
-is_shown free last x time = is_other last time && nat_le free x
+unfoldable pub is_time_written : ℕ → Option ℕ → ℕ → ℕ → Bool
+is_time_written free last x time = is_other last time && nat_le free x
 
 unfoldable pub time_text : ℕ → ℕ → ℕ → List ℕ
 time_text bottom x time =
@@ -30,7 +30,7 @@ time_text bottom x time =
 abbrev pub times_text : At → ℕ → ℕ → Option ℕ → List Moment → List ℕ
 times_text total bottom free last [] = []
 times_text total bottom free last (moment ∷ rest) =
-    if is_shown free last (x_of total moment.at) moment.time
+    if is_time_written free last (x_of total moment.at) moment.time
     then time_text bottom (x_of total moment.at) moment.time
     ++ times_text total bottom (free_after (x_of total moment.at) moment.time) (Some moment.time) rest
     else times_text total bottom free last rest

@@ -1,7 +1,7 @@
 //! The times of a picture.
 
 ghost use Rattle.std.specs.Prelude.{◌≡◌, ◌≤◌, ◌^◌, ◌++◌, OnOk, length, decimal, min, Option, None};
-ghost use Rattle.cfdp_draw.specs.Times.{free_after, is_shown, time_text, times_text};
+ghost use Rattle.cfdp_draw.specs.Times.{free_after, is_time_written, time_text, times_text};
 
 use crate::axis::{At, x_of};
 use crate::blocks::BASE;
@@ -21,9 +21,9 @@ fn free_after(x: u64, time: u64) -> u64
 }
 
 /// Whether the time of a moment is written at `x`: it is another one than the last, and there is room.
-#[tactic(auto, unfolding(crate::specs::Times::is_shown))]
-fn is_shown(free: u64, last: Option<u64>, x: u64, time: u64) -> bool
-    ensures { result ≡ is_shown free last x time }
+#[tactic(auto, unfolding(crate::specs::Times::is_time_written))]
+fn is_time_written(free: u64, last: Option<u64>, x: u64, time: u64) -> bool
+    ensures { result ≡ is_time_written free last x time }
 {
     let other = match last {
         None => true,
@@ -57,7 +57,7 @@ pub(crate) fn push_times(
     let mut rest = moments;
     'times: while let [moment, others @ ..] = rest {
         let x = x_of(total, moment.at);
-        if is_shown(free, last, x, moment.time) {
+        if is_time_written(free, last, x, moment.time) {
             push_time(bottom, x, moment.time, text)?;
             free = free_after(x, moment.time);
             last = Some(moment.time);

@@ -10,7 +10,7 @@ use Rattle.cfdp_transactions.specs.Next.{next}
 use Rattle.cfdp_transactions.specs.Needs.{Follows}
 use Rattle.cfdp_engine.specs.Journal.{Recorded, is_answered, has_full_journal, entered}
 use Rattle.cfdp_engine.specs.code.Journal.{IsWholeJournal}
-use Rattle.cfdp_engine.proofs.Keeping.{is_journal_full, next_keeps}
+use Rattle.cfdp_engine.proofs.ConfigurationKept.{is_journal_full, next_keeps}
 use Rattle.cfdp_engine.proofs.Histories.{history_more}
 
 -- a reply other than 'memory' is that of the table of events

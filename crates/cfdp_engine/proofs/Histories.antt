@@ -6,7 +6,7 @@ use Rattle.cfdp_transactions.specs.Config.{Config}
 use Rattle.cfdp_transactions.specs.World.{World, start}
 use Rattle.cfdp_transactions.specs.Next.{next, run, replies}
 use Rattle.cfdp_engine.specs.Journal.{Entry, IsHistory, journal_events, replies_of}
-use Rattle.cfdp_engine.proofs.Keeping.{next_keeps}
+use Rattle.cfdp_engine.proofs.ConfigurationKept.{next_keeps}
 
 run_more : (W : World) (events : List Event) (event : Event) → run W (events ++ event ∷ []) ≡ (next (run W events) event).0
 run_more W [] event = refl

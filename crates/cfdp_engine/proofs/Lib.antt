@@ -1,4 +1,4 @@
-pub mod Keeping
+pub mod ConfigurationKept
 pub mod Histories
 pub mod Beginning
 pub mod Accepting

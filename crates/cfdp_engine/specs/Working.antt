@@ -14,6 +14,7 @@ use Rattle.cfdp_pdus.specs.declared.fault.PduFault.{PduFault}
 use Rattle.cfdp_transactions.specs.declared.event.Event.{Event}
 use Rattle.cfdp_transactions.specs.declared.event.Event.TheVariants.{Step}
 use Rattle.cfdp_transactions.specs.Events.{event_at}
+use Rattle.cfdp_transactions.specs.Settling.{most_settled}
 pub use Rattle.cfdp_engine.specs.declared.message.Message.{Message}
 use Rattle.cfdp_engine.specs.declared.message.Message.TheVariants as messages
 
@@ -43,7 +44,7 @@ pub record AreSteps (most : ℕ) (es : List Event) : Type 0 where
 abbrev pub Brings : Message → List Event → Type 0
 Brings (messages.Pdu octets) es = es ≡ option_to_list (event_in octets.items)
 Brings (messages.Event event) es = es ≡ arc_value event ∷ []
-Brings messages.Run es = AreSteps 4224 es
+Brings messages.Run es = AreSteps most_settled es
 
 -- the first message's events, and then those of the others
 abbrev pub BringAll : List Message → List Event → Type 0

@@ -5,6 +5,7 @@ ghost use Rattle.std.specs.Arc.{arc_value};
 ghost use Rattle.cfdp_engine.specs.Sharing.{AddsReceipts, IsReceived};
 ghost use Rattle.cfdp_pdus.specs.First.{pdu_at};
 ghost use Rattle.cfdp_pdus.specs.Receiving.{IsCopied};
+ghost use Rattle.cfdp_transactions.specs.Settling.{most_settled};
 ghost use Rattle.cfdp_engine.specs.Working.{AreSteps, BeginAll, BringAll, Brings, event_in, is_passed_over, passed_over};
 ghost use Rattle.cfdp_engine.specs.code.Working.{BeginsOne, PassesOver};
 
@@ -16,13 +17,10 @@ use crate::stop::Stop;
 use arrayvec::ArrayVec;
 use cfdp_actions::Filestore;
 use cfdp_pdus::PduFault;
-use cfdp_transactions::{Event, read_event};
+use cfdp_transactions::{Event, MOST_SETTLED, read_event};
 use crossbeam_channel::{Receiver, RecvError};
 use std::alloc::{AllocError, Global};
 use std::sync::{Arc, Wait};
-
-/// How often a worker steps for one message: each of 64 transactions has 64 requests and an install at most.
-const MOST_STEPS: u32 = 4_224;
 
 /// What a worker leaves.
 #[derive(Drop)]
@@ -82,9 +80,9 @@ fn run<S: Filestore, R: Wait>(
     shared: &Shared<S>,
     seat: &mut Seat,
 ) -> Result<(), Stop>
-    ensures { AddsReceipts (AreSteps MOST_STEPS) seat.old seat.new }
+    ensures { AddsReceipts (AreSteps most_settled) seat.old seat.new }
 {
-    for _ in 0..MOST_STEPS {
+    for _ in 0..MOST_SETTLED {
         let Some(id) = shared.next_runnable(rt) else {
             break;
         };

@@ -9,7 +9,7 @@ use Rattle.cfdp_lines.specs.Lines.{is_overlong, is_comment, lines_of}
 use Rattle.cfdp_lines.specs.declared.faults.LinkFault.{LinkFault}
 use Rattle.cfdp_links.specs.Linked.{IsBadFile, IsHeard}
 use Rattle.cfdp_links.specs.Links.{Said, Reading, Files, said_by, link_said, link_answer, read_then, read_from, file_said, files_then, files_from, link_files, running}
-use Rattle.cfdp_commands.specs.Replay.{Stage, configured, protected, silent}
+use Rattle.cfdp_commands.specs.Replay.{Stage, configured, protected, without_text}
 use Rattle.cfdp_lines.specs.Report.{line_answer}
 use Rattle.cfdp_commands.proofs.Handing.{local_readable}
 
@@ -20,15 +20,15 @@ AreHeard : Option (Stage × List Said) → Type 0
 AreHeard None = ⊤
 AreHeard (Some answered) = AllByRecursion IsHeard answered.1
 
-silent-heard : (next : Option Stage) → AreHeard (silent next)
+without_text-heard : (next : Option Stage) → AreHeard (without_text next)
 unfolding AreHeard
-silent-heard None = tt
-silent-heard (Some stage) = tt
+without_text-heard None = tt
+without_text-heard (Some stage) = tt
 
 said_by-heard : (stage : Stage) (said : Command) → AreHeard (said_by stage said)
 unfolding AreHeard
-said_by-heard stage (command.Config entity blocks cap checks journal) = silent-heard (configured stage entity blocks cap checks journal)
-said_by-heard stage (command.Protect octets) = silent-heard (protected stage octets)
+said_by-heard stage (command.Config entity blocks cap checks journal) = without_text-heard (configured stage entity blocks cap checks journal)
+said_by-heard stage (command.Protect octets) = without_text-heard (protected stage octets)
 said_by-heard stage (command.Pdu octets) = (tt, tt)
 said_by-heard stage (command.Local which id) = (local_readable which id, tt)
 said_by-heard stage command.Run = (tt, tt)

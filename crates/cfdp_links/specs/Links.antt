@@ -22,7 +22,7 @@ use Rattle.cfdp_engine.specs.declared.message.Message.TheVariants as messages
 use Rattle.cfdp_commands.specs.Commands.{Command, command_in, local_event}
 use Rattle.cfdp_commands.specs.Commands as command
 use Rattle.cfdp_lines.specs.Lines.{lines_of}
-use Rattle.cfdp_commands.specs.Replay.{Stage, Running, at_first, configured, protected, silent, stage_world}
+use Rattle.cfdp_commands.specs.Replay.{Stage, Running, at_first, configured, protected, without_text, stage_world}
 use Rattle.cfdp_lines.specs.Report.{line_answer}
 
 pub data Said : Type 0 where
@@ -46,8 +46,8 @@ says_one stage said = Some (running stage, said ∷ [])
 -- a line that prepares the entity says nothing to a worker
 abbrev pub said_by : Stage → Command → Option (Stage × List Said)
 said_by stage (command.Config entity blocks cap checks journal) =
-    silent (configured stage entity blocks cap checks journal)
-said_by stage (command.Protect octets) = silent (protected stage octets)
+    without_text (configured stage entity blocks cap checks journal)
+said_by stage (command.Protect octets) = without_text (protected stage octets)
 said_by stage (command.Pdu octets) = says_one stage (Came octets)
 said_by stage (command.Local which id) = says_one stage (Happened (local_event which id))
 said_by stage command.Run = says_one stage Steps

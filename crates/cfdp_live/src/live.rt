@@ -6,16 +6,15 @@ ghost use Rattle.cfdp_receiver.specs.Machine.{answer_in};
 ghost use Rattle.cfdp_receiver.specs.Sent.{longest_sealed};
 ghost use Rattle.cfdp_receiver.specs.State.{Expire, Finish, Work};
 ghost use Rattle.cfdp_receiver.specs.Turning.{parts};
-ghost use Rattle.cfdp_run.specs.Playing.{heard_inputs, is_nothing, most_settled, most_timers, passing, settled_after, settling};
+ghost use Rattle.cfdp_transactions.specs.Settling.{most_settled};
+ghost use Rattle.cfdp_run.specs.Playing.{heard_inputs, is_nothing, most_timers, passing, settled_after, settling};
 ghost use Rattle.cfdp_live.specs.Living.{MakesOut, made_of_answer, with_more};
 
 use crate::output::Output;
 use cfdp_pdus::PduFault;
 use cfdp_receiver::{Answer, Became, Dropped, Receiver};
+use cfdp_transactions::MOST_SETTLED;
 use std::alloc::{AllocError, Global};
-
-/// How many items and outcomes are settled at most after an input: more than 64 transactions have.
-const MOST_SETTLED: usize = 4_224;
 
 /// How many timers are served at most at one moment: two for each of 64 sessions, and one that finds none due.
 const MOST_TIMERS: usize = 129;

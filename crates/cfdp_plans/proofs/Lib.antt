@@ -1,3 +1,3 @@
-pub mod Taking
+pub mod NamesAndLines
 pub mod Printing
 pub mod Telling

@@ -42,7 +42,7 @@ use Rattle.cfdp_progress.specs.HeldRounds.{is_eof_held, holds_in, EofHolds, Begi
 use Rattle.cfdp_progress.specs.NakRounds.{is_asking, asks_again, IsServed}
 use Rattle.cfdp_progress.proofs.Turns.{Quiet, kept_quiet, put_quiet, quiet_none_if, quiet_prompt, quiet_other, ignored_by, is_ignored, no_error}
 use Rattle.cfdp_receiver.proofs.Serving.{full_of}
-use Rattle.cfdp_progress.proofs.Closing.{served_is}
+use Rattle.cfdp_progress.proofs.ClosedAfterLosses.{served_is}
 use Rattle.cfdp_leases.proofs.Held.{same_itself}
 use Rattle.cfdp_leases.proofs.Admitted.{same_is}
 

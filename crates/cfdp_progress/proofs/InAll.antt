@@ -42,7 +42,7 @@ use Rattle.cfdp_progress.proofs.Turns.{Before}
 use Rattle.cfdp_progress.proofs.Runs.{still_awaits, sound_all, distinct_all, mib_all, after_both}
 use Rattle.cfdp_progress.proofs.Openings.{open_expire, open_first}
 use Rattle.cfdp_progress.proofs.Rounds.{SoFar, Room, is_below, not_enough, round_goes, one_more, lost_more, count_more}
-use Rattle.cfdp_progress.proofs.Closing.{AreLow, IsSafeToSend, over, rounds_close, remembers_it, closed_later, closed_after, closed_before, is_lost_by}
+use Rattle.cfdp_progress.proofs.ClosedAfterLosses.{AreLow, IsSafeToSend, over, rounds_close, remembers_it, closed_later, closed_after, closed_before, is_lost_by}
 use Rattle.cfdp_progress.proofs.Concluding.{concluded_when_done, concluded_later}
 use Rattle.cfdp_receiver.proofs.Delivering.{takes_none}
 use Rattle.cfdp_leases.proofs.Held.{same_itself}

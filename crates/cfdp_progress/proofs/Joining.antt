@@ -25,7 +25,7 @@ use Rattle.cfdp_receiver.proofs.Knowing.{Laws}
 use Rattle.cfdp_progress.specs.HeldRounds.{is_eof_held, holds_in, holds_eof, joins_held, comes, HeldRound, held_inputs, IsHeldRound, AreHeldRounds, comes_in, lost_while_held, AreHeldBelow, MetadataCame, MetadataComes, until_metadata, ClosedFromHeld}
 use Rattle.cfdp_progress.specs.InAll.{EitherRound, inputs_of, lost_in_all}
 use Rattle.cfdp_progress.specs.NakRounds.{MetadataOpens, Opens, FirstRound}
-use Rattle.cfdp_progress.proofs.Closing.{closed_after}
+use Rattle.cfdp_progress.proofs.ClosedAfterLosses.{closed_after}
 use Rattle.cfdp_progress.proofs.Holding.{StillHeld, stays_held, Opened, opened_again, opened_first}
 use Rattle.cfdp_progress.proofs.InAll.{known_all, closed_in_all}
 use Rattle.cfdp_progress.proofs.Runs.{sound_all, distinct_all, mib_all, joined}

@@ -7,7 +7,7 @@ pub mod Openings
 pub mod Rounds
 pub mod Reached
 pub mod Rows
-pub mod Closing
+pub mod ClosedAfterLosses
 pub mod Concluding
 pub mod InAll
 pub mod Holding

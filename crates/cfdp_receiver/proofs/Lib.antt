@@ -25,7 +25,7 @@ pub mod Kept
 pub mod Asked
 pub mod Endings
 pub mod Concluding
-pub mod Taking
+pub mod TakesFileData
 pub mod Read
 pub mod Whole
 pub mod InOrder

@@ -13,7 +13,7 @@
 --     put_in, at_in, line_in, says_alone  what the texts after `put` say;  after `at`;  after `expect`;
 --                                       that there is none
 --     says mib progress word texts      what the texts after a word say, or what is wrong with them
---     command_in mib progress line      what a line says; nothing of a comment and of a line without a word; or the
+--     meaning_in mib progress line      what a line says; nothing of a comment and of a line without a word; or the
 --                                       first of its faults:
 --                               longer than 200,000 octets (TooLong); no word that begins a line (UnknownWord); a line
 --                               of the head after the head (TooLate); not of its form (Expected); another one
@@ -258,8 +258,8 @@ abbrev pub texts_say : Mib → Progress → List (List ℕ) → Result (Option L
 texts_say mib how_far [] = Ok None
 texts_say mib how_far (text ∷ texts) = saying Some (begun_by mib how_far (word_of text) texts)
 
-abbrev pub command_in : Mib → Progress → List ℕ → Result (Option LineMeaning) Wrong
-command_in mib how_far line =
+abbrev pub meaning_in : Mib → Progress → List ℕ → Result (Option LineMeaning) Wrong
+meaning_in mib how_far line =
     if is_overlong line then Err wrong.TooLong
     else if is_comment line then Ok None
     else texts_say mib how_far (words_of line)

@@ -1,7 +1,6 @@
 -- How `cfdp run` plays what a script hands to a receiving entity: after a PDU, after a cancel and after each timer that
 -- is served, all work is done and each outcome is taken.
 --     played R inputs           the text of some inputs, one after the other
---     most_settled              how many items and outcomes are settled at most after an input
 --     next_settled now R        the input that settles most at once: an item is performed, or else an outcome is taken
 --     settling left now R       the inputs by which all is settled, this many at most
 --     settled_after R i         an input, and those by which all is settled after it
@@ -12,6 +11,7 @@
 --     heard_inputs, heard_text  the inputs of octets that came, and their text: it is one line where they were dropped
 --     Plays R inputs N before after     the inputs lead from R to N, and their text comes after another one
 use Rattle.std.specs.Prelude.{◌≡◌, ℕ, zero, suc, Bool, true, false, if◌then◌else◌, List, [], ◌∷◌, ◌++◌, Option, Some, None, is_some, Result, Ok, Err}
+use Rattle.cfdp_transactions.specs.Settling.{most_settled}
 use Rattle.cfdp_transactions.specs.World.{next_runnable}
 use Rattle.cfdp_receiver.specs.declared.reading.Dropped.{Dropped}
 use Rattle.cfdp_receiver.specs.State.{State, Input, Expire, Work, Finish}
@@ -29,9 +29,6 @@ played R [] = []
 played R (i ∷ is) = turn_text R i ++ played (after_input R i) is
 
 -- ---- all is settled
-
-abbrev pub most_settled : ℕ
-most_settled = 4224
 
 abbrev pub next_settled : ℕ → State → Option Input
 next_settled now R =

@@ -27,7 +27,7 @@ use Rattle.cfdp_receiver.specs.Heard.{heard}
 use Rattle.cfdp_receiver.specs.State.{State, Input, CancelAsked, begin}
 use Rattle.cfdp_receiver.specs.Turning.{after_all}
 use Rattle.cfdp_receiver.specs.declared.mib.Mib.{Mib}
-use Rattle.cfdp_run.specs.Commands.{Content, Nothing, Octets, File as FileNamed, LineMeaning, Settings, Configure, Protect, PutDirectory, PutFile, Receive, Cancel, Pass, Get, Gaps, Phase, ListAll, Expect, End, command_in}
+use Rattle.cfdp_run.specs.Commands.{Content, Nothing, Octets, File as FileNamed, LineMeaning, Settings, Configure, Protect, PutDirectory, PutFile, Receive, Cancel, Pass, Get, Gaps, Phase, ListAll, Expect, End, meaning_in}
 use Rattle.cfdp_run.specs.Contents.{get_line}
 use Rattle.cfdp_run.specs.Playing.{heard_inputs, heard_text, most_timers, passing, played, settled_after}
 use Rattle.cfdp_run.specs.Putting.{place_wrong, room_wrong, with_put}
@@ -205,7 +205,7 @@ said_step files stage (Ok None) = Ok (stage, [])
 said_step files stage (Ok (Some said)) = command_obeyed files stage said
 
 abbrev pub line_step : (List ℕ → Option (List ℕ)) → ScriptStage → List ℕ → Step
-line_step files stage line = said_step files stage (command_in (mib_of stage) (progress_of stage) line)
+line_step files stage line = said_step files stage (meaning_in (mib_of stage) (progress_of stage) line)
 
 -- ---- whole scripts
 

@@ -8,16 +8,15 @@ ghost use Rattle.cfdp_receiver.specs.Sent.{longest_sealed};
 ghost use Rattle.cfdp_receiver.specs.State.{CancelAsked, Expire, Finish, Work};
 ghost use Rattle.cfdp_receiver.specs.Turning.{after_input, after_all, parts};
 ghost use Rattle.cfdp_reports.specs.Reports.{answer_text};
-ghost use Rattle.cfdp_run.specs.Playing.{Plays, heard_inputs, heard_text, is_nothing, most_settled, most_timers, passing, settled_after, settling};
+ghost use Rattle.cfdp_transactions.specs.Settling.{most_settled};
+ghost use Rattle.cfdp_run.specs.Playing.{Plays, heard_inputs, heard_text, is_nothing, most_timers, passing, settled_after, settling};
 
 use cfdp_pdus::PduFault;
 use cfdp_receiver::{Answer, Became, Dropped, Receiver};
 use cfdp_reports::{NotReported, dropped_line, push_answer};
 use cfdp_status::TransactionId;
+use cfdp_transactions::MOST_SETTLED;
 use std::alloc::{AllocError, Global};
-
-/// How many items and outcomes are settled at most after an input: more than 64 transactions have.
-const MOST_SETTLED: usize = 4_224;
 
 /// How many timers are served at most at one moment: two for each of 64 sessions, and one that finds none due.
 const MOST_TIMERS: usize = 129;

@@ -6,7 +6,7 @@ ghost use Rattle.cfdp_lines.specs.Words.{numbers_of, words_of};
 ghost use Rattle.cfdp_paths.specs.Paths.{path_of};
 ghost use Rattle.cfdp_plans.specs.Names.{name_in};
 ghost use Rattle.cfdp_run.specs.Words.{is_of_head};
-ghost use Rattle.cfdp_run.specs.Commands.{IfWrong, OnMemory, says_alone, asks_by, asks_memory, at_in, before_slash, command_in, config_in, config_of, content_in, content_of, directory_or_file, in_time, input_in, is_equals, is_fresh, is_playing, line_in, octets_spelled, only_name, only_path, put_alone, put_in, command_meaning, says, setting, settings_in, takes_memory, texts_say};
+ghost use Rattle.cfdp_run.specs.Commands.{IfWrong, OnMemory, says_alone, asks_by, asks_memory, at_in, before_slash, meaning_in, config_in, config_of, content_in, content_of, directory_or_file, in_time, input_in, is_equals, is_fresh, is_playing, line_in, octets_spelled, only_name, only_path, put_alone, put_in, command_meaning, says, setting, settings_in, takes_memory, texts_say};
 
 use crate::commands::{Command, CommandFault, Content, Progress};
 use crate::settings::key_of;
@@ -420,10 +420,10 @@ pub fn read_command<'a>(
     mib: Mib,
     progress: Progress,
 ) -> Result<Option<Command<'a>>, CommandFault>
-    ensures ok { IfOk result (λ command. command_in mib progress line.entry.now ≡ Ok
+    ensures ok { IfOk result (λ command. meaning_in mib progress line.entry.now ≡ Ok
         (option_map command_meaning command)) }
-    ensures wrong { IfWrong result (λ wrong. command_in mib progress line.entry.now ≡ Err wrong) }
-    ensures memory { OnMemory result (asks_memory (command_in mib progress line.entry.now) ≡ true) }
+    ensures wrong { IfWrong result (λ wrong. meaning_in mib progress line.entry.now ≡ Err wrong) }
+    ensures memory { OnMemory result (asks_memory (meaning_in mib progress line.entry.now) ≡ true) }
 {
     if line.len() > LINE_LIMIT {
         return Err(CommandFault::Wrong(Wrong::TooLong));

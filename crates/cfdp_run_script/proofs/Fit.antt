@@ -13,7 +13,7 @@ use Rattle.cfdp_receiver.specs.Machine.{mib_fault, lacks_time, is_no_time, is_li
 use Rattle.cfdp_receiver.specs.declared.mib.Mib.{Mib}
 use Rattle.cfdp_receiver.specs.declared.mib.MibFault.{MibFault}
 use Rattle.cfdp_receiver.specs.declared.mib.MibFault.TheVariants as faults
-use Rattle.cfdp_run.specs.Commands.{Nothing, LineMeaning, Settings, Configure, Protect, PutDirectory, PutFile, Receive, Cancel, Get, Gaps, Phase, ListAll, Expect, End, first_then, saying, is_equals, valued, setting_at, setting, settings, settings_in, config_in, path_or_wrong, only_path, only_name, octets_spelled, before_slash, directory_or_file, content_in, put_in, input_in, at_in, line_in, says_alone, says, is_playing, in_time, begun_by, texts_say, command_in}
+use Rattle.cfdp_run.specs.Commands.{Nothing, LineMeaning, Settings, Configure, Protect, PutDirectory, PutFile, Receive, Cancel, Get, Gaps, Phase, ListAll, Expect, End, first_then, saying, is_equals, valued, setting_at, setting, settings, settings_in, config_in, path_or_wrong, only_path, only_name, octets_spelled, before_slash, directory_or_file, content_in, put_in, input_in, at_in, line_in, says_alone, says, is_playing, in_time, begun_by, texts_say, meaning_in}
 use Rattle.cfdp_run.specs.Settings.{key_of, within_by, interval_of, limit_of, longest_of, keep_alive_of, nak_mode_of, yes_of, handler_of, with_value}
 use Rattle.cfdp_run.specs.code.Stages.{IsFit}
 use Rattle.cfdp_run.specs.Words.{is_of_head, word_of}
@@ -404,7 +404,7 @@ unfolding FitsLine
 texts_say-fits mib how_far [] f = tt
 texts_say-fits mib how_far (text ∷ texts) f = some_fits (begun_by mib how_far (word_of text) texts) (begun_by-fits mib how_far (word_of text) texts f)
 
-line-fits : (mib : Mib) (how_far : Progress) (line : List ℕ) → Fits mib → FitsLine (command_in mib how_far line)
+line-fits : (mib : Mib) (how_far : Progress) (line : List ℕ) → Fits mib → FitsLine (meaning_in mib how_far line)
 unfolding FitsLine
 line-fits mib how_far line f =
     elim (is_overlong line) as (λ b. FitsLine (if b then Err wrongs.TooLong else if is_comment line then Ok None else texts_say mib how_far (words_of line))) [
@@ -415,7 +415,7 @@ line-fits mib how_far line f =
       ]
     ]
 
-pub command_fits : (mib : Mib) (how_far : Progress) (line : List ℕ) (said : LineMeaning) → mib_fault mib ≡ None → command_in mib how_far line ≡ Ok (Some said) →
+pub command_fits : (mib : Mib) (how_far : Progress) (line : List ℕ) (said : LineMeaning) → mib_fault mib ≡ None → meaning_in mib how_far line ≡ Ok (Some said) →
     IsFit said
 unfolding FitsLine
 command_fits mib how_far line said none e = subst FitsLine e (line-fits mib how_far line (none_fits mib none))

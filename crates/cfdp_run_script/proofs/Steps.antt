@@ -15,20 +15,20 @@ use Rattle.cfdp_run.specs.declared.stop.Stop.{Stop as StopValue}
 use Rattle.cfdp_run.specs.declared.words.Word.{Word}
 use Rattle.cfdp_run.specs.declared.words.Word.TheVariants as word
 use Rattle.cfdp_run.specs.declared.wrong.Wrong.{Wrong}
-use Rattle.cfdp_run_script.specs.Steps.{Leads, StopsScript, stage_by}
+use Rattle.cfdp_run_script.specs.Steps.{Leads, StopsScript, script_stage}
 use Rattle.cfdp_run_script.specs.code.Steps.{held, held_in}
 
 -- ---- the head
 
 pub head_step : (h g : HeadValue) (p q : Option PlayValue) (w : Word) (change : Head → Result Head Stop) → p ≡ None → q ≡ p → change (head_of h)
     ≡ Ok (head_of g) →
-    in_head w (stage_by h p) change ≡ Ok (stage_by g q, [])
-unfolding stage_by
+    in_head w (script_stage h p) change ≡ Ok (script_stage g q, [])
+unfolding script_stage
 head_step h g p q w change none same e = rw (same, none) (ap head_changed e)
 
 pub head_stop : (h : HeadValue) (p : Option PlayValue) (w : Word) (change : Head → Result Head Stop) (why : Stop) → p ≡ None → change (head_of h) ≡ Err why →
-    in_head w (stage_by h p) change ≡ Err why
-unfolding stage_by
+    in_head w (script_stage h p) change ≡ Err why
+unfolding script_stage
 head_stop h p w change why none e = rw none (ap head_changed e)
 
 pub placed : (o : Option Wrong) (later : Result Head Stop) → o ≡ None → unless o later ≡ later
@@ -93,8 +93,8 @@ put_file_misplaced files h path content why e = misplaced (place_wrong h.world.f
 
 pub written_does : (h : HeadValue) (p : Option PlayValue) (after : PlayValue) (next : Play) (before text lines : List ℕ) → p ≡ Some after → play_from after
     ≡ next →
-    lines ≡ (play_from after).lines → text ≡ before ++ lines → Leads (written next) (stage_by h p) before text
-unfolding stage_by
+    lines ≡ (play_from after).lines → text ≡ before ++ lines → Leads (written next) (script_stage h p) before text
+unfolding script_stage
 written_does h p after next before text lines is e l a = rw is (record {
   text = lines;
   does = ap written (sym e) ∙ ap (λ (o : List ℕ). Ok (Playing (play_from after), o)) (sym l);
@@ -115,11 +115,11 @@ abbrev pub Told : Type 0
 Told = Option (List ℕ → Option (List ℕ))
 
 abbrev pub PutStep : (List ℕ → Option (List ℕ)) → HeadValue → Option PlayValue → Path → Content → Step
-PutStep map h p path content = in_head word.Put (stage_by h p) (λ head. put_file map head path content)
+PutStep map h p path content = in_head word.Put (script_stage h p) (λ head. put_file map head path content)
 
 pub file_put : (told : Told) (h g : HeadValue) (p q : Option PlayValue) (path : Path) (content : Content) (octets given : List ℕ) → p ≡ None → q ≡ p →
     place_wrong (head_of h).world.filestore path ≡ None → IfSome told (λ map. held map content ≡ Ok octets) → given ≡ octets →
-    put_node (head_of h) path (File given) ≡ Ok (head_of g) → IfSome told (λ map. PutStep map h p path content ≡ Ok (stage_by g q, []))
+    put_node (head_of h) path (File given) ≡ Ok (head_of g) → IfSome told (λ map. PutStep map h p path content ≡ Ok (script_stage g q, []))
 file_put None h g p q path content octets given none kept place e same put = tt
 file_put (Some map) h g p q path content octets given none kept place e same put =
     head_step h g p q word.Put (λ head. put_file map head path content) none kept (put_file_held map (head_of h) path content octets given place e same ∙ put)

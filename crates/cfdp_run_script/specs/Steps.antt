@@ -1,5 +1,5 @@
 -- What the values of the program are seen as, and what a line of a script leads to.
---     stage_by, script_of               how far a script is, by its head and the entity after it;  that of a script
+--     script_stage, script_of           how far a script is, by its head and the entity after it;  that of a script
 --     Leads step stage before after     a line leads to a stage, and what it writes comes after another text
 --     StopsScript step why              a line stops the script for this reason, unless out of memory
 use Rattle.std.specs.Prelude.{◌≡◌, ◌≢◌, ℕ, List, ◌++◌, Option, Some, None, Ok, Err}
@@ -11,12 +11,12 @@ use Rattle.cfdp_run.specs.declared.play.Play.{Play as PlayValue}
 use Rattle.cfdp_run.specs.declared.stop.Stop.{Stop as StopValue}
 use Rattle.cfdp_run_script.specs.declared.script.Script.{Script as ScriptValue}
 
-unfoldable pub stage_by : HeadValue → Option PlayValue → ScriptStage
-stage_by head None = Preparing (head_of head)
-stage_by head (Some play) = Playing (play_from play)
+unfoldable pub script_stage : HeadValue → Option PlayValue → ScriptStage
+script_stage head None = Preparing (head_of head)
+script_stage head (Some play) = Playing (play_from play)
 
 abbrev pub script_of : ScriptValue → ScriptStage
-script_of script = stage_by script.head script.play
+script_of script = script_stage script.head script.play
 
 pub record Leads (step : Step) (stage : ScriptStage) (before after : List ℕ) : Type 0 where
   pub text : List ℕ

@@ -61,7 +61,7 @@ impl Script {
     /// # Errors
     ///
     /// [`AllocError`] when out of memory. Cost: an entity of 64 blocks.
-    #[tactic(auto, unfolding(crate::specs::Steps::stage_by))]
+    #[tactic(auto, unfolding(crate::specs::Steps::script_stage))]
     pub fn new(alloc: Global) -> Result<Script, AllocError>
         ensures { IfOk result (λ script. script_of script ≡ script_at_first) }
     {
@@ -70,7 +70,7 @@ impl Script {
     }
 
     /// The settings, for a line `mib`.
-    #[tactic(auto, unfolding(crate::specs::Steps::stage_by))]
+    #[tactic(auto, unfolding(crate::specs::Steps::script_stage))]
     fn mib(&self) -> Mib
         ensures value { result ≡ mib_of (script_of self.now) }
         ensures fits { mib_fault result ≡ None }
@@ -82,7 +82,7 @@ impl Script {
     }
 
     /// How far the head is.
-    #[tactic(auto, unfolding(crate::specs::Steps::stage_by))]
+    #[tactic(auto, unfolding(crate::specs::Steps::script_stage))]
     fn progress(&self) -> Progress
         ensures { result ≡ progress_of (script_of self.now) }
     {
@@ -93,7 +93,7 @@ impl Script {
     }
 
     /// A line of the head is too late after it.
-    #[tactic(auto, unfolding(crate::specs::Steps::stage_by))]
+    #[tactic(auto, unfolding(crate::specs::Steps::script_stage))]
     fn in_head(&self, word: Word) -> Result<(), Stop>
         ensures ok { OnOk result (self.now.play ≡ None) }
         ensures late { IfErr result (λ stop. (change : SaidInHead → Result SaidInHead Why) →
@@ -106,7 +106,7 @@ impl Script {
     }
 
     /// A line `mib`.
-    #[tactic(auto, unfolding(crate::specs::Steps::stage_by))]
+    #[tactic(auto, unfolding(crate::specs::Steps::script_stage))]
     fn set(&mut self, mib: Mib) -> Result<(), Stop>
         requires { mib_fault mib ≡ None }
         ensures ok { OnOk result (in_head word.Mib (script_of self.old) (λ head. Ok (with_mib head mib))
@@ -120,7 +120,7 @@ impl Script {
     }
 
     /// A line `config`.
-    #[tactic(auto, unfolding(crate::specs::Steps::stage_by))]
+    #[tactic(auto, unfolding(crate::specs::Steps::script_stage))]
     fn configure(&mut self, alloc: Global, config: Config) -> Result<(), Stop>
         ensures ok { OnOk result (in_head word.Config (script_of self.old) (λ head. Ok (with_config head config))
             ≡ Ok (script_of self.new, [])) }
@@ -132,7 +132,7 @@ impl Script {
     }
 
     /// A line `protect`.
-    #[tactic(auto, unfolding(crate::specs::Steps::stage_by))]
+    #[tactic(auto, unfolding(crate::specs::Steps::script_stage))]
     fn protect(&mut self, path: Path) -> Result<(), Stop>
         ensures ok { OnOk result (in_head word.Protect (script_of self.old) (λ head. head_protected head path)
             ≡ Ok (script_of self.new, [])) }
@@ -191,7 +191,7 @@ impl Script {
     }
 
     /// The head is over. Costs nothing after the first line of another kind.
-    #[tactic(auto, unfolding(crate::specs::Steps::stage_by))]
+    #[tactic(auto, unfolding(crate::specs::Steps::script_stage))]
     fn begin(&mut self, alloc: Global) -> Result<(), AllocError>
         ensures playing { OnOk result (IsSome self.new.play) }
         ensures state { OnOk result (IfSome self.new.play (λ play. play_from play ≡ play_of (script_of self.old))) }
@@ -330,7 +330,7 @@ impl Script {
     }
 
     /// A line is expected.
-    #[tactic(auto, unfolding(crate::specs::Steps::stage_by))]
+    #[tactic(auto, unfolding(crate::specs::Steps::script_stage))]
     fn expect(&mut self, alloc: Global, line: Vec<u8>) -> Result<(), Stop>
         ensures ok { OnOk result (expected (play_of (script_of self.old)) line.items ≡ Ok (script_of self.new, [])) }
         ensures err { IfErr result (StopsScript (expected (play_of (script_of self.old)) line.items)) }
@@ -415,7 +415,7 @@ impl Script {
     }
 
     /// The entity, for its filestore. Costs nothing.
-    #[tactic(auto, unfolding(crate::specs::Steps::stage_by))]
+    #[tactic(auto, unfolding(crate::specs::Steps::script_stage))]
     pub fn entity(&self) -> &Entity
         ensures { result.now.filestore ≡ stage_filestore (script_of self.now) }
     {
@@ -426,7 +426,7 @@ impl Script {
     }
 
     /// The receiving entity, after the head. Costs nothing.
-    #[tactic(auto, unfolding(crate::specs::Steps::stage_by))]
+    #[tactic(auto, unfolding(crate::specs::Steps::script_stage))]
     pub fn receiver(&self) -> Option<&Receiver>
         ensures some { IfSome result (λ receiver. receiver.now.state ≡ (play_of (script_of self.now)).state) }
         ensures none { result ≡ None → progress_of (script_of self.now) ≢ progress.Playing }

@@ -26,4 +26,5 @@ pub mod Beside
 pub mod Fitting
 pub mod Beginning
 pub mod Restart
+pub mod Settling
 pub mod code

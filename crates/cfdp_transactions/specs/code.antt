@@ -2,12 +2,12 @@
 pub mod LowerLaws
 pub mod ConfigEquality
 pub mod Pieces
-pub mod Keeping
+pub mod FileData
 pub mod TableEntries
 pub mod TableChanges
 pub mod Books
 pub mod Adding
 pub mod Items
-pub mod Taking
+pub mod TakenOutcome
 pub mod FinishedInBuffer
 pub mod Engine

@@ -10,7 +10,7 @@ ghost use Rattle.cfdp_transactions.specs.code.TableEntries.{entry_in};
 ghost use Rattle.cfdp_transactions.specs.Books.{IsAnswered};
 ghost use Rattle.cfdp_transactions.specs.code.Books.{AnswersAt, IsBooked, IsSteady, IsTakenAt, StoresAt, world_of};
 ghost use Rattle.cfdp_actions.specs.Store.{free_blocks, with_changes};
-ghost use Rattle.cfdp_transactions.specs.code.Keeping.{PutsOctets, kept};
+ghost use Rattle.cfdp_transactions.specs.code.FileData.{PutsOctets, kept};
 ghost use Rattle.cfdp_transactions.specs.PieceLaws.{ArePieces};
 ghost use Rattle.cfdp_transactions.specs.Pieces.{received_in, with_range};
 ghost use Rattle.cfdp_transactions.specs.Received.{staged_of};

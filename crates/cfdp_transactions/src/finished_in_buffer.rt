@@ -9,7 +9,7 @@ ghost use Rattle.cfdp_pdus.specs.Canonical.{fault_location, finished_field, is_s
 ghost use Rattle.cfdp_pdus.specs.Placing.{filled, with_octets_at};
 ghost use Rattle.cfdp_transactions.specs.code.FinishedInBuffer.{answered_with, responses_field, unperformed_field};
 ghost use Rattle.cfdp_transactions.specs.Outcome.{answered, responses_of};
-ghost use Rattle.cfdp_transactions.specs.code.Taking.{statuses_of};
+ghost use Rattle.cfdp_transactions.specs.code.TakenOutcome.{statuses_of};
 ghost use Rattle.cfdp_transactions.specs.Writable.{IsWritable, finished_octets};
 
 use crate::outcome::Outcome;

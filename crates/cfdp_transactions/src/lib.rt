@@ -37,4 +37,5 @@ pub use phase::Phase;
 pub use putting::NotPut;
 pub use ranges::{MOST_GAPS, Range};
 pub use reply::Reply;
+pub use table::MOST_SETTLED;
 pub use the_core::Core;

@@ -17,6 +17,9 @@ use std::marker::Model;
 /// How many transactions are known at most, ended ones whose outcome was not taken included.
 pub(crate) const MOST_TRANSACTIONS: usize = 64;
 
+/// How many items and outcomes there are at most: of each of 64 transactions an install, 64 requests and an outcome.
+pub const MOST_SETTLED: usize = 4_224;
+
 /// The transactions in order of admission, which are found by name. Contracts see them as a list of rows.
 #[derive(Drop)]
 pub(crate) struct Table {

@@ -12,7 +12,7 @@ ghost use Rattle.cfdp_transactions.specs.code.FinishedInBuffer.{FallsShort, Issu
 ghost use Rattle.cfdp_transactions.specs.Outcome.{condition_of, outcome_of, responses_of};
 ghost use Rattle.cfdp_transactions.specs.code.TableEntries.{entry_in};
 ghost use Rattle.cfdp_transactions.specs.Sound.{Sound};
-ghost use Rattle.cfdp_transactions.specs.code.Taking.{answered_by, statuses_of, status_by, fault_by};
+ghost use Rattle.cfdp_transactions.specs.code.TakenOutcome.{answered_by, statuses_of, status_by, fault_by};
 ghost use Rattle.cfdp_transactions.specs.Writable.{IsWritable};
 
 use crate::admission::names_file;

@@ -12,7 +12,7 @@ use Rattle.cfdp_pdus.specs.Placing.{with_octets_at}
 use Rattle.cfdp_pdus.proofs.Placing.{overwritten-overwritten}
 use Rattle.cfdp_transactions.specs.code.FinishedInBuffer.{unperformed_field}
 use Rattle.cfdp_transactions.specs.Outcome.{answered, responses_of}
-use Rattle.cfdp_transactions.specs.code.Taking.{statuses_of}
+use Rattle.cfdp_transactions.specs.code.TakenOutcome.{statuses_of}
 use Rattle.cfdp_transactions.proofs.KeptTable.EntryTakenOut.{one_response, status_at}
 use Rattle.cfdp_pdus.proofs.OutcomeSteps.{and_true}
 

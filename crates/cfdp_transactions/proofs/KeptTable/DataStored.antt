@@ -8,7 +8,7 @@ use Rattle.cfdp_quota.specs.Budget.{Budget, entry_at, reserve_at, spare, taking}
 use Rattle.cfdp_transactions.specs.Received.{Received, kept_with, staged_of}
 use Rattle.cfdp_transactions.specs.Pieces.{received_in, with_range}
 use Rattle.cfdp_transactions.specs.PieceLaws.{ArePieces}
-use Rattle.cfdp_transactions.specs.code.Keeping.{kept}
+use Rattle.cfdp_transactions.specs.code.FileData.{kept}
 use Rattle.cfdp_transactions.specs.Entry.{is_live, Entry, reserve, blocks_left, spend}
 use Rattle.cfdp_transactions.specs.World.{World, free, change_at}
 use Rattle.cfdp_transactions.specs.Delivery.{storing, stores}

@@ -16,7 +16,7 @@ use Rattle.cfdp_transactions.specs.Ending.{taken_out}
 use Rattle.cfdp_transactions.specs.code.TableEntries.{TableEntry, entry_in, table_of}
 use Rattle.cfdp_transactions.specs.code.Books.{FitsBudget, IsBooked, world_of}
 use Rattle.cfdp_transactions.specs.declared.books.Books.{Books}
-use Rattle.cfdp_transactions.specs.code.Taking.{statuses_of}
+use Rattle.cfdp_transactions.specs.code.TakenOutcome.{statuses_of}
 use Rattle.cfdp_transactions.proofs.KeptTable.Accounts.{leases_removed}
 use Rattle.cfdp_transactions.proofs.KeptTable.Answering.{entry_is}
 use Rattle.cfdp_transactions.proofs.Soundness.OwnChange.{reserves_total}

@@ -12,7 +12,7 @@ use Rattle.cfdp_transactions.specs.Received.{staged_of, kept_with}
 use Rattle.cfdp_transactions.specs.Pieces.{Ranges, is_in, received_in, with_range}
 use Rattle.cfdp_transactions.specs.code.Pieces.{IsNextGap}
 use Rattle.cfdp_transactions.specs.PieceLaws.{ArePieces, AreWritten}
-use Rattle.cfdp_transactions.specs.code.Keeping.{IsPut, PutsOctets, kept}
+use Rattle.cfdp_transactions.specs.code.FileData.{IsPut, PutsOctets, kept}
 use Rattle.cfdp_transactions.proofs.Received.PieceRanges.{is_inside, inside_true}
 use Rattle.cfdp_transactions.proofs.Received.Writing.{length-received, received_at, range_is_added, ranges_keep, staged_are_kept}
 use Rattle.cfdp_transactions.proofs.Received.Overwriting.{overwritten-length, overwritten-before, overwritten-inside, overwritten-behind}

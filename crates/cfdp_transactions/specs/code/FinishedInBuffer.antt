@@ -14,7 +14,7 @@ use Rattle.cfdp_pdus.specs.Canonical.{response_field}
 use Rattle.cfdp_pdus.specs.Placing.{filled}
 use Rattle.cfdp_transactions.specs.Events.{Outcome, Reply}
 use Rattle.cfdp_transactions.specs.Outcome.{answered, responses_of}
-use Rattle.cfdp_transactions.specs.code.Taking.{answered_by, statuses_of}
+use Rattle.cfdp_transactions.specs.code.TakenOutcome.{answered_by, statuses_of}
 use Rattle.cfdp_transactions.specs.World.{World}
 use Rattle.cfdp_transactions.specs.declared.finished_in_buffer.TakenFinished.{TakenFinished}
 use Rattle.cfdp_transactions.specs.declared.finished_in_buffer.ShortBuffer.{ShortBuffer}

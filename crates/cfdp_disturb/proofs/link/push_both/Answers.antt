@@ -1,6 +1,6 @@
 use Rattle.std.proofs.Common.{rules, ◌≡◌, true, false}
 use Rattle.cfdp_disturb.specs.Disturbing.{Drawn, both, is_pdu_line, said}
-use Rattle.cfdp_disturb.proofs.Taking.{in_turn, swapped, text_of_both}
+use Rattle.cfdp_disturb.proofs.TakenLines.{in_turn, swapped, text_of_both}
 use Rattle.cfdp_disturb.proofs.link.push_both.Goals as goal
 
 pub returns-in_ok-push_said : goal.returns-in_ok-push_said

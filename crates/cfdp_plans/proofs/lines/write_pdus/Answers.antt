@@ -1,7 +1,7 @@
 use Rattle.std.proofs.Common.{◌≡◌, ℕ, suc, ◌+◌, ◌++◌, List, take, flat_map, ap, sym, ◌∙◌, arith}
 use Rattle.cfdp_uploads.specs.Uploads.{upload_pdus}
 use Rattle.cfdp_plans.specs.Lines.{pdu_line}
-use Rattle.cfdp_plans.proofs.Taking.{line_taken, appends_more}
+use Rattle.cfdp_plans.proofs.NamesAndLines.{line_taken, appends_more}
 use Rattle.cfdp_plans.proofs.lines.write_pdus.Goals as goal
 
 pub loop-number-preserved : goal.loop-number-preserved

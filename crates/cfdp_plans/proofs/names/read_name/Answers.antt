@@ -1,6 +1,6 @@
 use Rattle.std.proofs.Common.{length, sym, ◌∙◌, eqb-true}
 use Rattle.cfdp_plans.specs.Names.{name_in}
-use Rattle.cfdp_plans.proofs.Taking.{octets_taken, name_finished}
+use Rattle.cfdp_plans.proofs.NamesAndLines.{octets_taken, name_finished}
 use Rattle.cfdp_plans.proofs.names.read_name.Goals as goal
 
 pub octets-preserved : goal.octets-preserved

@@ -1,5 +1,5 @@
 use Rattle.std.proofs.Common.{◌-◌, ◌≤◌}
-use Rattle.cfdp_transactions.specs.code.Keeping.{PutsOctets}
+use Rattle.cfdp_transactions.specs.code.FileData.{PutsOctets}
 use Rattle.cfdp_transactions.proofs.file_data.put_missing.Given as goal
 
 -- the octets are in place up to `from`

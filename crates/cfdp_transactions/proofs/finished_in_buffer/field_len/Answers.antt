@@ -4,7 +4,7 @@ use Rattle.cfdp_pdus.proofs.CanonicalSteps.{finished_short}
 use Rattle.cfdp_pdus.proofs.WriteSteps.{finished_len}
 use Rattle.cfdp_transactions.specs.declared.outcome.Outcome.{Outcome}
 use Rattle.cfdp_transactions.specs.code.FinishedInBuffer.{answered_with}
-use Rattle.cfdp_transactions.specs.code.Taking.{statuses_of}
+use Rattle.cfdp_transactions.specs.code.TakenOutcome.{statuses_of}
 use Rattle.cfdp_transactions.proofs.FinishedPdus.ResponsesPut.{answers_len}
 use Rattle.cfdp_transactions.proofs.finished_in_buffer.field_len.Goals as goal
 

@@ -6,7 +6,7 @@ use Rattle.cfdp_tlv.specs.Values.{ResponseFields}
 use Rattle.cfdp_pdus.specs.Canonical.{is_short_response, response_field}
 use Rattle.cfdp_pdus.specs.Placing.{with_octets_at}
 use Rattle.cfdp_transactions.specs.Outcome.{answered, responses_of}
-use Rattle.cfdp_transactions.specs.code.Taking.{statuses_of}
+use Rattle.cfdp_transactions.specs.code.TakenOutcome.{statuses_of}
 use Rattle.cfdp_transactions.proofs.FinishedPdus.ResponsesPut.{next_is, one_more, responses_from}
 use Rattle.cfdp_transactions.proofs.KeptTable.EntryTakenOut.{status_at, status_of_number}
 use Rattle.cfdp_transactions.proofs.finished_in_buffer.put_responses.Goals as goal

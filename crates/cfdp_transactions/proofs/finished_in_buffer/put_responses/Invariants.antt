@@ -3,7 +3,7 @@ use Rattle.std.specs.List.{flat_map, list_all}
 use Rattle.cfdp_pdus.specs.Canonical.{is_short_response, response_field}
 use Rattle.cfdp_pdus.specs.Placing.{with_octets_at}
 use Rattle.cfdp_transactions.specs.Outcome.{responses_of}
-use Rattle.cfdp_transactions.specs.code.Taking.{statuses_of}
+use Rattle.cfdp_transactions.specs.code.TakenOutcome.{statuses_of}
 use Rattle.cfdp_transactions.proofs.FinishedPdus.ResponsesPut.{responses_from}
 use Rattle.cfdp_transactions.proofs.finished_in_buffer.put_responses.Given as goal
 

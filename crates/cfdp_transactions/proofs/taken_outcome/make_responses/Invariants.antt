@@ -1,6 +1,6 @@
 use Rattle.std.proofs.Common.{◌≡◌, ◌-◌, ◌++◌, drop}
 use Rattle.cfdp_transactions.specs.Outcome.{responses_of}
-use Rattle.cfdp_transactions.specs.code.Taking.{statuses_of}
+use Rattle.cfdp_transactions.specs.code.TakenOutcome.{statuses_of}
 use Rattle.cfdp_transactions.proofs.taken_outcome.make_responses.Given as goal
 
 abbrev pub invariant-loop-place : goal.invariant-loop-place

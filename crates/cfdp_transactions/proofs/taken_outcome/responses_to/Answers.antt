@@ -2,7 +2,7 @@ use Rattle.std.proofs.Common.{◌≡◌, ◌+◌, ◌-◌, ◌++◌, length, ref
 use Rattle.std.specs.Prelude.{vec_len}
 use Rattle.cfdp_status.specs.declared.status.Status.TheVariants.{Successful, NotPerformed}
 use Rattle.cfdp_transactions.specs.Outcome.{answered, responses_of}
-use Rattle.cfdp_transactions.specs.code.Taking.{statuses_of}
+use Rattle.cfdp_transactions.specs.code.TakenOutcome.{statuses_of}
 use Rattle.cfdp_transactions.proofs.KeptTable.EntryTakenOut.{next_answer, status_at, status_of_number}
 use Rattle.cfdp_transactions.proofs.taken_outcome.responses_to.Goals as goal
 

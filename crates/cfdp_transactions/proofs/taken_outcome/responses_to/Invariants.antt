@@ -1,7 +1,7 @@
 use Rattle.std.proofs.Common.{◌≡◌, ◌≤◌, ◌-◌, ◌+◌, ◌++◌, length}
 use Rattle.std.specs.Prelude.{vec_capacity, vec_len}
 use Rattle.cfdp_transactions.specs.Outcome.{responses_of}
-use Rattle.cfdp_transactions.specs.code.Taking.{statuses_of}
+use Rattle.cfdp_transactions.specs.code.TakenOutcome.{statuses_of}
 use Rattle.cfdp_transactions.proofs.taken_outcome.responses_to.Given as goal
 
 -- the responses that are made, and those to what is left; and there is room for these

@@ -1,6 +1,6 @@
 use Rattle.std.proofs.Common.{rules}
 use Rattle.cfdp_disturb.specs.Disturbing.{Drawn}
-use Rattle.cfdp_disturb.proofs.Taking.{finished, finished_none}
+use Rattle.cfdp_disturb.proofs.TakenLines.{finished, finished_none}
 use Rattle.cfdp_disturb.proofs.link.Link.finish.Goals as goal
 
 pub returns-in_default-clause-ok : goal.returns-in_default-clause-ok

@@ -1,6 +1,6 @@
 use Rattle.std.proofs.Common.{rules}
 use Rattle.cfdp_disturb.specs.Disturbing.{Drawn}
-use Rattle.cfdp_disturb.proofs.Taking.{taken_both}
+use Rattle.cfdp_disturb.proofs.TakenLines.{taken_both}
 use Rattle.cfdp_disturb.proofs.link.Link.take.Goals as goal
 
 pub returns-clause-ok : goal.returns-clause-ok

@@ -1,6 +1,6 @@
 use Rattle.std.proofs.Common.{rules, ◌≡◌, false}
 use Rattle.cfdp_disturb.specs.Disturbing.{Drawn, is_held}
-use Rattle.cfdp_disturb.proofs.Taking.{taken_alone}
+use Rattle.cfdp_disturb.proofs.TakenLines.{taken_alone}
 use Rattle.cfdp_disturb.proofs.link.Link.take_first.Goals as goal
 
 pub returns-then-not-is_held-clause-ok : goal.returns-then-not-is_held-clause-ok

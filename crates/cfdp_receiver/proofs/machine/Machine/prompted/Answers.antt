@@ -2,7 +2,7 @@ use Rattle.std.proofs.Common.{sym, subst}
 use Rattle.cfdp_status.specs.declared.transaction.TransactionId.{TransactionId}
 use Rattle.cfdp_transactions.specs.World.{entry_of}
 use Rattle.cfdp_receiver.specs.code.Machine.{IsTaking}
-use Rattle.cfdp_receiver.proofs.Taking.{taking}
+use Rattle.cfdp_receiver.proofs.TakesFileData.{taking}
 use Rattle.cfdp_receiver.proofs.machine.Machine.prompted.Goals as goal
 
 pub with_keep_alive-requires-clause-sized : goal.with_keep_alive-requires-clause-sized
