@@ -4,7 +4,6 @@ pub mod Replay
 pub mod RequestLines
 pub mod Scripts
 pub mod Stages
-pub mod code
 pub use Rattle.cfdp_lines.specs.Answers
 pub use Rattle.cfdp_lines.specs.Lines
 pub use Rattle.cfdp_lines.specs.Report

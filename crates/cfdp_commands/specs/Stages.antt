@@ -2,15 +2,14 @@
 --
 --   setup_of     the stage that a setup is: before the first event, or right at it
 --   stage_of     the stage of a script of `replay`
-use Rattle.std.specs.Prelude.{true, false}
+use Rattle.std.specs.Prelude.{true, false, Option, Some, None}
 use Rattle.cfdp_transactions.specs.Config.{Config}
-use Rattle.cfdp_transactions.specs.World.{start}
+use Rattle.cfdp_transactions.specs.World.{World, start}
 use Rattle.cfdp_commands.specs.Replay as spec
 use Rattle.cfdp_commands.specs.declared.setup.Progress.{Progress}
 use Rattle.cfdp_commands.specs.declared.setup.Progress.TheVariants.{First, Open, Closed}
 use Rattle.cfdp_commands.specs.declared.setup.Setup.{Setup}
 use Rattle.cfdp_commands.specs.declared.stage.Stage.{Stage}
-use Rattle.cfdp_commands.specs.declared.stage.Stage.TheVariants.{Preparing, Running}
 
 abbrev pub stage_by : Progress → Config → spec.Stage
 stage_by First config = spec.Preparing true config
@@ -20,6 +19,9 @@ stage_by Closed config = spec.Running (start config)
 abbrev pub setup_of : Setup → spec.Stage
 setup_of setup = stage_by setup.progress (record setup.config { prefixes = setup.protected })
 
+abbrev pub stage_by_entity : spec.Stage → Option World → spec.Stage
+stage_by_entity before None = before
+stage_by_entity before (Some W) = spec.Running W
+
 abbrev pub stage_of : Stage → spec.Stage
-stage_of (Preparing setup) = setup_of setup
-stage_of (Running W) = spec.Running W
+stage_of stage = stage_by_entity (setup_of stage.setup) stage.entity

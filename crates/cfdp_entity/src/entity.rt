@@ -1,6 +1,5 @@
 //! The receiving entity.
 ghost use Rattle.std.specs.Prelude.{◌≡◌, ◌<◌, ◌≤◌, ◌++◌, ℕ, List, [], drop, length, true, IsFalse, IsNone, IsOk, IfOk, IfErr, IfSome, OnErr, OnOk, Ok, Err, Some, None};
-ghost use Rattle.std.specs.Option.{option_map};
 ghost use Rattle.cfdp_actions.specs.Filestore.{Directory, File, node_at};
 ghost use Rattle.cfdp_pdus.specs.First.{pdu_at};
 ghost use Rattle.cfdp_pdus.specs.Sound.{IsNoFileData};
@@ -277,28 +276,6 @@ impl Entity {
         self.core.outcome(id)
     }
 
-    /// The outcome of a transaction, and the octets that are to be sent of it once it is taken: nothing where there is
-    /// no outcome.
-    fn outcome_to_send(
-        &self,
-        alloc: Global,
-        id: TransactionId,
-    ) -> Result<Option<(Outcome, Vec<u8>)>, Memory>
-        ensures outcome { IfOk result (λ made. outcome_in self.now id ≡ option_map (λ m. m.0) made) }
-        ensures octets { IfOk result (λ made. IfSome made (λ m. m.1.items ≡ sent (next self.now (TakeCame id)).1)) }
-        ensures none { IfOk result (λ made. IsNone made → sent (next self.now (TakeCame id)).1 ≡ []) }
-        ensures most { length (sent (next self.now (TakeCame id)).1) ≤ longest_finished }
-        ensures lean { IsNone (outcome_in self.now id) → IsOk result }
-    {
-        match self.core.outcome(id)? {
-            None => Ok(None),
-            Some(outcome) => {
-                let octets = outcome.octets(alloc)?;
-                Ok(Some((outcome, octets)))
-            }
-        }
-    }
-
     /// The outcome of a transaction is handed out, with which it is forgotten (copy file procedures). The outcome was
     /// made before, by [`outcome`](Entity::outcome): no name of a request is copied once more.
     ///
@@ -309,14 +286,6 @@ impl Entity {
         ensures follows { Follows self.old (TakeCame id) result self.new }
     {
         self.core.hand_out(id, outcome)
-    }
-
-    /// A transaction is taken that is live or not known: it has no outcome.
-    fn take_none(&mut self, id: TransactionId) -> Reply
-        requires { IsNone (outcome_in self.old id) }
-        ensures { next self.old (TakeCame id) ≡ (self.new, result) }
-    {
-        self.apply(&Event::Take(id))
     }
 
     /// The outcome of a transaction is taken, with which it is forgotten (CCSDS 727.0-B-5, copy file procedures): the
@@ -345,9 +314,10 @@ impl Entity {
         ensures unchanged { OnErr result (self.new ≡ self.old) }
         ensures unwritten { OnErr result (out.new ≡ out.old) }
     {
-        let Some((outcome, octets)) = self.outcome_to_send(alloc, id)? else {
-            return Ok((self.take_none(id), 0));
+        let Some(outcome) = self.core.outcome(id)? else {
+            return Ok((self.apply(&Event::Take(id)), 0));
         };
+        let octets = outcome.octets(alloc)?;
         if out.len() < octets.len() {
             return Err(NotTaken::TooShort(octets.len()));
         }

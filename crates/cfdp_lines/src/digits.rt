@@ -74,74 +74,39 @@ fn decode_block(word: &[u8], room: &mut [u8]) -> u8x16
     high | low
 }
 
-/// Decodes pairs of octets, whether they are digits or not, sixteen at once. The last sixteen may include some that are
-/// decoded already. Returns what [`decode_pairs`] returns.
-fn decode_many(word: &[u8], room: &mut [u8]) -> u8
-    requires word { length word.now ≡ 2 * length room.old }
-    requires many { LANES ≤ length room.old }
-    ensures { ArePairs word.now room.new (length room.old) (result < 16) }
-{
-    let mut seen = u8x16::splat(0);
-    let mut start = 0;
-    'vectors: while room.len() - start > LANES {
-        seen = seen | decode_block(&word[2 * start..], &mut room[start..]);
-        start += LANES;
-    }
-    let last = room.len() - LANES;
-    let all = seen | decode_block(&word[2 * last..], &mut room[last..]);
-    all.reduce_or()
-}
-
-/// Decodes pairs of octets, whether they are digits or not, one by one. Returns what [`decode_pairs`] returns.
-fn decode_few(word: &[u8], room: &mut [u8]) -> u8
-    requires { length word.now ≡ 2 * length room.old }
-    ensures { ArePairs word.now room.new (length room.old) (result < 16) }
-{
-    let mut seen = 0;
-    'pairs: for index in 0..room.len() {
-        let high = value_of(word[2 * index]);
-        let low = value_of(word[2 * index + 1]);
-        seen |= high | low;
-        room[index] = high.wrapping_mul(16).wrapping_add(low);
-    }
-    seen
-}
-
-/// Decodes pairs of octets, whether they are digits or not. Returns their values, all or-ed together: below 16 exactly
-/// if each is a digit. It takes no branch on a digit.
+/// Decodes pairs of octets, whether they are digits or not: sixteen at once, of which the last sixteen may include some
+/// that are decoded already, or fewer one by one. Returns their values, all or-ed together: below 16 exactly if each is
+/// a digit. It takes no branch on a digit.
 fn decode_pairs(word: &[u8], room: &mut [u8]) -> u8
     requires { length word.now ≡ 2 * length room.old }
     ensures { ArePairs word.now room.new (length room.old) (result < 16) }
 {
     if room.len() < LANES {
-        decode_few(word, room)
-    } else {
-        decode_many(word, room)
+        let mut seen = 0;
+        'pairs: for index in 0..room.len() {
+            let high = value_of(word[2 * index]);
+            let low = value_of(word[2 * index + 1]);
+            seen |= high | low;
+            room[index] = high.wrapping_mul(16).wrapping_add(low);
+        }
+        return seen;
     }
+    let mut lanes = u8x16::splat(0);
+    let mut start = 0;
+    'vectors: while room.len() - start > LANES {
+        lanes = lanes | decode_block(&word[2 * start..], &mut room[start..]);
+        start += LANES;
+    }
+    let last = room.len() - LANES;
+    let all = lanes | decode_block(&word[2 * last..], &mut room[last..]);
+    all.reduce_or()
 }
 
 /// How many pairs of digits a piece of a word has. The last piece has fewer than twice as many.
 const PIECE: usize = 1024;
 
-/// Decodes pairs of digits by pieces, up to the first piece with an octet that is no digit. Returns whether each octet
-/// is a digit. A bad one is found at the end of its piece, which has fewer than 2,048 pairs.
-fn decode_pieces(word: &[u8], room: &mut [u8]) -> bool
-    requires { length word.now ≡ 2 * length room.old }
-    ensures { ArePairs word.now room.new (length room.old) (result ≡ true) }
-{
-    let mut start = 0;
-    'pieces: while room.len() - start >= 2 * PIECE {
-        let end = start + PIECE;
-        if decode_pairs(&word[2 * start..2 * end], &mut room[start..end]) >= 16 {
-            return false;
-        }
-        start = end;
-    }
-    decode_pairs(&word[2 * start..], &mut room[start..]) < 16
-}
-
-/// Decodes a word into room for as many octets as it has pairs of digits. A bad digit is found at the end of its piece,
-/// which has fewer than 2,048 pairs. Nothing is decoded after that piece.
+/// Decodes a word into room for as many octets as it has pairs of digits, by pieces. A bad digit is found at the end of
+/// its piece, which has fewer than 2,048 pairs. Nothing is decoded after that piece.
 pub(crate) fn decode_into(word: &[u8], room: &mut [u8]) -> Result<(), LineFault>
     requires { length room.old ≡ length word.now / 2 }
     ensures octets { OnOk result (room.new ≡ octets_or_none (decode_of word.now)) }
@@ -151,7 +116,15 @@ pub(crate) fn decode_into(word: &[u8], room: &mut [u8]) -> Result<(), LineFault>
     if word.len() % 2 != 0 {
         return Err(LineFault::Bad);
     }
-    if decode_pieces(word, room) {
+    let mut start = 0;
+    'pieces: while room.len() - start >= 2 * PIECE {
+        let end = start + PIECE;
+        if decode_pairs(&word[2 * start..2 * end], &mut room[start..end]) >= 16 {
+            return Err(LineFault::Bad);
+        }
+        start = end;
+    }
+    if decode_pairs(&word[2 * start..], &mut room[start..]) < 16 {
         Ok(())
     } else {
         Err(LineFault::Bad)

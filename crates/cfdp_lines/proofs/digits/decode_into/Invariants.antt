@@ -1,6 +1,6 @@
 use Rattle.std.proofs.Common.{◌≡◌, ◌≤◌, ◌-◌, true, length}
 use Rattle.cfdp_lines.specs.code.Digits.{ArePairs}
-use Rattle.cfdp_lines.proofs.digits.decode_pieces.Given as goal
+use Rattle.cfdp_lines.proofs.digits.decode_into.Given as goal
 
 -- all pairs so far are of digits
 abbrev pub invariant-pieces : goal.invariant-pieces

@@ -1,2 +1,0 @@
--- What only the proofs of the code need: no clause of a public function cites it.
-pub mod Stages
