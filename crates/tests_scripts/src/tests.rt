@@ -17,10 +17,10 @@ trait Row {
     fn holds<R: Abort + Print>(&self, rt: &R, alloc: Global) -> bool;
 }
 
-/// Each row holds. Of one that does not its number in the table is reported, from 0.
-fn all_hold<R: Abort + Print, T: Row>(rt: &R, alloc: Global, rows: &[T]) {
-    for (number, row) in rows.iter().enumerate() {
-        assert!(rt; row.holds(rt, alloc), "row {number}");
+/// Each row holds. Of one that does not the name is reported.
+fn all_hold<R: Abort + Print, T: Row>(rt: &R, alloc: Global, rows: &[(&str, T)]) {
+    for (name, row) in rows {
+        assert!(rt; row.holds(rt, alloc), "{name}");
     }
 }
 

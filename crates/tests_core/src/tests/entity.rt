@@ -75,6 +75,28 @@ pub enum Row {
     Over(Option<u8>),
 }
 
+/// Rows under a name.
+pub type Case = (&'static str, &'static [Row]);
+
+impl Row {
+    /// What it is about.
+    fn about(self) -> &'static str {
+        match self {
+            Row::On(..) => "the reply",
+            Row::Store(..) => "the free blocks",
+            Row::Standing(_) => "what exists",
+            Row::Gaps(..) => "the gaps",
+            Row::Spent(..) => "what was spent",
+            Row::Phase(..) => "the phase",
+            Row::Runnable(_) => "the first that is performed",
+            Row::Reached(..) => "how far the file has come",
+            Row::Metadata(..) => "the Metadata",
+            Row::Order(_) => "the order of admission",
+            Row::Over(_) => "the first outcome",
+        }
+    }
+}
+
 /// The transaction of entity 1 with this number.
 pub fn id(number: u8) -> TransactionId {
     TransactionId {
@@ -111,7 +133,7 @@ impl Given {
 /// The status of an octet that is in a response.
 fn status_of(rt: &impl Abort, octet: u8) -> Status {
     let status = Status::of_octet(octet);
-    assert!(rt; status.is_some());
+    assert!(rt; status.is_some(), "no status has the octet {octet}");
     status.unwrap_or(Status::NotAllowed(Action::CreateFile))
 }
 
@@ -173,7 +195,7 @@ fn apply<S: Filestore>(rt: &impl Abort, core: &mut Core<S>, event: &Event, twice
         return core.apply(event);
     }
     let (reply, again) = core.apply_both(event);
-    assert!(rt; reply.same(&again));
+    assert!(rt; reply.same(&again), "the reply that is given twice");
     reply
 }
 
@@ -220,7 +242,10 @@ fn hand_in<S: Filestore>(
             books(core, event.transaction()),
             core.store().listing(alloc)?,
         );
-        assert!(rt; before == after && may_want_memory(core, event));
+        assert!(rt;
+            before == after && may_want_memory(core, event),
+            "an event that was refused memory"
+        );
         return Ok(apply(rt, core, event, twice));
     }
     Ok(reply)
@@ -240,7 +265,7 @@ fn replies<S: Filestore>(
 }
 
 /// Whether what exists is what is expected, in path order.
-fn stands<S: Filestore>(
+fn is_listed<S: Filestore>(
     alloc: Global,
     core: &Core<S>,
     expected: &[Standing],
@@ -275,7 +300,7 @@ fn is_met<S: Filestore>(
 ) -> Result<bool, Memory> {
     match row {
         Row::On(given, told) => replies(rt, alloc, core, (given, told), twice),
-        Row::Standing(expected) => stands(alloc, core, expected),
+        Row::Standing(expected) => is_listed(alloc, core, expected),
         Row::Store(free, spare) => Ok(core.store().free() == free && core.spare() == spare),
         Row::Gaps(number, expected) => match core.gaps(id(number)) {
             None => Ok(expected.is_empty()),
@@ -302,42 +327,43 @@ fn is_met<S: Filestore>(
     }
 }
 
-/// Hands rows to an entity.
+/// Hands the rows of a case to an entity. Of one that does not hold the case, its number and what it is about are
+/// reported.
 fn meet<S: Filestore>(
     rt: &impl Abort,
     alloc: Global,
     core: &mut Core<S>,
-    rows: &[Row],
+    (name, rows): Case,
     twice: bool,
 ) -> Result<(), Memory> {
-    for (place, row) in rows.iter().enumerate() {
+    for (index, row) in rows.iter().enumerate() {
         let met = is_met(rt, alloc, core, *row, twice)?;
-        assert!(rt; met, "at row {place}");
+        assert!(rt; met, "{name}: row {index}, {}", row.about());
     }
     Ok(())
 }
 
-/// Hands rows to an entity that has just begun, over an empty store.
+/// Hands the rows of a case to an entity that has just begun, over an empty store.
 fn run<S: Filestore>(
     rt: &impl Abort,
     alloc: Global,
-    rows: &[Row],
+    case: Case,
     twice: bool,
     store: S,
 ) -> Result<(), Memory>
     requires { S.state store ≡ empty_store 64 (S.state store).takes_no_memory }
 {
     let mut core = entity_over(alloc, store)?;
-    meet(rt, alloc, &mut core, rows, twice)
+    meet(rt, alloc, &mut core, case, twice)
 }
 
 /// Hands the rows of each case to entities that have just begun, over a store of each kind. Each reply is given once,
 /// and by other entities twice.
-pub fn check_all(rt: &impl Abort, alloc: Global, cases: &[&[Row]]) -> Result<(), Memory> {
+pub fn check_all(rt: &impl Abort, alloc: Global, cases: &[Case]) -> Result<(), Memory> {
     for case in cases {
         for twice in [false, true] {
-            run(rt, alloc, case, twice, ListStore::new(alloc, 64)?)?;
-            run(rt, alloc, case, twice, TreeStore::new(alloc, 64)?)?;
+            run(rt, alloc, *case, twice, ListStore::new(alloc, 64)?)?;
+            run(rt, alloc, *case, twice, TreeStore::new(alloc, 64)?)?;
         }
     }
     Ok(())

@@ -5,6 +5,7 @@ use super::entity::octets_of;
 use cfdp_actions::{Filestore, Protected};
 use cfdp_entity::Entity;
 use cfdp_paths::Memory;
+use cfdp_pdus::condition;
 use cfdp_status::TransactionId;
 use cfdp_transactions::{Config, Phase, ShortBuffer, TakenFinished};
 use std::alloc::{AllocError, Global};
@@ -30,7 +31,7 @@ static CASES: [Case; 3] = [
         pdus: ["24000d0001050207400000000000000003000161", EOF],
         steps: 1,
         is_cancelled: false,
-        condition: 0,
+        condition: condition::NO_ERROR,
         finished: "2c0008000105020503010400016100",
     },
     Case {
@@ -38,7 +39,7 @@ static CASES: [Case; 3] = [
         pdus: ["24001200010502074000000000000000030001610003000162", EOF],
         steps: 1,
         is_cancelled: true,
-        condition: 15,
+        condition: condition::CANCEL_REQUEST_RECEIVED,
         finished: "2c00110001050205f301040001610001040f016200060102",
     },
     Case {
@@ -46,7 +47,7 @@ static CASES: [Case; 3] = [
         pdus: ["240008000105020700000000000000", EOF],
         steps: 0,
         is_cancelled: false,
-        condition: 0,
+        condition: condition::NO_ERROR,
         finished: "",
     },
 ];

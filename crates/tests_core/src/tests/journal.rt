@@ -128,7 +128,10 @@ fn accept(
     let event = Arc::new(alloc, given.event(alloc)?)?;
     let reply = engine.accept(0, event);
     if matches!(reply, Reply::Memory | Reply::JournalFull) {
-        assert!(rt; seen(alloc, engine)? == before);
+        assert!(rt;
+            seen(alloc, engine)? == before,
+            "an event that was refused memory or room in the journal"
+        );
     }
     Ok(reply)
 }
@@ -152,7 +155,7 @@ fn replies(
 fn fill(rt: &impl Abort, alloc: Global, engine: &mut Engine, count: usize) -> Result<(), Memory> {
     for text in FILLERS.iter().take(count) {
         let told = replies(rt, alloc, engine, Given::Pdu(*text), Told::Admitted(0, 0))?;
-        assert!(rt; told);
+        assert!(rt; told, "{text}");
     }
     Ok(())
 }
@@ -175,12 +178,16 @@ fn go_on(rt: &impl Abort, alloc: Global, engine: &mut Engine, count: usize) -> R
 }
 
 #[test]
-fn fills_behind_any_number_of_entries(rt: HostRuntime) -> Result<(), Memory> {
+fn fills_after_any_number_of_entries(rt: HostRuntime) -> Result<(), Memory> {
     for count in 0..=16usize {
         let mut engine = engine(rt.alloc(), 16)?;
         fill(&rt, rt.alloc(), &mut engine, count)?;
         go_on(&rt, rt.alloc(), &mut engine, count)?;
-        assert!(&rt; engine.journal().len() == 16);
+        assert!(&rt;
+            engine.journal().len() == 16,
+            "{} entries, of which {count} are fillers",
+            engine.journal().len()
+        );
     }
     Ok(())
 }

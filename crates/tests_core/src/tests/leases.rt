@@ -63,10 +63,16 @@ fn grant_one(
 ) {
     let before = answers(leases, probes);
     if hold(rt, leases, id(number), footprint).is_err() {
-        assert!(rt; answers(leases, probes) == before);
-        assert!(rt; hold(rt, leases, id(number), again).is_ok());
+        assert!(rt;
+            answers(leases, probes) == before,
+            "{number}: refused memory"
+        );
+        assert!(rt;
+            hold(rt, leases, id(number), again).is_ok(),
+            "{number}: asked for again"
+        );
     }
-    assert!(rt; leases.holds(id(number)));
+    assert!(rt; leases.holds(id(number)), "{number}: granted");
 }
 
 /// Five grants one after another. All else that takes memory comes before them, so that only a grant can be refused
@@ -85,8 +91,14 @@ fn a_refused_grant_changes_nothing(rt: HostRuntime) -> Result<(), Memory> {
     for (number, (footprint, again)) in (1..=5u64).zip(wanted) {
         grant_one(&rt, &mut leases, number, footprint, again, &probes);
     }
-    assert!(rt; leases.conflict(&probes[0]) == Some(id(1)));
-    assert!(rt; leases.conflict(&probes[1]) == Some(id(5)));
+    assert!(rt;
+        leases.conflict(&probes[0]) == Some(id(1)),
+        "the removal of d"
+    );
+    assert!(rt;
+        leases.conflict(&probes[1]) == Some(id(5)),
+        "the removal of d/e"
+    );
     Ok(())
 }
 
@@ -112,7 +124,13 @@ fn wide_footprint(alloc: Global) -> Result<Footprint, Memory> {
 #[test]
 fn each_path_is_there_once(rt: HostRuntime) -> Result<(), Memory> {
     let footprint = wide_footprint(rt.alloc())?;
-    assert!(rt; footprint.exclusive().len() == 64 && footprint.shared().len() == 7);
-    assert!(rt; in_order(footprint.exclusive()) && in_order(footprint.shared()));
+    assert!(rt;
+        footprint.exclusive().len() == 64 && footprint.shared().len() == 7,
+        "how many paths"
+    );
+    assert!(rt;
+        in_order(footprint.exclusive()) && in_order(footprint.shared()),
+        "their order"
+    );
     Ok(())
 }

@@ -55,7 +55,12 @@ fn move_often(rt: &impl Abort, alloc: Global, scene: &Scene) -> Result<(), Memor
         let holds = apply(&mut view, &requests)?;
         assert!(rt; holds, "move {number}");
     }
-    assert!(rt; view.need() == 0 && view.steps() == 128);
+    assert!(rt;
+        view.need() == 0 && view.steps() == 128,
+        "need {}, steps {}",
+        view.need(),
+        view.steps()
+    );
     Ok(())
 }
 

@@ -139,6 +139,7 @@ static BEFORE: [Before; 4] = [
 
 /// What is exclusive is in the tree, and no more than kind and size is asked of what is shared.
 static IN_TREE: Row = (
+    "in the tree",
     None,
     &[
         (Action::AppendFile, b"d/log", b"src", 0x30),
@@ -175,7 +176,10 @@ fn look_at(
 ) -> Result<(), Memory> {
     run(rt, alloc, store, protected, &IN_TREE)?;
     let hidden = is_hidden(alloc, store, protected)?;
-    assert!(rt; hidden && has_no_listing(alloc, store));
+    assert!(rt;
+        hidden && has_no_listing(alloc, store),
+        "what is outside of the tree"
+    );
     Ok(())
 }
 

@@ -6,6 +6,7 @@ ghost use Rattle.std.specs.Prelude.{◌≡◌};
 use super::scene::read;
 use cfdp_actions::Protected;
 use cfdp_paths::Memory;
+use cfdp_pdus::checksum_type::MODULAR_CHECKSUM;
 use cfdp_pdus::{Header, Metadata};
 use cfdp_transactions::{Config, Core, Event, Reply};
 use cfdp_tree::TreeStore;
@@ -44,7 +45,7 @@ fn event(alloc: Global) -> Result<Event, Memory> {
     };
     let metadata = Metadata {
         closure: false,
-        checksum_type: 0,
+        checksum_type: MODULAR_CHECKSUM,
         size: 0,
         source_name: Vec::new(alloc),
         destination_name: Vec::new(alloc),
@@ -71,7 +72,7 @@ fn is_refused(reply: &Reply) -> bool {
 fn lent(rt: HostRuntime) -> Result<(), Memory> {
     let mut core = core(rt.alloc())?;
     let event = event(rt.alloc())?;
-    assert!(rt; is_refused(&core.apply(&event)));
+    assert!(rt; is_refused(&core.apply(&event)), "a list that is lent");
     Ok(())
 }
 
@@ -79,6 +80,9 @@ fn lent(rt: HostRuntime) -> Result<(), Memory> {
 fn given(rt: HostRuntime) -> Result<(), Memory> {
     let mut core = core(rt.alloc())?;
     let event = event(rt.alloc())?;
-    assert!(rt; is_refused(&core.apply_owned(event)));
+    assert!(rt;
+        is_refused(&core.apply_owned(event)),
+        "a list that is given"
+    );
     Ok(())
 }

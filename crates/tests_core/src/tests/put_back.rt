@@ -13,8 +13,8 @@ use std::alloc::{AllocError, Global};
 /// A path, and a directory, or a file of this many equal octets.
 type Put = (&'static [u8], Option<(usize, u8)>);
 
-/// What is put, and why it is not.
-type Row = (Put, Option<NotPut>);
+/// A name, what is put, and why it is not.
+type Row = (&'static str, Put, Option<NotPut>);
 
 const FILES: &[Put] = &[
     (b"app", None),
@@ -27,15 +27,43 @@ const FILES: &[Put] = &[
 
 /// In a filestore of 16 blocks: `app/prog` takes 5 of them, so that a file of 1,080 octets takes all that are left.
 const REASONS: &[Row] = &[
-    ((b"app/prog", Some((1, 1))), Some(NotPut::NoParent)),
-    ((b"app", None), None),
-    ((b"app", None), Some(NotPut::Exists)),
-    ((b"app", Some((0, 0))), Some(NotPut::Exists)),
-    ((b"app/prog", Some((400, 7))), None),
-    ((b"app/prog/x", None), Some(NotPut::NoParent)),
-    ((b"large", Some((1081, 0))), Some(NotPut::NoRoom)),
-    ((b"large", Some((1080, 0))), None),
-    ((b"more", None), Some(NotPut::NoRoom)),
+    (
+        "a file in no directory",
+        (b"app/prog", Some((1, 1))),
+        Some(NotPut::NoParent),
+    ),
+    ("a directory", (b"app", None), None),
+    ("the directory again", (b"app", None), Some(NotPut::Exists)),
+    (
+        "a file in place of the directory",
+        (b"app", Some((0, 0))),
+        Some(NotPut::Exists),
+    ),
+    (
+        "a file in the directory",
+        (b"app/prog", Some((400, 7))),
+        None,
+    ),
+    (
+        "a directory in the file",
+        (b"app/prog/x", None),
+        Some(NotPut::NoParent),
+    ),
+    (
+        "a file that is too large",
+        (b"large", Some((1081, 0))),
+        Some(NotPut::NoRoom),
+    ),
+    (
+        "a file that takes all that is left",
+        (b"large", Some((1080, 0))),
+        None,
+    ),
+    (
+        "a directory, where no block is left",
+        (b"more", None),
+        Some(NotPut::NoRoom),
+    ),
 ];
 
 /// An entity with a filestore of 16 blocks. The limits are good: only memory can be refused.
@@ -79,10 +107,14 @@ const METADATA: &str = "24001b00010102074000000000000000055003617070000a00086170
 fn each_reason(rt: HostRuntime) -> Result<(), Memory> {
     let alloc = rt.alloc();
     let mut entity = new_entity(alloc)?;
-    for (number, (what, why)) in REASONS.iter().enumerate() {
-        assert!(&rt; put(alloc, &mut entity, *what)? == *why, "row {number}");
+    for (name, what, why) in REASONS {
+        assert!(&rt; put(alloc, &mut entity, *what)? == *why, "{name}");
     }
-    assert!(&rt; entity.core().spare() == 0);
+    assert!(&rt;
+        entity.core().spare() == 0,
+        "{} blocks to spare",
+        entity.core().spare()
+    );
     Ok(())
 }
 
@@ -95,12 +127,21 @@ fn beside_transactions(rt: HostRuntime) -> Result<(), Memory> {
         number: 1,
     };
     let octets = octets_of(alloc, METADATA)?;
-    assert!(&rt; entity.receive(alloc, &octets).is_ok());
-    assert!(&rt; put(alloc, &mut entity, FILES[0])? == Some(NotPut::HasTransactions));
+    assert!(&rt; entity.receive(alloc, &octets).is_ok(), "the Metadata PDU");
+    assert!(&rt;
+        put(alloc, &mut entity, FILES[0])? == Some(NotPut::HasTransactions),
+        "while it is live"
+    );
     entity.cancel(id);
-    assert!(&rt; put(alloc, &mut entity, FILES[0])? == Some(NotPut::HasTransactions));
-    assert!(&rt; entity.take(alloc, id, &mut [0; 64]).is_ok());
-    assert!(&rt; put(alloc, &mut entity, FILES[0])?.is_none());
+    assert!(&rt;
+        put(alloc, &mut entity, FILES[0])? == Some(NotPut::HasTransactions),
+        "once it is cancelled"
+    );
+    assert!(&rt; entity.take(alloc, id, &mut [0; 64]).is_ok(), "its outcome");
+    assert!(&rt;
+        put(alloc, &mut entity, FILES[0])?.is_none(),
+        "once its outcome is taken"
+    );
     Ok(())
 }
 
@@ -117,8 +158,8 @@ fn put_in(core: &mut Core<ListStore>, path: &Path, octets: &Option<Vec<u8>>) -> 
 fn memory(rt: HostRuntime) -> Result<(), Memory> {
     let alloc = rt.alloc();
     let mut core = new_core(alloc)?;
-    for (path, file) in FILES {
-        let path = path_of(alloc, path)?;
+    for (name, file) in FILES {
+        let path = path_of(alloc, name)?;
         let octets = match *file {
             None => None,
             Some((count, octet)) => Some(equal(alloc, count, octet)?),
@@ -126,10 +167,14 @@ fn memory(rt: HostRuntime) -> Result<(), Memory> {
         let before = (core.store().listing(alloc)?, core.spare());
         let mut done = put_in(&mut core, &path, &octets);
         if done == Err(NotPut::Memory) {
-            assert!(&rt; before == (core.store().listing(alloc)?, core.spare()));
+            assert!(&rt;
+                before == (core.store().listing(alloc)?, core.spare()),
+                "refused memory: {}",
+                name.escape_ascii()
+            );
             done = put_in(&mut core, &path, &octets);
         }
-        assert!(&rt; done.is_ok());
+        assert!(&rt; done.is_ok(), "{}", name.escape_ascii());
     }
     Ok(())
 }

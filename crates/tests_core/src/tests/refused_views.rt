@@ -48,7 +48,10 @@ fn install(rt: &impl Abort, view: &mut View<'_>, paths: &[Path; 3]) -> Result<bo
     match view.install(&paths[0], 120) {
         Ok(installed) => Ok(installed),
         Err(_) => {
-            assert!(rt; answers(view, paths) == before);
+            assert!(rt;
+                answers(view, paths) == before,
+                "an install that was refused memory"
+            );
             view.install(&paths[0], 120)
         }
     }
@@ -65,7 +68,10 @@ fn apply(
     match view.apply(request) {
         Ok(told) => Ok(told),
         Err(_) => {
-            assert!(rt; answers(view, paths) == before);
+            assert!(rt;
+                answers(view, paths) == before,
+                "a request that was refused memory"
+            );
             view.apply(request)
         }
     }
@@ -81,13 +87,17 @@ fn asked(alloc: Global) -> Result<[Path; 3], Memory> {
 
 /// Installs `x` and applies the requests.
 fn try_items(rt: &impl Abort, view: &mut View<'_>, paths: &[Path; 3], requests: &[Request]) {
-    assert!(rt; answers(view, paths) == AT_FIRST);
-    assert!(rt; install(rt, view, paths) == Ok(true));
-    for (place, (request, (_, _, _, status))) in requests.iter().zip(&ITEMS).enumerate() {
+    assert!(rt; answers(view, paths) == AT_FIRST, "before the install");
+    assert!(rt; install(rt, view, paths) == Ok(true), "the install");
+    for (index, (request, (_, first, _, status))) in requests.iter().zip(&ITEMS).enumerate() {
         let told = apply(rt, view, paths, request);
-        assert!(rt; told.map(Status::octet) == Ok(*status), "request {place}");
+        assert!(rt;
+            told.map(Status::octet) == Ok(*status),
+            "request {index}, on {}",
+            first.escape_ascii()
+        );
     }
-    assert!(rt; answers(view, paths) == AT_LAST);
+    assert!(rt; answers(view, paths) == AT_LAST, "after the requests");
 }
 
 /// Tries them on a view of the store.

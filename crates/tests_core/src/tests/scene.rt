@@ -139,7 +139,11 @@ pub fn hold(
     transaction: TransactionId,
     footprint: Footprint,
 ) -> Result<(), Memory> {
-    assert!(rt; leases.conflict(&footprint).is_none() && !leases.holds(transaction));
+    assert!(rt;
+        leases.conflict(&footprint).is_none() && !leases.holds(transaction),
+        "transaction {}",
+        transaction.number
+    );
     leases.grant(transaction, footprint)
 }
 
@@ -150,7 +154,7 @@ impl Scene {
         blocks: u32,
         before: &[Before],
     ) -> Result<Scene, Memory> {
-        assert!(rt; 1 <= blocks && blocks <= 65_536);
+        assert!(rt; 1 <= blocks && blocks <= 65_536, "{blocks} blocks");
         let mut scene = Scene {
             blocks,
             store: ListStore::new(alloc, blocks)?,
@@ -175,7 +179,7 @@ impl Scene {
 
     fn protect(&mut self, rt: &impl Abort, alloc: Global, name: &[u8]) -> Result<(), Memory> {
         let is_added = protects(alloc, &mut self.protected, name)?;
-        assert!(rt; is_added);
+        assert!(rt; is_added, "protected: {}", name.escape_ascii());
         Ok(())
     }
 
@@ -187,10 +191,10 @@ impl Scene {
         name: &[u8],
         size: u64,
     ) -> Result<(), Memory> {
-        assert!(rt; size <= 7_864_320);
+        assert!(rt; size <= 7_864_320, "{size} octets");
         let path = path_of(alloc, name)?;
         let is_delivered = deliver(&mut self.store, &path, size)?;
-        assert!(rt; is_delivered);
+        assert!(rt; is_delivered, "delivered: {}", name.escape_ascii());
         Ok(())
     }
 
@@ -198,7 +202,11 @@ impl Scene {
     fn perform(&mut self, rt: &impl Abort, alloc: Global, tlv: &[u8]) -> Result<(), Memory> {
         let request = parse(alloc, tlv)?;
         let done = perform(&mut self.store, &self.protected, &request)?;
-        assert!(rt; done.status.is_successful());
+        assert!(rt;
+            done.status.is_successful(),
+            "status {}",
+            done.status.octet()
+        );
         Ok(())
     }
 
@@ -220,9 +228,18 @@ impl Scene {
     /// The blocks of the store, and what live transactions have reserved of the free ones.
     pub fn quota(&self, rt: &impl Abort) -> Quota {
         let free = self.store.free();
-        assert!(rt; free <= self.blocks);
+        assert!(rt;
+            free <= self.blocks,
+            "{free} of {} blocks are free",
+            self.blocks
+        );
         let mut quota = Quota::with_free(self.blocks, free);
-        assert!(rt; self.reserved <= quota.spare() && !quota.is_open(0));
+        assert!(rt;
+            self.reserved <= quota.spare() && !quota.is_open(0),
+            "{} of {} blocks are reserved",
+            self.reserved,
+            quota.spare()
+        );
         quota.reserve(0, self.reserved);
         quota
     }

@@ -277,7 +277,10 @@ fn compare(rt: &impl Abort, alloc: Global, scene: &Scene, list: &List) -> Result
     };
     let went = apply(rt, &mut open, &mut sparse, list)?;
     let sparse = sparse.into_view();
-    assert!(rt; went == Went::Untold || is_same(&open, &sparse));
+    assert!(rt;
+        went == Went::Untold || is_same(&open, &sparse),
+        "the need and the steps of both"
+    );
     let is_whole = went == Went::Whole || went == Went::Moved;
     if is_whole && names_inside(scene, &leased, list) {
         return Ok(Went::Inside);
@@ -310,8 +313,18 @@ fn random_lists_go_alike_on_both_views(rt: HostRuntime) -> Result<(), Memory> {
     for seed in 0..600u64 {
         counts.add(compare_one(&rt, rt.alloc(), seed)?);
     }
-    assert!(rt; counts.whole > 300 && counts.moved > 80);
-    assert!(rt; counts.refused > 50 && counts.inside > 50);
-    assert!(rt; counts.untold == 0);
+    assert!(rt;
+        counts.whole > 300 && counts.moved > 80,
+        "{} whole, {} moved",
+        counts.whole,
+        counts.moved
+    );
+    assert!(rt;
+        counts.refused > 50 && counts.inside > 50,
+        "{} refused, {} inside",
+        counts.refused,
+        counts.inside
+    );
+    assert!(rt; counts.untold == 0, "{} untold", counts.untold);
     Ok(())
 }

@@ -4,7 +4,7 @@
 //! Over a store that takes no memory each File Data, EOF, step, cancel and check has its reply, whichever allocation is
 //! refused (`rt try --test --fail-alloc 1..` refuses each in turn); only Metadata and Take are handed in again.
 
-use super::entity::{Given, Row, Told, check_all};
+use super::entity::{Case, Given, Row, Told, check_all};
 use cfdp_paths::Memory;
 use cfdp_transactions::Phase;
 
@@ -142,12 +142,12 @@ const AS_THEY_COME: &[Row] = &[
     Row::Over(Some(12)),
 ];
 
-static CASES: [&[Row]; 5] = [
-    A_FILE_IN_TWO_PIECES,
-    CHECKS_UP_TO_THE_LIMIT,
-    A_FILE_APPENDED_TO_ITSELF,
-    A_CANCELLED_LIST,
-    AS_THEY_COME,
+static CASES: [Case; 5] = [
+    ("a file in two pieces", A_FILE_IN_TWO_PIECES),
+    ("checks up to the limit", CHECKS_UP_TO_THE_LIMIT),
+    ("a file appended to itself", A_FILE_APPENDED_TO_ITSELF),
+    ("a cancelled list", A_CANCELLED_LIST),
+    ("as they come", AS_THEY_COME),
 ];
 
 #[test]

@@ -149,12 +149,12 @@ fn seen(rt: &impl Abort, alloc: Global, scene: &Scene) -> Result<Seen, Memory> {
 
 /// What is said of a list. Where memory is refused instead, all is as before, and the next answer is the verdict.
 fn judge(rt: &impl Abort, alloc: Global, scene: &Scene, row: &Row) -> Result<String, Memory> {
-    let (file, tlvs, _) = *row;
+    let (file, tlvs, said) = *row;
     let before = seen(rt, alloc, scene)?;
     match scene.judge(rt, alloc, file, tlvs) {
         Ok(told) => Ok(told),
         Err(_) => {
-            assert!(rt; seen(rt, alloc, scene)? == before);
+            assert!(rt; seen(rt, alloc, scene)? == before, "refused memory: {said}");
             scene.judge(rt, alloc, file, tlvs)
         }
     }

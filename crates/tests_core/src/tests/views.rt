@@ -13,8 +13,14 @@ use std::process::Abort;
 /// A request by its action and names, the second one empty where there is none, and the octet of its status.
 pub type Item = (Action, &'static [u8], &'static [u8], u8);
 
-/// The destination and the bound of a file, where there is one; the requests; the need and the steps.
-pub type Row = (Option<(&'static [u8], u64)>, &'static [Item], u32, u32);
+/// A name; the destination and the bound of a file, where there is one; the requests; the need and the steps.
+pub type Row = (
+    &'static str,
+    Option<(&'static [u8], u64)>,
+    &'static [Item],
+    u32,
+    u32,
+);
 
 /// What happens before, and the rows.
 type Case = (&'static [Before], &'static [Row]);
@@ -32,12 +38,13 @@ pub fn requests(alloc: Global, items: &[Item]) -> Result<Vec<Request>, Memory> {
 fn apply(
     rt: &impl Abort,
     view: &mut View<'_>,
+    name: &str,
     requests: &[Request],
     items: &[Item],
 ) -> Result<(), Memory> {
-    for (place, (request, (_, _, _, status))) in requests.iter().zip(items).enumerate() {
+    for (index, (request, (_, _, _, status))) in requests.iter().zip(items).enumerate() {
         let told = view.apply(request)?;
-        assert!(rt; told.octet() == *status, "request {place}");
+        assert!(rt; told.octet() == *status, "{name}: request {index}");
     }
     Ok(())
 }
@@ -90,15 +97,20 @@ pub fn run<S: Filestore>(
     protected: &Protected,
     row: &Row,
 ) -> Result<(), Memory> {
-    let (file, items, need, steps) = *row;
+    let (name, file, items, need, steps) = *row;
     let requests = requests(alloc, items)?;
     let mut view = begun(alloc, store, protected, &requests, file)?;
     match &mut view {
         Some(view) => {
-            apply(rt, view, &requests, items)?;
-            assert!(rt; has_taken(view, need, steps));
+            apply(rt, view, name, &requests, items)?;
+            assert!(rt;
+                has_taken(view, need, steps),
+                "{name}: need {}, steps {}",
+                view.need(),
+                view.steps()
+            );
         }
-        None => assert!(rt; false, "the file may not be installed"),
+        None => assert!(rt; false, "{name}: the file may not be installed"),
     }
     Ok(())
 }
@@ -112,9 +124,14 @@ const GONE: &[Item] = &[
 const DOUBLED: &[Item] = &[(Action::AppendFile, b"a", b"a", 0x30)];
 
 const FAILED_AND_GREATEST: &[Row] = &[
-    (None, GONE, 1, 5),
-    // Sizes and counts stop at the greatest numbers.
-    (Some((b"a", u64::MAX)), DOUBLED, u32::MAX, u32::MAX),
+    ("a name that a rename took away", None, GONE, 1, 5),
+    (
+        "sizes and counts stop at the greatest numbers",
+        Some((b"a", u64::MAX)),
+        DOUBLED,
+        u32::MAX,
+        u32::MAX,
+    ),
 ];
 
 /// A file below a protected directory.
@@ -131,7 +148,10 @@ const KEPT: &[Item] = &[
     (Action::RenameFile, b"sys", b"s", 0x23),
 ];
 
-const WHAT_IS_PROTECTED_STAYS: &[Row] = &[(None, KEPT, 0, 4), (Some((b"sys/b", 15)), KEPT, 2, 6)];
+const WHAT_IS_PROTECTED_STAYS: &[Row] = &[
+    ("a list alone", None, KEPT, 0, 4),
+    ("beside a file", Some((b"sys/b", 15)), KEPT, 2, 6),
+];
 
 static CASES: [Case; 2] = [
     (&[], FAILED_AND_GREATEST),
@@ -219,7 +239,7 @@ fn a_view_sees_what_is_leased_alone(rt: HostRuntime) -> Result<(), Memory> {
     let scene = Scene::new(&rt, rt.alloc(), 64, &DIRECTORY)?;
     for (item, file, directory) in &BOUNDS {
         let told = bounds(rt.alloc(), &scene, *item)?;
-        assert!(&rt; told == (*file, *directory));
+        assert!(&rt; told == (*file, *directory), "{}", item.1.escape_ascii());
     }
     Ok(())
 }

@@ -97,8 +97,8 @@ impl Row {
 
 #[test]
 fn the_check_value(rt: HostRuntime) {
-    assert!(rt; crc16(b"123456789") == 0x29b1);
-    assert!(rt; crc16(b"") == 0xffff);
+    assert!(rt; crc16(b"123456789") == 0x29b1, "nine digits");
+    assert!(rt; crc16(b"") == 0xffff, "no octets");
 }
 
 #[test]

@@ -9,7 +9,7 @@ ghost use Rattle.cfdp_pdus.specs.Canonical.{IsHeader};
 ghost use Rattle.cfdp_directives.specs.Spelling.{IsSizedRange};
 
 use cfdp_directives::*;
-use cfdp_pdus::{Header, PduFault, WriteFault, directive};
+use cfdp_pdus::{Header, PduFault, WriteFault, condition, directive};
 use std::alloc::{AllocError, Global};
 use std::process::Abort;
 
@@ -49,7 +49,7 @@ static ROWS: [Row; 19] = [
         number: 5,
         said: Said::Ack(Ack {
             directive: directive::FINISHED,
-            condition: 0,
+            condition: condition::NO_ERROR,
             status: TransactionStatus::Terminated,
         }),
     },
@@ -61,7 +61,7 @@ static ROWS: [Row; 19] = [
         number: 5,
         said: Said::Ack(Ack {
             directive: directive::FINISHED,
-            condition: 15,
+            condition: condition::CANCEL_REQUEST_RECEIVED,
             status: TransactionStatus::Active,
         }),
     },
@@ -73,7 +73,7 @@ static ROWS: [Row; 19] = [
         number: 5,
         said: Said::Ack(Ack {
             directive: directive::EOF,
-            condition: 0,
+            condition: condition::NO_ERROR,
             status: TransactionStatus::Active,
         }),
     },
@@ -85,7 +85,7 @@ static ROWS: [Row; 19] = [
         number: 5,
         said: Said::Ack(Ack {
             directive: directive::EOF,
-            condition: 0,
+            condition: condition::NO_ERROR,
             status: TransactionStatus::Terminated,
         }),
     },
@@ -97,7 +97,7 @@ static ROWS: [Row; 19] = [
         number: 5,
         said: Said::Ack(Ack {
             directive: directive::EOF,
-            condition: 15,
+            condition: condition::CANCEL_REQUEST_RECEIVED,
             status: TransactionStatus::Active,
         }),
     },
@@ -109,7 +109,7 @@ static ROWS: [Row; 19] = [
         number: 6,
         said: Said::Ack(Ack {
             directive: directive::EOF,
-            condition: 15,
+            condition: condition::CANCEL_REQUEST_RECEIVED,
             status: TransactionStatus::Unrecognized,
         }),
     },

@@ -2,7 +2,7 @@
 
 ghost use Rattle.std.specs.Prelude.{◌<◌};
 
-use cfdp_pdus::Header;
+use cfdp_pdus::{Header, condition};
 use cfdp_retransmission::Timer;
 use cfdp_sessions::{Closed, Ending, MOST_SESSIONS, Session, Sessions, Stage};
 use cfdp_status::TransactionId;
@@ -104,7 +104,7 @@ fn names_at_their_limits(rt: HostRuntime) -> Result<(), AllocError> {
             "{source}/{number}: after"
         );
     }
-    assert!(&rt; sessions.len() == 4);
+    assert!(&rt; sessions.len() == 4, "{} sessions", sessions.len());
     Ok(())
 }
 
@@ -168,7 +168,7 @@ fn change(
 }
 
 const ENDING: Ending = Ending {
-    condition: 15,
+    condition: condition::CANCEL_REQUEST_RECEIVED,
     is_sent: true,
     at_fault: 0,
 };

@@ -25,41 +25,68 @@ fn is_end(alloc: Global, end: ProgramEnd, status: u8, line: &str) -> bool {
 /// An end, its status and its line.
 type End = (ProgramEnd, u8, &'static str);
 
-static ENDS: [End; 11] = [
-    (ProgramEnd::Fine, 0, ""),
-    (ProgramEnd::Usage, 2, "cfdpsim: usage"),
-    (ProgramEnd::Run(RunFault::Read), 1, "cfdpsim: read failed"),
-    (ProgramEnd::Run(RunFault::Write), 1, "cfdpsim: write failed"),
+static ENDS: [(&str, End); 11] = [
+    ("fine", (ProgramEnd::Fine, 0, "")),
+    ("usage", (ProgramEnd::Usage, 2, "cfdpsim: usage")),
     (
-        ProgramEnd::Run(RunFault::Memory),
-        1,
-        "cfdpsim: out of memory",
-    ),
-    (ProgramEnd::Run(RunFault::BadLine(7)), 3, "cfdpsim: line 7"),
-    (
-        ProgramEnd::Link(LinkFault::Write),
-        1,
-        "cfdpsim: write failed",
+        "a read failed",
+        (ProgramEnd::Run(RunFault::Read), 1, "cfdpsim: read failed"),
     ),
     (
-        ProgramEnd::Link(LinkFault::Memory),
-        1,
-        "cfdpsim: out of memory",
+        "a write failed",
+        (ProgramEnd::Run(RunFault::Write), 1, "cfdpsim: write failed"),
     ),
     (
-        ProgramEnd::Link(LinkFault::JournalFull),
-        1,
-        "cfdpsim: journal full",
+        "out of memory",
+        (
+            ProgramEnd::Run(RunFault::Memory),
+            1,
+            "cfdpsim: out of memory",
+        ),
     ),
     (
-        ProgramEnd::Link(LinkFault::ReceiptsDiffer),
-        1,
-        "cfdpsim: receipts differ",
+        "a bad line",
+        (ProgramEnd::Run(RunFault::BadLine(7)), 3, "cfdpsim: line 7"),
     ),
     (
-        ProgramEnd::Link(LinkFault::BadLine(1, 5)),
-        3,
-        "cfdpsim: line 5",
+        "a write of links failed",
+        (
+            ProgramEnd::Link(LinkFault::Write),
+            1,
+            "cfdpsim: write failed",
+        ),
+    ),
+    (
+        "links ran out of memory",
+        (
+            ProgramEnd::Link(LinkFault::Memory),
+            1,
+            "cfdpsim: out of memory",
+        ),
+    ),
+    (
+        "the journal of links is full",
+        (
+            ProgramEnd::Link(LinkFault::JournalFull),
+            1,
+            "cfdpsim: journal full",
+        ),
+    ),
+    (
+        "receipts of links differ",
+        (
+            ProgramEnd::Link(LinkFault::ReceiptsDiffer),
+            1,
+            "cfdpsim: receipts differ",
+        ),
+    ),
+    (
+        "a bad line of links",
+        (
+            ProgramEnd::Link(LinkFault::BadLine(1, 5)),
+            3,
+            "cfdpsim: line 5",
+        ),
     ),
 ];
 
@@ -110,25 +137,31 @@ struct Ending {
     line: &'static str,
 }
 
-static ENDINGS: [Ending; 2] = [
-    Ending {
-        kind: Kind::Plain,
-        script: CREATE,
-        report: CREATE_REPORT,
-        reads: SECOND_FAILS,
-        writes: SOUND,
-        status: 1,
-        line: "cfdpsim: read failed",
-    },
-    Ending {
-        kind: Kind::Plain,
-        script: CREATE,
-        report: CREATE_REPORT,
-        reads: SOUND,
-        writes: FIRST_FAILS,
-        status: 1,
-        line: "cfdpsim: write failed",
-    },
+static ENDINGS: [(&str, Ending); 2] = [
+    (
+        "the second read fails",
+        Ending {
+            kind: Kind::Plain,
+            script: CREATE,
+            report: CREATE_REPORT,
+            reads: SECOND_FAILS,
+            writes: SOUND,
+            status: 1,
+            line: "cfdpsim: read failed",
+        },
+    ),
+    (
+        "the first write fails",
+        Ending {
+            kind: Kind::Plain,
+            script: CREATE,
+            report: CREATE_REPORT,
+            reads: SOUND,
+            writes: FIRST_FAILS,
+            status: 1,
+            line: "cfdpsim: write failed",
+        },
+    ),
 ];
 
 /// What the program ends with where the run of a script comes to this.

@@ -21,17 +21,23 @@ struct Example {
     report: &'static str,
 }
 
-static EXAMPLES: [Example; 2] = [
-    Example {
-        kind: Kind::Plain,
-        script: SCRIPT,
-        report: REPORT,
-    },
-    Example {
-        kind: Kind::Replay,
-        script: REPLAY_SCRIPT,
-        report: REPLAY_REPORT,
-    },
+static EXAMPLES: [(&str, Example); 2] = [
+    (
+        "three lists of requests",
+        Example {
+            kind: Kind::Plain,
+            script: SCRIPT,
+            report: REPORT,
+        },
+    ),
+    (
+        "a cancelled list beside another",
+        Example {
+            kind: Kind::Replay,
+            script: REPLAY_SCRIPT,
+            report: REPLAY_REPORT,
+        },
+    ),
 ];
 
 /// How many lines of a script that begins with a request are requests.
@@ -73,11 +79,11 @@ fn ends_at_read(ran: &Ran<'_>, example: &Example, k: usize) -> bool {
 }
 
 /// The kth read fails, of one octet each: the lines that were read before are answered, and no other.
-fn fail_reads<R: Abort + Print>(rt: &R, alloc: Global, example: &Example) {
+fn fail_reads<R: Abort + Print>(rt: &R, alloc: Global, name: &str, example: &Example) {
     for k in 0..example.script.len() + 2 {
         let run = example.run(Stream::failing(1, k), Stream::sound(100));
         let ran = run.run(rt, alloc);
-        assert!(rt; ends_at_read(&ran, example, k), "the read {k}");
+        assert!(rt; ends_at_read(&ran, example, k), "{name}: the read {k}");
     }
 }
 
@@ -89,25 +95,25 @@ fn ends_at_write(ran: &Ran<'_>, example: &Example, k: usize) -> bool {
 }
 
 /// The kth write fails, of one octet each: the octets before it are a beginning of the report.
-fn fail_writes<R: Abort + Print>(rt: &R, alloc: Global, example: &Example) {
+fn fail_writes<R: Abort + Print>(rt: &R, alloc: Global, name: &str, example: &Example) {
     for k in 0..example.report.len() + 1 {
         let run = example.run(Stream::sound(100), Stream::failing(1, k));
         let ran = run.run(rt, alloc);
-        assert!(rt; ends_at_write(&ran, example, k), "the write {k}");
+        assert!(rt; ends_at_write(&ran, example, k), "{name}: the write {k}");
     }
 }
 
 #[test]
 fn reads(rt: HostRuntime) {
-    for example in &EXAMPLES {
-        fail_reads(&rt, rt.alloc(), example);
+    for (name, example) in &EXAMPLES {
+        fail_reads(&rt, rt.alloc(), name, example);
     }
 }
 
 #[test]
 fn writes(rt: HostRuntime) {
-    for example in &EXAMPLES {
-        fail_writes(&rt, rt.alloc(), example);
+    for (name, example) in &EXAMPLES {
+        fail_writes(&rt, rt.alloc(), name, example);
     }
 }
 
@@ -120,53 +126,65 @@ impl Row for Example {
 }
 
 /// Further scripts: a file that is created, two spellings of one path, a file in two pieces, a list that is cancelled.
-static REFUSED: [Example; 4] = [
-    Example {
-        kind: Kind::Replay,
-        script: "\
+static REFUSED: [(&str, Example); 4] = [
+    (
+        "a file that is created",
+        Example {
+            kind: Kind::Replay,
+            script: "\
             pdu 24000D00010502 07 40 00000000 00 00 00 03 00 01 61\n\
             pdu 24000A00010502 04 00 00000000 00000000\n\
             step 1 5\ntake 1 5\n",
-        report: "\
+            report: "\
             1/5 admitted blocks 1 steps 2\n1/5 complete\n1/5 performed 00\n\
             1/5 finished 2c0008000105020503010400016100\n",
-    },
-    Example {
-        kind: Kind::Replay,
-        script: "\
+        },
+    ),
+    (
+        "two spellings of one path",
+        Example {
+            kind: Kind::Replay,
+            script: "\
             pdu 24001300010802 0740 00000000 0000 000400022f61 0003100161\n\
             pdu 24000a00010802 0400 00000000 00000000\n\
             step 1 8\nstep 1 8\ntake 1 8\n",
-        report: "\
+            report: "\
             1/8 admitted blocks 1 steps 4\n1/8 complete\n1/8 performed 00\n1/8 performed 10\n\
             1/8 finished 2c000f000108020503010500022f6100010410016100\n",
-    },
-    Example {
-        kind: Kind::Replay,
-        script: "\
+        },
+    ),
+    (
+        "a file in two pieces",
+        Example {
+            kind: Kind::Replay,
+            script: "\
             pdu 24000a00010a02 0740 0000000f 0173 0166\n\
             pdu 34000b00010a02 00000008 08090a0b0c0d0e\n\
             pdu 34000e00010a02 00000000 00010203040506070809\n\
             pdu 24000a00010a02 0400 181c2015 0000000f\n\
             step 1 10\ntake 1 10\nlist\n",
-        report: "\
+            report: "\
             1/10 admitted blocks 2 steps 2\n1/10 stored\n1/10 stored\n1/10 complete\n1/10 installed\n\
             1/10 finished 2c000200010a020502\n\
             store used 2 free 62 spare 62\nfile f 15 181c2015\n",
-    },
-    Example {
-        kind: Kind::Replay,
-        script: "\
+        },
+    ),
+    (
+        "a list that is cancelled",
+        Example {
+            kind: Kind::Replay,
+            script: "\
             pdu 24001700010c02 0740 00000000 0000 0003000161 0003000162 0003000163\n\
             pdu 24000a00010c02 0400 00000000 00000000\n\
             step 1 12\ncancel 1 12\n\
             pdu 24000d00010d02 0740 00000000 0000 0003100161\n\
             take 1 12\n",
-        report: "\
+            report: "\
             1/12 admitted blocks 3 steps 6\n1/12 complete\n1/12 performed 00\n1/12 cancelled\n\
             1/13 admitted blocks 0 steps 2\n\
             1/12 finished 2c001700010c0205f301040001610001040f01620001040f016300060102\n",
-    },
+        },
+    ),
 ];
 
 /// Where memory is refused, it is reported, and what was written is a beginning of the report; run once more, all is
@@ -178,11 +196,11 @@ fn memory(rt: HostRuntime) {
 }
 
 /// Each script in memory has its report for its text.
-fn all_have_texts<R: Abort + Print>(rt: &R, alloc: Global, examples: &[Example]) {
-    for example in examples {
+fn all_have_texts<R: Abort + Print>(rt: &R, alloc: Global, examples: &[(&str, Example)]) {
+    for (name, example) in examples {
         let script = example.script.as_bytes();
         let holds = has_text(rt, alloc, example.kind, script, example.report, Ok(()));
-        assert!(rt; holds, "the script {}", example.script);
+        assert!(rt; holds, "{name}");
     }
 }
 
@@ -198,8 +216,14 @@ fn texts(rt: HostRuntime) {
 fn texts_of_bad_lines(rt: HostRuntime) {
     let end = Err(RunFault::BadLine(2));
     let script = b"# a\n0\n".as_slice();
-    assert!(rt; has_text(&rt, rt.alloc(), Kind::Plain, script, "", end));
-    assert!(rt; has_text(&rt, rt.alloc(), Kind::Replay, script, "", end));
+    assert!(rt;
+        has_text(&rt, rt.alloc(), Kind::Plain, script, "", end),
+        "plain"
+    );
+    assert!(rt;
+        has_text(&rt, rt.alloc(), Kind::Replay, script, "", end),
+        "replay"
+    );
 }
 
 /// A bad line, and what is bad of it.
@@ -317,12 +341,27 @@ type Moved = (
 );
 
 /// A write that takes nothing has failed; an interrupted call is made again.
-static STREAMS: [Moved; 5] = [
-    (&[Call::Moves, Call::Moves], Ok(1), Ok(1)),
-    (&[Call::Nothing, Call::Moves], Ok(0), Err(Failed)),
-    (&[Call::Interrupted, Call::Moves], Ok(1), Ok(1)),
-    (&[Call::Interrupted, Call::Broken], Err(Failed), Err(Failed)),
-    (&[Call::Broken, Call::Moves], Err(Failed), Err(Failed)),
+static STREAMS: [(&str, Moved); 5] = [
+    (
+        "each call moves",
+        (&[Call::Moves, Call::Moves], Ok(1), Ok(1)),
+    ),
+    (
+        "the first call moves nothing",
+        (&[Call::Nothing, Call::Moves], Ok(0), Err(Failed)),
+    ),
+    (
+        "the first call is interrupted",
+        (&[Call::Interrupted, Call::Moves], Ok(1), Ok(1)),
+    ),
+    (
+        "interrupted, and then broken",
+        (&[Call::Interrupted, Call::Broken], Err(Failed), Err(Failed)),
+    ),
+    (
+        "the first call is broken",
+        (&[Call::Broken, Call::Moves], Err(Failed), Err(Failed)),
+    ),
 ];
 
 /// What is written.
@@ -381,9 +420,9 @@ fn end_of_unwritten_at_last(alloc: Global, example: &Example) -> Result<(), RunF
 /// A writer that takes nothing ends the run.
 #[test]
 fn writers_that_take_nothing(rt: HostRuntime) {
-    for example in &EXAMPLES {
+    for (name, example) in &EXAMPLES {
         let end = end_of_unwritten_at_last(rt.alloc(), example);
-        assert!(rt; end == Err(RunFault::Write));
+        assert!(rt; end == Err(RunFault::Write), "{name}");
     }
 }
 
@@ -409,6 +448,12 @@ fn written_twice(calls: &[Call]) -> (Result<usize, Failed>, Result<usize, Failed
 /// Once a stream has failed, it has failed from then on.
 #[test]
 fn from_then_on(rt: HostRuntime) {
-    assert!(rt; written_twice(&BROKEN_ONCE) == (Err(Failed), Ok(1), true));
-    assert!(rt; read_twice(&BROKEN_ONCE) == (Err(Failed), Ok(1), true));
+    assert!(rt;
+        written_twice(&BROKEN_ONCE) == (Err(Failed), Ok(1), true),
+        "a writer"
+    );
+    assert!(rt;
+        read_twice(&BROKEN_ONCE) == (Err(Failed), Ok(1), true),
+        "a reader"
+    );
 }

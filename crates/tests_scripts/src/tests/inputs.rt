@@ -33,6 +33,7 @@ fn is_read_whole(alloc: Global) -> bool {
 #[test]
 fn whole_or_not_at_all(rt: HostRuntime) {
     let broken = Broken { begun: false };
-    let is_told = matches!(read_whole(rt.alloc(), broken), Err(RunFault::Read));
-    assert!(rt; is_told && is_read_whole(rt.alloc()));
+    let is_reported = matches!(read_whole(rt.alloc(), broken), Err(RunFault::Read));
+    assert!(rt; is_reported, "a reader that fails");
+    assert!(rt; is_read_whole(rt.alloc()), "a reader that ends");
 }

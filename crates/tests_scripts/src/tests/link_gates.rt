@@ -79,8 +79,13 @@ fn two_workers_of_links_cross(rt: HostRuntime) {
     let mut writer = Writer::new(rt.alloc(), Stream::sound(100));
     let gate = Cross::new(rt);
     let end = run(&rt, rt.alloc(), &SCRIPTS, &gate, &mut writer);
-    assert!(rt; end == Ok(()) && !gate.gave_up.load(Ordering::SeqCst));
-    assert!(rt; writer.text.starts_with(BEGIN) && writer.text.ends_with(END));
+    assert!(rt; end == Ok(()), "the run");
+    assert!(rt;
+        !gate.gave_up.load(Ordering::SeqCst),
+        "a worker waited too long"
+    );
+    assert!(rt; writer.text.starts_with(BEGIN), "how the text begins");
+    assert!(rt; writer.text.ends_with(END), "how the text ends");
 }
 
 /// Holds one of two seats at its first message until the other seat has come to its sixteenth. An inbox has room for 16
@@ -130,8 +135,12 @@ fn links_feeds_the_second_file_while_the_first_is_held(rt: HostRuntime) {
     let mut writer = Writer::new(rt.alloc(), Stream::sound(100));
     let gate = Hold::new(rt, 0);
     let end = run(&rt, rt.alloc(), &TWENTY_EACH, &gate, &mut writer);
-    assert!(rt; end == Ok(()) && !gate.gave_up.load(Ordering::SeqCst));
-    assert!(rt; writer.text.ends_with(TWENTY_END));
+    assert!(rt; end == Ok(()), "the run");
+    assert!(rt;
+        !gate.gave_up.load(Ordering::SeqCst),
+        "a worker waited too long"
+    );
+    assert!(rt; writer.text.ends_with(TWENTY_END), "how the text ends");
 }
 
 #[test]
@@ -139,6 +148,10 @@ fn links_feeds_the_first_file_while_the_second_is_held(rt: HostRuntime) {
     let mut writer = Writer::new(rt.alloc(), Stream::sound(100));
     let gate = Hold::new(rt, 1);
     let end = run(&rt, rt.alloc(), &TWENTY_EACH, &gate, &mut writer);
-    assert!(rt; end == Ok(()) && !gate.gave_up.load(Ordering::SeqCst));
-    assert!(rt; writer.text.ends_with(TWENTY_END));
+    assert!(rt; end == Ok(()), "the run");
+    assert!(rt;
+        !gate.gave_up.load(Ordering::SeqCst),
+        "a worker waited too long"
+    );
+    assert!(rt; writer.text.ends_with(TWENTY_END), "how the text ends");
 }

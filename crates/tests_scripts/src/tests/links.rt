@@ -110,7 +110,7 @@ fn fails_at_write<R: Abort + Threads + Wait + Sync>(rt: &R, alloc: Global, k: us
 
 /// The kth write fails, of 50 octets each: what was written before is a beginning of the text.
 #[test]
-fn a_failing_writer_is_told(rt: HostRuntime) {
+fn a_failing_writer_is_reported(rt: HostRuntime) {
     for k in 0..6 {
         assert!(rt; fails_at_write(&rt, rt.alloc(), k), "the write {k}");
     }

@@ -96,7 +96,10 @@ impl<'a> Run<'a> {
             return ran;
         }
         let _ = println!(rt; "a run was refused memory, or its writer");
-        assert!(rt; ran.is_told_so(self.report));
+        assert!(rt;
+            ran.is_told_so(self.report),
+            "a run that was refused memory"
+        );
         self.once(alloc)
     }
 }

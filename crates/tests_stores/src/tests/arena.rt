@@ -41,7 +41,12 @@ fn three_blocks(rt: HostRuntime) -> Result<(), Fail> {
     let mut arena = Arena::new(rt.alloc(), 3)?;
     let are_three = arena.free() == 3 && takes_three(&mut arena) && arena.free() == 2;
     let are_blank = takes_blank(&mut arena) && takes_blank(&mut arena);
-    assert!(rt; are_three && are_blank && arena.take().is_none() && arena.free() == 0);
+    assert!(rt; are_three, "three are taken, and two given back");
+    assert!(rt; are_blank, "the two are taken, and are blank");
+    assert!(rt;
+        arena.take().is_none() && arena.free() == 0,
+        "no block is left"
+    );
     Ok(())
 }
 
@@ -49,7 +54,11 @@ fn three_blocks(rt: HostRuntime) -> Result<(), Fail> {
 fn the_most_blocks(rt: HostRuntime) -> Result<(), Fail> {
     let mut arena = Arena::new(rt.alloc(), 65_536)?;
     let is_whole = arena.free() == 65_536;
-    assert!(rt; is_whole && takes_blank(&mut arena) && arena.free() == 65_535);
+    assert!(rt; is_whole, "all blocks are free");
+    assert!(rt;
+        takes_blank(&mut arena) && arena.free() == 65_535,
+        "one is taken, and is blank"
+    );
     Ok(())
 }
 

@@ -2,7 +2,7 @@
 //! both stores.
 
 use super::calls::{Asked, parsed};
-use super::steps::{BLOCKS, Stands, Step, take};
+use super::steps::{BLOCKS, Existing, Step, take};
 use cfdp_actions::{Filestore, Kind, ListStore, Protected, entry_checksum};
 use cfdp_paths::{Memory, Names, Path};
 use cfdp_status::Action;
@@ -20,7 +20,7 @@ const MAKES: &[Step<'static>] = &[
 ];
 
 /// What exists, also with a `/` in front. The octets of `d/f` are the words 61 62 63 64 and 65 00 00 00.
-const FOUND: &[Stands<'static>] = &[
+const FOUND: &[Existing<'static>] = &[
     (b"d", Kind::Directory, 0, 0),
     (b"/d", Kind::Directory, 0, 0),
     (b"e", Kind::File, 0, 0),
@@ -39,17 +39,20 @@ const ABSENT: &[&[u8]] = &[
     b"d/f/d/f/d/f/d/f",
 ];
 
-/// A path, the offset from which its file is read, and, where a file is there, how many octets that is and what
+/// A name, a path, the offset from which its file is read, and, where a file is there, how many octets that is and what
 /// is in four octets `.` then.
-const READ: &[(&[u8], u64, Option<(usize, [u8; 4])>)] = &[
-    (b"d/f", 0, Some((4, *b"abcd"))),
-    (b"/d/f", 1, Some((4, *b"bcde"))),
-    (b"d/f", 2, Some((3, *b"cde."))),
-    (b"d/f", 5, Some((0, *b"...."))),
-    (b"d/f", u64::MAX, Some((0, *b"...."))),
-    (b"e", 0, Some((0, *b"...."))),
-    (b"d", 0, None),
-    (b"d/f/g", 0, None),
+const READ: &[(&str, (&[u8], u64, Option<(usize, [u8; 4])>))] = &[
+    ("the beginning", (b"d/f", 0, Some((4, *b"abcd")))),
+    (
+        "a / in front, and the second octet on",
+        (b"/d/f", 1, Some((4, *b"bcde"))),
+    ),
+    ("up to the end", (b"d/f", 2, Some((3, *b"cde.")))),
+    ("at the end", (b"d/f", 5, Some((0, *b"....")))),
+    ("far after the end", (b"d/f", u64::MAX, Some((0, *b"....")))),
+    ("an empty file", (b"e", 0, Some((0, *b"....")))),
+    ("a directory", (b"d", 0, None)),
+    ("a name below a file", (b"d/f/g", 0, None)),
 ];
 
 /// A store of [`MAKES`].
@@ -75,7 +78,7 @@ fn is_found(
 }
 
 #[test]
-fn finds_what_stands(rt: HostRuntime) -> Result<(), Memory> {
+fn finds_what_exists(rt: HostRuntime) -> Result<(), Memory> {
     let alloc = rt.alloc();
     let store = made(&rt, alloc)?;
     for (path, kind, size, sum) in FOUND {
@@ -115,9 +118,9 @@ fn read(
 fn reads_files_alone(rt: HostRuntime) -> Result<(), Memory> {
     let alloc = rt.alloc();
     let store = made(&rt, alloc)?;
-    for (number, (path, at, want)) in READ.iter().enumerate() {
+    for (name, (path, at, want)) in READ {
         let read = read(alloc, &store, path, *at)?;
-        assert!(&rt; read == *want, "row {number}");
+        assert!(&rt; read == *want, "{name}");
     }
     Ok(())
 }
@@ -142,7 +145,7 @@ fn sum_of(octets: &[u8]) -> u32 {
 }
 
 /// Whether a file has its checksum.
-fn is_summed<S: Filestore>(alloc: Global, store: &S, row: &Stands<'_>) -> Result<bool, Memory> {
+fn is_summed<S: Filestore>(alloc: Global, store: &S, row: &Existing<'_>) -> Result<bool, Memory> {
     let (octets, kind, _size, sum) = row;
     let path = parsed(alloc, octets)?;
     let want = match kind {

@@ -2,7 +2,7 @@
 //! and as long names as there may be. `.ci/run_scripts` has a directory of 4,096 entries.
 
 use super::calls::{Asked, deepest, parsed};
-use super::steps::{Script, Shown, Stands, Step, are_listed, are_standing, run, take};
+use super::steps::{Existing, Script, Shown, Step, are_listed, are_standing, run, take};
 use cfdp_actions::{Filestore, Kind, Protected};
 use cfdp_paths::Memory;
 use cfdp_status::Action;
@@ -65,9 +65,9 @@ fn a_list_takes_all_blocks(rt: HostRuntime) -> Result<(), Memory> {
 fn shows_rows<S: Filestore>(
     alloc: Global,
     store: &S,
-    listing: &[Stands<'_>],
+    listing: &[Existing<'_>],
     directory: &[u8],
-    standing: &[Stands<'_>],
+    standing: &[Existing<'_>],
     names: u8,
 ) -> Result<bool, Memory> {
     let top = parsed(alloc, directory)?;
@@ -96,7 +96,7 @@ fn beginning(path: &[u8], names: u32) -> &[u8] {
 }
 
 /// What is where the path is that of a file with six octets, and those of its first names are directories.
-fn long_rows(alloc: Global, path: &[u8]) -> Result<Vec<Stands<'_>>, Memory> {
+fn long_rows(alloc: Global, path: &[u8]) -> Result<Vec<Existing<'_>>, Memory> {
     let mut rows = Vec::new(alloc);
     for names in 1..8u32 {
         rows.push((beginning(path, names), Kind::Directory, 0, 0))?;
@@ -154,7 +154,7 @@ fn unmade(alloc: Global, path: &[u8]) -> Result<Vec<Step<'_>>, Memory> {
 }
 
 /// Just the directories and the file exist.
-fn stands_long<S: Filestore>(
+fn look_at_long<S: Filestore>(
     rt: &impl Abort,
     alloc: Global,
     store: &S,
@@ -162,7 +162,7 @@ fn stands_long<S: Filestore>(
 ) -> Result<(), Memory> {
     let rows = long_rows(alloc, path)?;
     let holds = shows_rows(alloc, store, &rows, beginning(path, 1), &rows, 8)?;
-    assert!(rt; holds);
+    assert!(rt; holds, "at {}", path.escape_ascii());
     Ok(())
 }
 
@@ -176,7 +176,7 @@ fn make_long<S: Filestore>(
     let none = Protected::new();
     take(rt, alloc, store, &none, "makes", &made(alloc, path)?)?;
     take(rt, alloc, store, &none, "delivers", &delivered(path))?;
-    stands_long(rt, alloc, store, path)
+    look_at_long(rt, alloc, store, path)
 }
 
 /// Moves it to another one.
@@ -189,7 +189,7 @@ fn move_long<S: Filestore>(
 ) -> Result<(), Memory> {
     let moves = renamed(beginning(old, 1), beginning(new, 1));
     take(rt, alloc, store, &Protected::new(), "renames", &moves)?;
-    stands_long(rt, alloc, store, new)
+    look_at_long(rt, alloc, store, new)
 }
 
 /// Removes it.

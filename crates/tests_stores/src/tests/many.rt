@@ -2,7 +2,7 @@
 //! these scripts.
 
 use super::calls::Asked;
-use super::steps::{Script, Shown, Stands, Step};
+use super::steps::{Existing, Script, Shown, Step};
 use cfdp_actions::Kind;
 use cfdp_status::Action;
 
@@ -90,7 +90,7 @@ const SEVENS: &[u8] = &[7; 121];
 const TWICE: &[u8] = &[7; 242];
 
 /// What is at and below the directory in which the one file with octets is then.
-const STANDING: &[Stands<'static>] = &[
+const STANDING: &[Existing<'static>] = &[
     (b"d", Kind::Directory, 0, 0),
     (b"d/1", Kind::File, 0, 0),
     (b"d/2", Kind::File, 0, 0),

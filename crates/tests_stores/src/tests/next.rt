@@ -4,7 +4,7 @@ ghost use Rattle.std.specs.Prelude.{All};
 ghost use Rattle.cfdp_paths.specs.Paths.{IsName};
 
 use super::calls::{Asked, parsed};
-use super::steps::{BLOCKS, Stands, Step, take};
+use super::steps::{BLOCKS, Existing, Step, take};
 use cfdp_actions::{Kind, Protected};
 use cfdp_paths::{Memory, Names};
 use cfdp_status::Action;
@@ -26,7 +26,7 @@ const MAKES: &[Step<'static>] = &[
 
 /// What exists, in path order: names are compared whole, so that what is below `a` is before `a!`. The octets of
 /// `a/b/c` are the word 61 62 63 00.
-const ROWS: &[Stands<'static>] = &[
+const ROWS: &[Existing<'static>] = &[
     (b"a", Kind::Directory, 0, 0),
     (b"a/b", Kind::Directory, 0, 0),
     (b"a/b/c", Kind::File, 3, 0x6162_6300),
@@ -67,18 +67,19 @@ fn goes_through_in_path_order(rt: HostRuntime) -> Result<(), Memory> {
         is_next(&store, Names::none(), ROWS.first()),
         "the first one"
     );
-    for (number, (path, place)) in ASKED.iter().enumerate() {
-        let path = parsed(alloc, path)?;
+    for (text, place) in ASKED {
+        let path = parsed(alloc, text)?;
         assert!(&rt;
             is_next(&store, path.names(), ROWS.get(*place)),
-            "path {number}"
+            "{}",
+            text.escape_ascii()
         );
     }
     Ok(())
 }
 
 /// Whether this is next after the path; `None` where nothing is.
-fn is_next(store: &TreeStore, after: Names<'_>, wanted: Option<&Stands<'_>>) -> bool
+fn is_next(store: &TreeStore, after: Names<'_>, wanted: Option<&Existing<'_>>) -> bool
     requires { All IsName after }
 {
     let mut text = [0; 776];

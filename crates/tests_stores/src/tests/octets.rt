@@ -24,9 +24,9 @@ fn holds_at_last<T: Row>(alloc: Global, row: &T) -> bool {
     }
 }
 
-/// Each row holds. Of one that does not its number in the table is reported, from 0.
-pub fn all_hold<T: Row>(rt: &impl Abort, alloc: Global, rows: &[T]) {
-    for (number, row) in rows.iter().enumerate() {
-        assert!(rt; holds_at_last(alloc, row), "row {number}");
+/// Each row holds. Of one that does not the name is reported.
+pub fn all_hold<T: Row>(rt: &impl Abort, alloc: Global, rows: &[(&str, T)]) {
+    for (name, row) in rows {
+        assert!(rt; holds_at_last(alloc, row), "{name}");
     }
 }

@@ -2,7 +2,7 @@
 //! and renamed like others. `worked` runs these scripts.
 
 use super::calls::Asked;
-use super::steps::{Script, Shown, Stands, Step};
+use super::steps::{Existing, Script, Shown, Step};
 use cfdp_actions::Kind;
 use cfdp_status::Action;
 use std::hash::{FoldHasher, Hasher};
@@ -57,7 +57,7 @@ const CREATES: &[Step<'static>] = &[
 ];
 
 /// What exists then.
-const CREATED: &[Stands<'static>] = &[
+const CREATED: &[Existing<'static>] = &[
     (A, Kind::File, 0, 0),
     (B, Kind::File, 0, 0),
     (C, Kind::File, 0, 0),
@@ -107,7 +107,7 @@ const REMOVES: &[Step<'static>] = &[
 ];
 
 /// What exists after the next script.
-const RENAMED: &[Stands<'static>] = &[
+const RENAMED: &[Existing<'static>] = &[
     (b"a", Kind::File, 0, 0),
     (A, Kind::File, 0, 0),
     (C, Kind::File, 0, 0),
@@ -138,7 +138,7 @@ const RENAMES: &[Step<'static>] = &[
 ];
 
 /// What is at and below `d` in the next script. The octets are the word 61 62 63 00.
-const BELOW: &[Stands<'static>] = &[
+const BELOW: &[Existing<'static>] = &[
     (b"d", Kind::Directory, 0, 0),
     (BELOW_A, Kind::File, 0, 0),
     (BELOW_B, Kind::File, 3, 0x6162_6300),
@@ -193,10 +193,14 @@ fn names_have_one_hash(rt: HostRuntime) {
     for name in [A, B, C, D, E, F, G, H, I, J, K] {
         let mut hasher = FoldHasher::default();
         hasher.write(name);
-        assert!(&rt; hasher.finish() == 0);
+        assert!(&rt; hasher.finish() == 0, "{}", name.escape_ascii());
         let mut hasher = FoldHasher::default();
         hasher.write_u32(11);
         hasher.write(name);
-        assert!(&rt; hasher.finish() == 0);
+        assert!(&rt;
+            hasher.finish() == 0,
+            "{} after a number",
+            name.escape_ascii()
+        );
     }
 }

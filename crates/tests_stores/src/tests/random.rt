@@ -331,26 +331,26 @@ fn says<S: Filestore>(
 
 /// What is at a path and below it, with the octets of the file.
 #[derive(Drop, PartialEq)]
-struct Stand {
+struct AtPath {
     standing: Vec<Standing>,
     octets: Option<Vec<u8>>,
 }
 
-fn stand_at<S: Filestore>(alloc: Global, store: &S, path: &Path) -> Result<Stand, Memory> {
+fn at_path<S: Filestore>(alloc: Global, store: &S, path: &Path) -> Result<AtPath, Memory> {
     let count = size(store, path).unwrap_or(0);
-    Ok(Stand {
+    Ok(AtPath {
         standing: store.standing(alloc, path)?,
         octets: read(alloc, store, path, 0, count)?,
     })
 }
 
-/// A `Stand` for each path of the listing.
-fn stands<S: Filestore>(alloc: Global, store: &S) -> Result<Vec<Stand>, Memory> {
-    let mut stands = Vec::new(alloc);
+/// What is at each path of the listing.
+fn at_each_path<S: Filestore>(alloc: Global, store: &S) -> Result<Vec<AtPath>, Memory> {
+    let mut all = Vec::new(alloc);
     for entry in store.listing(alloc)? {
-        stands.push(stand_at(alloc, store, &entry.path)?)?;
+        all.push(at_path(alloc, store, &entry.path)?)?;
     }
-    Ok(stands)
+    Ok(all)
 }
 
 /// What is staged in the slot, and its checksum.
@@ -450,7 +450,7 @@ impl<L: Filestore, T: Filestore> Pair<L, T> {
         Ok(
             all_staged(alloc, &self.lists)? == all_staged(alloc, &self.tree)?
                 && self.lists.listing(alloc)? == self.tree.listing(alloc)?
-                && stands(alloc, &self.lists)? == stands(alloc, &self.tree)?,
+                && at_each_path(alloc, &self.lists)? == at_each_path(alloc, &self.tree)?,
         )
     }
 
@@ -478,7 +478,7 @@ impl<L: Filestore, T: Filestore> Script<L, T> {
             .random
             .operation(alloc, &self.pair.lists, work, self.reach)?;
         let agrees = self.pair.agrees_on(alloc, &operation)?;
-        assert!(rt; agrees);
+        assert!(rt; agrees, "slot {}, offset {}", operation.slot, operation.at);
         Ok(())
     }
 
@@ -494,14 +494,18 @@ impl<L: Filestore, T: Filestore> Script<L, T> {
             self.go_on(rt, alloc, work)?;
         }
         let is_same = self.pair.is_same(alloc)?;
-        assert!(rt; is_same);
+        assert!(rt; is_same, "after {count} operations");
         Ok(())
     }
 
     /// Both stores become full.
     fn fill(&mut self, rt: &impl Abort, alloc: Global) -> Result<(), Memory> {
         let agrees = self.pair.agrees_on(alloc, &self.pair.filling(alloc))?;
-        assert!(rt; agrees && self.pair.tree.free() == 0);
+        assert!(rt;
+            agrees && self.pair.tree.free() == 0,
+            "{} blocks are free",
+            self.pair.tree.free()
+        );
         Ok(())
     }
 
@@ -538,7 +542,11 @@ fn run(rt: &impl Abort, alloc: Global, blocks: u32, reach: Reach, rounds: u32) -
         script.round(rt, alloc)?;
     }
     let is_same = script.pair.empties(alloc)?;
-    assert!(rt; is_same && script.pair.tree.free() == blocks);
+    assert!(rt;
+        is_same && script.pair.tree.free() == blocks,
+        "{} of {blocks} blocks are free",
+        script.pair.tree.free()
+    );
     Ok(())
 }
 

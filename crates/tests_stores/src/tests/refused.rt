@@ -150,7 +150,7 @@ const STAGES_AND_INSTALLS: &[Step<'static>] = &[
     Step::Shows(Shown::Listing(&[(b"a", Kind::File, 4, 0x0101_0101)])),
 ];
 
-const WHAT_STANDS: &[Step<'static>] = &[
+const WHAT_EXISTS: &[Step<'static>] = &[
     Step::Performs(Action::CreateDirectory, b"d", b"", 0x50, 1, 63),
     Step::Performs(Action::CreateFile, b"d/x", b"", 0x00, 1, 62),
     Step::Shows(Shown::Listing(&[(b"d", Kind::Directory, 0, 0), (b"d/x", Kind::File, 0, 0)])),
@@ -191,8 +191,8 @@ static SCRIPTS: [Script<'static>; 8] = [
         parts: &[STAGES_AND_INSTALLS],
     },
     Script {
-        name: "what stands",
-        parts: &[WHAT_STANDS],
+        name: "what exists",
+        parts: &[WHAT_EXISTS],
     },
 ];
 

@@ -41,15 +41,15 @@ pub enum Shown<'a> {
     /// The names of the longest path at or below the path; `None` where nothing exists.
     Deepest(&'a [u8], Option<u8>),
     /// All that exists.
-    Listing(&'a [Stands<'a>]),
+    Listing(&'a [Existing<'a>]),
     /// The paths of all that exists, a space after each.
     Paths(&'a [u8]),
     /// All that is at and below the path.
-    Standing(&'a [u8], &'a [Stands<'a>]),
+    Standing(&'a [u8], &'a [Existing<'a>]),
 }
 
 /// The octets of a path, and the kind, the size and the checksum of what is there.
-pub type Stands<'a> = (&'a [u8], Kind, u64, u32);
+pub type Existing<'a> = (&'a [u8], Kind, u64, u32);
 
 impl<'a> Step<'a> {
     /// Whether it changes the store, and does not show it alone.
@@ -162,7 +162,7 @@ fn has_staged_checksum<S: Filestore>(store: &S, slot: u8, sum: u32) -> bool {
 }
 
 /// Whether just these are listed.
-pub fn are_listed(alloc: Global, listing: &[Entry], rows: &[Stands<'_>]) -> Result<bool, Memory> {
+pub fn are_listed(alloc: Global, listing: &[Entry], rows: &[Existing<'_>]) -> Result<bool, Memory> {
     for (entry, (path, kind, size, sum)) in listing.iter().zip(rows) {
         let is_same = entry.kind == *kind && entry.size == *size && entry.checksum == *sum;
         if !is_same || entry.path != parsed(alloc, path)? {
@@ -176,7 +176,7 @@ pub fn are_listed(alloc: Global, listing: &[Entry], rows: &[Stands<'_>]) -> Resu
 pub fn are_standing(
     alloc: Global,
     standing: &[Standing],
-    rows: &[Stands<'_>],
+    rows: &[Existing<'_>],
 ) -> Result<bool, Memory> {
     for (found, (path, kind, size, _)) in standing.iter().zip(rows) {
         let is_same = found.kind == *kind && found.size == *size;

@@ -2,7 +2,7 @@
 //! `.ci/cases/run/lines.txt`.
 
 use super::calls::{Asked, parsed};
-use super::steps::{Script, Shown, Stands, Step, run_on_both};
+use super::steps::{Existing, Script, Shown, Step, run_on_both};
 use super::{many, one_hash};
 use cfdp_actions::{Filestore, Kind, ListStore, Protected};
 use cfdp_paths::Memory;
@@ -45,7 +45,7 @@ const MOVES_A_DIRECTORY: &[Step<'static>] = &[
 ];
 
 /// What is at and below `z/b` after the next script: seven names.
-const BELOW: &[Stands<'static>] = &[
+const BELOW: &[Existing<'static>] = &[
     (b"z/b", Kind::Directory, 0, 0),
     (b"z/b/c", Kind::Directory, 0, 0),
     (b"z/b/c/d", Kind::Directory, 0, 0),
@@ -255,7 +255,7 @@ const PROTECTS: &[Step<'static>] = &[
 fn protects(rt: HostRuntime) -> Result<(), Memory> {
     let mut protected = Protected::new();
     let is_added = adds(rt.alloc(), &mut protected, b"sys/boot")?;
-    assert!(rt; is_added);
+    assert!(rt; is_added, "a path is protected");
     let script = Script {
         name: "protects",
         parts: &[PROTECTS],
@@ -273,8 +273,8 @@ fn adds(alloc: Global, protected: &mut Protected, path: &[u8]) -> Result<bool, M
 #[test]
 fn tells_whether_changes_take_memory(rt: HostRuntime) -> Result<(), Memory> {
     let lists = ListStore::new(rt.alloc(), 2)?;
-    assert!(rt; !lists.takes_no_memory());
+    assert!(rt; !lists.takes_no_memory(), "a list store takes memory");
     let tree = TreeStore::new(rt.alloc(), 2)?;
-    assert!(rt; tree.takes_no_memory());
+    assert!(rt; tree.takes_no_memory(), "a tree store takes none");
     Ok(())
 }

@@ -20,13 +20,14 @@ fn seat(
     let mut seat = Seat::new(alloc, number);
     let event = event(alloc, given)?;
     let taken = shared.accept(rt, &mut seat, event).is_ok();
-    assert!(rt; taken && seat.receipts().len() == 1);
+    assert!(rt; taken && seat.receipts().len() == 1, "seat {number}");
     Ok(seat)
 }
 
 /// Two seats handed in a PDU each, the second under this number, and perhaps to another engine: with which fault the
 /// first engine's journal is closed with the seats from this one on.
 struct Closing {
+    name: &'static str,
     second: u8,
     of_another: bool,
     from: usize,
@@ -35,24 +36,28 @@ struct Closing {
 
 static CLOSINGS: [Closing; 4] = [
     Closing {
+        name: "both seats",
         second: 1,
         of_another: false,
         from: 0,
         fault: None,
     },
     Closing {
+        name: "the second seat alone",
         second: 1,
         of_another: false,
         from: 1,
         fault: Some(Fault::CountDiffers),
     },
     Closing {
+        name: "two seats of one number",
         second: 0,
         of_another: false,
         from: 0,
         fault: Some(Fault::SeatTwice(0)),
     },
     Closing {
+        name: "a seat of another engine",
         second: 0,
         of_another: true,
         from: 1,
@@ -94,7 +99,11 @@ fn closes(rt: &(impl Abort + Wait), alloc: Global, closing: &Closing) -> Result<
     seats.push(two)?;
     let handed_in = seats.len();
     let told = closed(first.into_journaled(), seats);
-    assert!(rt; told == (closing.fault, entries, handed_in));
+    assert!(rt;
+        told == (closing.fault, entries, handed_in),
+        "{}",
+        closing.name
+    );
     Ok(())
 }
 

@@ -6,6 +6,7 @@ use super::scene::{Given, inbox};
 use super::workers::Open;
 use cfdp_engine::{Seat, Shared, Stop, Worked, close, work};
 use cfdp_paths::Memory;
+use cfdp_pdus::condition;
 use cfdp_status::{Action, Status};
 use cfdp_transactions::Reply;
 use cfdp_tree::TreeStore;
@@ -30,7 +31,8 @@ fn is_reply(seat: u8, number: usize, reply: &Reply) -> bool {
     match (seat, number, reply) {
         (0, 0, Reply::Admitted(1, 2)) | (0, 1, Reply::Complete) => true,
         (0, 2, Reply::Performed(status)) => *status == Status::Successful(Action::CreateFile),
-        (0, 3, Reply::Taken(outcome)) => outcome.outcome().finished.condition == 0,
+        (0, 3, Reply::Taken(outcome)) => outcome.outcome().finished.condition
+            == condition::NO_ERROR,
         (1, 0, Reply::Admitted(0, 0)) | (1, 1, Reply::Done) => true,
         _ => false,
     }
@@ -76,8 +78,17 @@ fn two_workers(rt: HostRuntime) -> Result<(), Memory> {
     let alloc = rt.alloc();
     let shared = Shared::new(engine(alloc, 1000)?);
     let mut seats = Vec::new(alloc);
-    assert!(&rt; does_well(&rt, alloc, &shared, &mut seats, 0, &ONE_LIFE, (4, 6, 2))?);
-    assert!(&rt; does_well(&rt, alloc, &shared, &mut seats, 1, &BARE, (2, 2, 0))?);
-    assert!(&rt; close(shared.into_journaled(), seats).is_ok());
+    assert!(&rt;
+        does_well(&rt, alloc, &shared, &mut seats, 0, &ONE_LIFE, (4, 6, 2))?,
+        "the first worker"
+    );
+    assert!(&rt;
+        does_well(&rt, alloc, &shared, &mut seats, 1, &BARE, (2, 2, 0))?,
+        "the second worker"
+    );
+    assert!(&rt;
+        close(shared.into_journaled(), seats).is_ok(),
+        "the journal of both"
+    );
     Ok(())
 }

@@ -128,7 +128,13 @@ fn two_workers_are_at_work_at_once(rt: HostRuntime) -> Result<(), Memory> {
     let zero = inbox(&rt, alloc, &[Given::Create])?;
     let one = inbox(&rt, alloc, &[Given::Bare(6), Given::End(6)])?;
     let (zero, one) = two(&rt, alloc, &shared, &crossing, (0, zero), (1, one));
-    assert!(rt; !crossing.gave_up.load(Ordering::SeqCst));
-    assert!(rt; is_crossed(alloc, shared, zero, one)?);
+    assert!(rt;
+        !crossing.gave_up.load(Ordering::SeqCst),
+        "a worker waited too long"
+    );
+    assert!(rt;
+        is_crossed(alloc, shared, zero, one)?,
+        "what the two workers did"
+    );
     Ok(())
 }

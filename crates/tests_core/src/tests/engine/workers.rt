@@ -57,8 +57,8 @@ fn work_on<R: Wait>(
 fn a_worker_stops_where_the_journal_is_full(rt: HostRuntime) -> Result<(), Memory> {
     let shared = Shared::new(engine(rt.alloc(), 16)?);
     let first = work_on(&rt, rt.alloc(), &shared, 0, &SIXTEEN)?;
-    assert!(&rt; first == (16, 16, None));
+    assert!(&rt; first == (16, 16, None), "sixteen events");
     let second = work_on(&rt, rt.alloc(), &shared, 1, &ONE_MORE)?;
-    assert!(&rt; second == (0, 1, Some(Stop::JournalFull)));
+    assert!(&rt; second == (0, 1, Some(Stop::JournalFull)), "one more event");
     Ok(())
 }

@@ -146,7 +146,11 @@ impl Beside {
     /// The first transaction in the way of what is wanted. Both give the same answer.
     fn conflict(&mut self, rt: &impl Abort, wanted: &Footprint) -> Option<TransactionId> {
         let first = self.leases.conflict(wanted);
-        assert!(rt; first == self.plain.conflict(wanted));
+        assert!(rt;
+            first == self.plain.conflict(wanted),
+            "beside {} grants",
+            self.plain.grants.len()
+        );
         if self.plain.grants.len() == MOST {
             self.full = self.full.saturating_add(1);
         }
@@ -204,6 +208,11 @@ fn lists_at_random_get_the_answers_of_the_plain_list(rt: HostRuntime) -> Result<
         let requests = random.list(rt.alloc())?;
         beside.ask(&rt, rt.alloc(), &mut random, number, &requests)?;
     }
-    assert!(rt; beside.full > 100 && beside.refused > 100);
+    assert!(rt;
+        beside.full > 100 && beside.refused > 100,
+        "full {} times, refused {} times",
+        beside.full,
+        beside.refused
+    );
     Ok(())
 }

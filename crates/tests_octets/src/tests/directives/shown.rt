@@ -5,7 +5,7 @@ ghost use Rattle.cfdp_pdus.specs.Canonical.{IsHeader};
 
 use super::{sized, sized_range};
 use cfdp_directives::*;
-use cfdp_pdus::{Header, WriteFault, directive};
+use cfdp_pdus::{Header, WriteFault, condition, directive};
 use std::alloc::{AllocError, Global};
 
 /// Whose lengths and flags the header has.
@@ -209,8 +209,13 @@ fn pdus_for_tshark(rt: HostRuntime) -> Result<(), WriteFault> {
     show_acks(&rt, &header_of(Kind::Short))?;
     for kind in KINDS {
         let header = header_of(kind);
-        show_statuses(&rt, &header, directive::EOF, 0)?;
-        show_statuses(&rt, &header, directive::FINISHED, 15)?;
+        show_statuses(&rt, &header, directive::EOF, condition::NO_ERROR)?;
+        show_statuses(
+            &rt,
+            &header,
+            directive::FINISHED,
+            condition::CANCEL_REQUEST_RECEIVED,
+        )?;
         show_naks(&rt, &header)?;
         show_prompts(&rt, &header)?;
         show_keep_alives(&rt, &header)?;

@@ -15,31 +15,52 @@ use std::cmp::Ordering;
 /// Octets that spell no path, and their fault.
 type Fault = (&'static [u8], PathFault);
 
-static FAULTS: [Fault; 24] = [
-    (b"", PathFault::Empty),
-    (b"/", PathFault::Empty),
-    (b"//", PathFault::EmptyName),
-    (b"a/", PathFault::EmptyName),
-    (b"/a/", PathFault::EmptyName),
-    (b"//a", PathFault::EmptyName),
-    (b"a//b", PathFault::EmptyName),
-    (b"a//..", PathFault::EmptyName),
-    (b"..//a", PathFault::BadName),
-    (b"a/../", PathFault::BadName),
-    (b".", PathFault::BadName),
-    (b"..", PathFault::BadName),
-    (b"/..", PathFault::BadName),
-    (b"a/./b", PathFault::BadName),
-    (b"a\0", PathFault::BadName),
-    (b"\0", PathFault::BadName),
-    (b"1/2/3/4/5/6/7/8/9", PathFault::TooDeep),
-    (b"/1/2/3/4/5/6/7/8/9", PathFault::TooDeep),
-    (b"1/2/3/4/5/6/7/8/", PathFault::TooDeep),
-    (b"1/2/3/4/5/6/7/8//", PathFault::TooDeep),
-    (b"1/2/3/4/5/6/7/8/..", PathFault::TooDeep),
-    (b"1/2/3/4/5/6/7/8/9/..", PathFault::TooDeep),
-    (b"1/2/3/4/5/6/7/./9", PathFault::BadName),
-    (b"/1/2/3/4/5/6/7//9", PathFault::EmptyName),
+static FAULTS: [(&str, Fault); 24] = [
+    ("no octets", (b"", PathFault::Empty)),
+    ("a / alone", (b"/", PathFault::Empty)),
+    ("two / alone", (b"//", PathFault::EmptyName)),
+    ("a / at the end", (b"a/", PathFault::EmptyName)),
+    ("a / at both ends", (b"/a/", PathFault::EmptyName)),
+    ("two / in front", (b"//a", PathFault::EmptyName)),
+    ("two / in between", (b"a//b", PathFault::EmptyName)),
+    ("an empty name before ..", (b"a//..", PathFault::EmptyName)),
+    (".. before an empty name", (b"..//a", PathFault::BadName)),
+    (".. before a / at the end", (b"a/../", PathFault::BadName)),
+    (". alone", (b".", PathFault::BadName)),
+    (".. alone", (b"..", PathFault::BadName)),
+    (".. after a /", (b"/..", PathFault::BadName)),
+    (". in between", (b"a/./b", PathFault::BadName)),
+    ("a 0 at the end", (b"a\0", PathFault::BadName)),
+    ("a 0 alone", (b"\0", PathFault::BadName)),
+    ("nine names", (b"1/2/3/4/5/6/7/8/9", PathFault::TooDeep)),
+    (
+        "nine names after a /",
+        (b"/1/2/3/4/5/6/7/8/9", PathFault::TooDeep),
+    ),
+    (
+        "eight names and a / at the end",
+        (b"1/2/3/4/5/6/7/8/", PathFault::TooDeep),
+    ),
+    (
+        "eight names and two / at the end",
+        (b"1/2/3/4/5/6/7/8//", PathFault::TooDeep),
+    ),
+    (
+        ".. as the ninth name",
+        (b"1/2/3/4/5/6/7/8/..", PathFault::TooDeep),
+    ),
+    (
+        ".. as the tenth name",
+        (b"1/2/3/4/5/6/7/8/9/..", PathFault::TooDeep),
+    ),
+    (
+        ". as the eighth name",
+        (b"1/2/3/4/5/6/7/./9", PathFault::BadName),
+    ),
+    (
+        "an empty name as the eighth",
+        (b"/1/2/3/4/5/6/7//9", PathFault::EmptyName),
+    ),
 ];
 
 impl Row for Fault {
@@ -60,15 +81,21 @@ fn faults_in_order(rt: HostRuntime) {
 /// What is before and after a name of 97 octets, and the fault of the whole.
 type AroundALongName = (&'static [u8], &'static [u8], PathFault);
 
-static AROUND_A_LONG_NAME: [AroundALongName; 8] = [
-    (b"", b"", PathFault::NameTooLong),
-    (b"/", b"", PathFault::NameTooLong),
-    (b"", b"\0", PathFault::BadName),
-    (b"", b"/", PathFault::NameTooLong),
-    (b"", b"/..", PathFault::NameTooLong),
-    (b"../", b"", PathFault::BadName),
-    (b"//", b"", PathFault::EmptyName),
-    (b"1/2/3/4/5/6/7/8/", b"", PathFault::TooDeep),
+static AROUND_A_LONG_NAME: [(&str, AroundALongName); 8] = [
+    ("alone", (b"", b"", PathFault::NameTooLong)),
+    ("a / in front", (b"/", b"", PathFault::NameTooLong)),
+    ("a 0 at its end", (b"", b"\0", PathFault::BadName)),
+    ("a / after it", (b"", b"/", PathFault::NameTooLong)),
+    (".. after it", (b"", b"/..", PathFault::NameTooLong)),
+    (".. before it", (b"../", b"", PathFault::BadName)),
+    (
+        "an empty name before it",
+        (b"//", b"", PathFault::EmptyName),
+    ),
+    (
+        "eight names before it",
+        (b"1/2/3/4/5/6/7/8/", b"", PathFault::TooDeep),
+    ),
 ];
 
 /// The whole.
@@ -97,14 +124,26 @@ fn names_too_long(rt: HostRuntime) {
 /// Two paths, and whether the first is at or below the second, below it, and a child of it.
 type Beside = (&'static [u8], &'static [u8], bool, bool, bool);
 
-static BESIDE: [Beside; 7] = [
-    (b"d/x/y", b"d", true, true, false),
-    (b"d/x/y", b"d/x", true, true, true),
-    (b"d/x/y", b"d/x/y", true, false, false),
-    (b"d/x", b"d", true, true, true),
-    (b"d/x", b"d/x", true, false, false),
-    (b"d", b"d/x", false, false, false),
-    (b"dx", b"d", false, false, false),
+static BESIDE: [(&str, Beside); 7] = [
+    (
+        "an ancestor that is not the parent",
+        (b"d/x/y", b"d", true, true, false),
+    ),
+    (
+        "a parent of two names",
+        (b"d/x/y", b"d/x", true, true, true),
+    ),
+    (
+        "the same three names",
+        (b"d/x/y", b"d/x/y", true, false, false),
+    ),
+    ("a parent of one name", (b"d/x", b"d", true, true, true)),
+    ("the same two names", (b"d/x", b"d/x", true, false, false)),
+    ("a child", (b"d", b"d/x", false, false, false)),
+    (
+        "a name that is a beginning of the other",
+        (b"dx", b"d", false, false, false),
+    ),
 ];
 
 /// How the first path compares with the second.
@@ -132,11 +171,11 @@ fn one_path_beside_another(rt: HostRuntime) {
 /// A path, how many names of `d/x/y`, and how it compares with the path of these.
 type Beginning = (&'static [u8], usize, Ordering);
 
-static BEGINNINGS: [Beginning; 4] = [
-    (b"d", 0, Ordering::Greater),
-    (b"d", 1, Ordering::Equal),
-    (b"d", 2, Ordering::Less),
-    (b"e", 3, Ordering::Greater),
+static BEGINNINGS: [(&str, Beginning); 4] = [
+    ("no names", (b"d", 0, Ordering::Greater)),
+    ("one equal name", (b"d", 1, Ordering::Equal)),
+    ("two names, the first equal", (b"d", 2, Ordering::Less)),
+    ("three names, the first less", (b"e", 3, Ordering::Greater)),
 ];
 
 /// How a path compares with the first names of another, where that has this many.
@@ -173,9 +212,12 @@ fn texts(alloc: Global, paths: &[Path]) -> Result<Vec<u8>, Memory> {
 /// Paths, and their texts in order.
 type Sorted = (&'static [&'static [u8]], &'static [u8]);
 
-static SORTED: [Sorted; 1] = [(
-    &[b"d0", b"d/y", b"d/x/z", b"e", b"d", b"d/x", b"D"],
-    b"D|d|d/x|d/x/z|d/y|d0|e|",
+static SORTED: [(&str, Sorted); 1] = [(
+    "seven paths",
+    (
+        &[b"d0", b"d/y", b"d/x/z", b"e", b"d", b"d/x", b"D"],
+        b"D|d|d/x|d/x/z|d/y|d0|e|",
+    ),
 )];
 
 /// The paths that each of these spells.
@@ -213,10 +255,13 @@ fn printed(alloc: Global, path: &Path, fault: PathFault) -> Result<String, Memor
 /// Octets, their path as it is printed, and a fault after it.
 type Printed = (&'static [u8], PathFault, &'static str);
 
-static PRINTED: [Printed; 1] = [(
-    b"/d/a \xff\n/x",
-    PathFault::TooDeep,
-    "d/a \\xff\\n/x: the path has more than 8 names",
+static PRINTED: [(&str, Printed); 1] = [(
+    "a space and octets that are no letters",
+    (
+        b"/d/a \xff\n/x",
+        PathFault::TooDeep,
+        "d/a \\xff\\n/x: the path has more than 8 names",
+    ),
 )];
 
 impl Row for Printed {

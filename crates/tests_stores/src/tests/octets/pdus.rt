@@ -291,13 +291,19 @@ fn numbers_as_the_slow_reader(rt: HostRuntime) -> Result<(), AllocError> {
 // Others are in `.ci/cases/{show, pdus}.txt`.
 type Fault = (&'static str, PduFault);
 
-static FAULTS: [Fault; 3] = [
-    ("", PduFault::Truncated),
+static FAULTS: [(&str, Fault); 3] = [
+    ("no octets", ("", PduFault::Truncated)),
     (
-        "26000d00010502 0740 00000000 0000 0003000161",
-        PduFault::CrcNotSupported,
+        "a PDU with the CRC flag",
+        (
+            "26000d00010502 0740 00000000 0000 0003000161",
+            PduFault::CrcNotSupported,
+        ),
     ),
-    ("26", PduFault::CrcNotSupported),
+    (
+        "an octet with the CRC flag, alone",
+        ("26", PduFault::CrcNotSupported),
+    ),
 ];
 
 // The fault of octets that are no PDU.

@@ -8,11 +8,17 @@ use std::alloc::{AllocError, Global};
 type Ordered = [(u64, u64); 2];
 
 // The names are ordered by their sources, and where these are equal by their numbers.
-static ORDERED: [Ordered; 4] = [
-    [(1, 26), (1, 27)],
-    [(1, 27), (2, 0)],
-    [(2, 0), (u64::MAX, 0)],
-    [(u64::MAX, 0), (u64::MAX, u64::MAX)],
+static ORDERED: [(&str, Ordered); 4] = [
+    (
+        "equal sources, and the second number is greater",
+        [(1, 26), (1, 27)],
+    ),
+    (
+        "the second source is greater, and its number less",
+        [(1, 27), (2, 0)],
+    ),
+    ("the greatest source", [(2, 0), (u64::MAX, 0)]),
+    ("the greatest number", [(u64::MAX, 0), (u64::MAX, u64::MAX)]),
 ];
 
 fn name((source, number): (u64, u64)) -> TransactionId {

@@ -11,38 +11,74 @@ use std::alloc::{AllocError, Global};
 // A request TLV, and its action and names.
 type Asked = (&'static [u8], Action, &'static [u8], Option<&'static [u8]>);
 
-static REQUESTS: [Asked; 12] = [
-    (b"\x00\x03\x00\x01a", Action::CreateFile, b"a", None),
-    (b"\x00\x03\x10\x01a", Action::DeleteFile, b"a", None),
-    (b"\x00\x03\x50\x01d", Action::CreateDirectory, b"d", None),
-    (b"\x00\x05\x00\x03d/x", Action::CreateFile, b"d/x", None),
-    (b"\x00\x03\x60\x01d", Action::RemoveDirectory, b"d", None),
+static REQUESTS: [(&str, Asked); 12] = [
     (
-        b"\x00\x07\x20\x03d/x\x01b",
-        Action::RenameFile,
-        b"d/x",
-        Some(b"b"),
+        "create file",
+        (b"\x00\x03\x00\x01a", Action::CreateFile, b"a", None),
     ),
     (
-        b"\x00\x05\x40\x01b\x01c",
-        Action::ReplaceFile,
-        b"b",
-        Some(b"c"),
+        "delete file",
+        (b"\x00\x03\x10\x01a", Action::DeleteFile, b"a", None),
     ),
-    (b"\x00\x03\x70\x01z", Action::DenyFile, b"z", None),
-    (b"\x00\x03\x80\x01d", Action::DenyDirectory, b"d", None),
     (
-        b"\x00\x05\x30\x01b\x01b",
-        Action::AppendFile,
-        b"b",
-        Some(b"b"),
+        "create directory",
+        (b"\x00\x03\x50\x01d", Action::CreateDirectory, b"d", None),
     ),
-    (b"\x00\x04\x00\x02/a", Action::CreateFile, b"/a", None),
     (
-        b"\x00\x05\x20\x01a\x01b",
-        Action::RenameFile,
-        b"a",
-        Some(b"b"),
+        "create a file in a directory",
+        (b"\x00\x05\x00\x03d/x", Action::CreateFile, b"d/x", None),
+    ),
+    (
+        "remove directory",
+        (b"\x00\x03\x60\x01d", Action::RemoveDirectory, b"d", None),
+    ),
+    (
+        "rename a file in a directory",
+        (
+            b"\x00\x07\x20\x03d/x\x01b",
+            Action::RenameFile,
+            b"d/x",
+            Some(b"b"),
+        ),
+    ),
+    (
+        "replace file",
+        (
+            b"\x00\x05\x40\x01b\x01c",
+            Action::ReplaceFile,
+            b"b",
+            Some(b"c"),
+        ),
+    ),
+    (
+        "deny file",
+        (b"\x00\x03\x70\x01z", Action::DenyFile, b"z", None),
+    ),
+    (
+        "deny directory",
+        (b"\x00\x03\x80\x01d", Action::DenyDirectory, b"d", None),
+    ),
+    (
+        "append a file to itself",
+        (
+            b"\x00\x05\x30\x01b\x01b",
+            Action::AppendFile,
+            b"b",
+            Some(b"b"),
+        ),
+    ),
+    (
+        "a / in front",
+        (b"\x00\x04\x00\x02/a", Action::CreateFile, b"/a", None),
+    ),
+    (
+        "rename file",
+        (
+            b"\x00\x05\x20\x01a\x01b",
+            Action::RenameFile,
+            b"a",
+            Some(b"b"),
+        ),
     ),
 ];
 
@@ -55,104 +91,146 @@ type Told = (
     &'static [u8],
 );
 
-static RESPONSES: [Told; 14] = [
+static RESPONSES: [(&str, Told); 14] = [
     (
-        b"\x01\x04\x00\x01a\x00",
-        Status::Successful(Action::CreateFile),
-        b"a",
-        None,
-        b"",
+        "a file was created",
+        (
+            b"\x01\x04\x00\x01a\x00",
+            Status::Successful(Action::CreateFile),
+            b"a",
+            None,
+            b"",
+        ),
     ),
     (
-        b"\x01\x04\x01\x01a\x00",
-        Status::NotAllowed(Action::CreateFile),
-        b"a",
-        None,
-        b"",
+        "create file was not allowed",
+        (
+            b"\x01\x04\x01\x01a\x00",
+            Status::NotAllowed(Action::CreateFile),
+            b"a",
+            None,
+            b"",
+        ),
     ),
     (
-        b"\x01\x04\x0f\x01a\x00",
-        Status::NotPerformed(Action::CreateFile),
-        b"a",
-        None,
-        b"",
+        "create file was not performed",
+        (
+            b"\x01\x04\x0f\x01a\x00",
+            Status::NotPerformed(Action::CreateFile),
+            b"a",
+            None,
+            b"",
+        ),
     ),
     (
-        b"\x01\x04\x10\x01a\x00",
-        Status::Successful(Action::DeleteFile),
-        b"a",
-        None,
-        b"",
+        "a file was deleted",
+        (
+            b"\x01\x04\x10\x01a\x00",
+            Status::Successful(Action::DeleteFile),
+            b"a",
+            None,
+            b"",
+        ),
     ),
     (
-        b"\x01\x04\x1f\x01a\x00",
-        Status::NotPerformed(Action::DeleteFile),
-        b"a",
-        None,
-        b"",
+        "delete file was not performed",
+        (
+            b"\x01\x04\x1f\x01a\x00",
+            Status::NotPerformed(Action::DeleteFile),
+            b"a",
+            None,
+            b"",
+        ),
     ),
     (
-        b"\x01\x04\x50\x01d\x00",
-        Status::Successful(Action::CreateDirectory),
-        b"d",
-        None,
-        b"",
+        "a directory was created",
+        (
+            b"\x01\x04\x50\x01d\x00",
+            Status::Successful(Action::CreateDirectory),
+            b"d",
+            None,
+            b"",
+        ),
     ),
     (
-        b"\x01\x06\x00\x03d/x\x00",
-        Status::Successful(Action::CreateFile),
-        b"d/x",
-        None,
-        b"",
+        "a file was created in a directory",
+        (
+            b"\x01\x06\x00\x03d/x\x00",
+            Status::Successful(Action::CreateFile),
+            b"d/x",
+            None,
+            b"",
+        ),
     ),
     (
-        b"\x01\x04\x62\x01d\x00",
-        Status::NotAllowed(Action::RemoveDirectory),
-        b"d",
-        None,
-        b"",
+        "remove directory was not allowed",
+        (
+            b"\x01\x04\x62\x01d\x00",
+            Status::NotAllowed(Action::RemoveDirectory),
+            b"d",
+            None,
+            b"",
+        ),
     ),
     (
-        b"\x01\x08\x20\x03d/x\x01b\x00",
-        Status::Successful(Action::RenameFile),
-        b"d/x",
-        Some(b"b"),
-        b"",
+        "a file in a directory was renamed",
+        (
+            b"\x01\x08\x20\x03d/x\x01b\x00",
+            Status::Successful(Action::RenameFile),
+            b"d/x",
+            Some(b"b"),
+            b"",
+        ),
     ),
     (
-        b"\x01\x06\x2f\x01a\x01b\x00",
-        Status::NotPerformed(Action::RenameFile),
-        b"a",
-        Some(b"b"),
-        b"",
+        "rename file was not performed",
+        (
+            b"\x01\x06\x2f\x01a\x01b\x00",
+            Status::NotPerformed(Action::RenameFile),
+            b"a",
+            Some(b"b"),
+            b"",
+        ),
     ),
     (
-        b"\x01\x06\x42\x01b\x01c\x00",
-        Status::ReplaceSecondAbsent,
-        b"b",
-        Some(b"c"),
-        b"",
+        "the second file of a replace does not exist",
+        (
+            b"\x01\x06\x42\x01b\x01c\x00",
+            Status::ReplaceSecondAbsent,
+            b"b",
+            Some(b"c"),
+            b"",
+        ),
     ),
     (
-        b"\x01\x04\x80\x01d\x00",
-        Status::Successful(Action::DenyDirectory),
-        b"d",
-        None,
-        b"",
+        "a directory was denied",
+        (
+            b"\x01\x04\x80\x01d\x00",
+            Status::Successful(Action::DenyDirectory),
+            b"d",
+            None,
+            b"",
+        ),
     ),
     (
-        b"\x01\x07\x30\x01b\x01b\x01m",
-        Status::Successful(Action::AppendFile),
-        b"b",
-        Some(b"b"),
-        b"m",
+        "an append, with a message",
+        (
+            b"\x01\x07\x30\x01b\x01b\x01m",
+            Status::Successful(Action::AppendFile),
+            b"b",
+            Some(b"b"),
+            b"m",
+        ),
     ),
     (
-        b"\x01\x05\x00\x02/a\x00",
-        Status::Successful(Action::CreateFile),
-        b"/a",
-        None,
-        b"",
+        "a / in front",
+        (
+            b"\x01\x05\x00\x02/a\x00",
+            Status::Successful(Action::CreateFile),
+            b"/a",
+            None,
+            b"",
+        ),
     ),
 ];
 
@@ -257,12 +335,15 @@ fn responses(rt: HostRuntime) {
 // Octets, and the value of the LV field at the front with what is after it, if it is whole.
 type Lv = (&'static [u8], Option<(&'static [u8], &'static [u8])>);
 
-static LVS: [Lv; 5] = [
-    (b"\x02ab\x00", Some((b"ab", b"\x00"))),
-    (b"\x00", Some((b"", b""))),
-    (b"", None),
-    (b"\x01", None),
-    (b"\xffabc", None),
+static LVS: [(&str, Lv); 5] = [
+    (
+        "two octets, and one after them",
+        (b"\x02ab\x00", Some((b"ab", b"\x00"))),
+    ),
+    ("no octets in it", (b"\x00", Some((b"", b"")))),
+    ("nothing", (b"", None)),
+    ("cut after its length", (b"\x01", None)),
+    ("shorter than its length", (b"\xffabc", None)),
 ];
 
 impl Row for Lv {
@@ -279,11 +360,14 @@ fn lv_fields(rt: HostRuntime) {
 // Octets, and the type and the value of the TLV field at the front with what is after it, if it is whole.
 type Tlv = (&'static [u8], Option<(u8, &'static [u8], &'static [u8])>);
 
-static TLVS: [Tlv; 4] = [
-    (b"\x06\x01\x02\x00", Some((6, b"\x02", b"\x00"))),
-    (b"", None),
-    (b"\x00", None),
-    (b"\x00\x03\x00\x01", None),
+static TLVS: [(&str, Tlv); 4] = [
+    (
+        "one octet, and one after it",
+        (b"\x06\x01\x02\x00", Some((6, b"\x02", b"\x00"))),
+    ),
+    ("nothing", (b"", None)),
+    ("cut after its type", (b"\x00", None)),
+    ("shorter than its length", (b"\x00\x03\x00\x01", None)),
 ];
 
 fn tlv_parts(octets: &[u8]) -> Option<(u8, &[u8], &[u8])> {
@@ -305,28 +389,61 @@ fn tlv_fields(rt: HostRuntime) {
 // What spells no request, and its fault.
 struct NoRequest(&'static [u8], TlvFault);
 
-static REQUEST_FAULTS: [NoRequest; 8] = [
-    NoRequest(b"", TlvFault::Truncated),
-    NoRequest(b"\x90\x01a", TlvFault::BadAction),
-    NoRequest(b"\x90", TlvFault::BadAction),
-    NoRequest(b"\x00", TlvFault::Truncated),
-    NoRequest(b"\x00\x02a", TlvFault::Truncated),
-    NoRequest(b"\x20\x01a", TlvFault::Truncated),
-    NoRequest(b"\x10\x01a\x00", TlvFault::Trailing),
-    NoRequest(b"\x20\x01a\x01b\x00", TlvFault::Trailing),
+static REQUEST_FAULTS: [(&str, NoRequest); 8] = [
+    ("nothing", NoRequest(b"", TlvFault::Truncated)),
+    (
+        "an action that does not exist",
+        NoRequest(b"\x90\x01a", TlvFault::BadAction),
+    ),
+    (
+        "such an action alone",
+        NoRequest(b"\x90", TlvFault::BadAction),
+    ),
+    ("an action alone", NoRequest(b"\x00", TlvFault::Truncated)),
+    (
+        "a name that is cut",
+        NoRequest(b"\x00\x02a", TlvFault::Truncated),
+    ),
+    (
+        "no second name",
+        NoRequest(b"\x20\x01a", TlvFault::Truncated),
+    ),
+    (
+        "an octet after the name",
+        NoRequest(b"\x10\x01a\x00", TlvFault::Trailing),
+    ),
+    (
+        "an octet after two names",
+        NoRequest(b"\x20\x01a\x01b\x00", TlvFault::Trailing),
+    ),
 ];
 
 // What spells no response, and its fault.
 struct NoResponse(&'static [u8], TlvFault);
 
-static RESPONSE_FAULTS: [NoResponse; 7] = [
-    NoResponse(b"", TlvFault::Truncated),
-    NoResponse(b"\x90\x01a\x00", TlvFault::BadAction),
-    NoResponse(b"\x02\x01a\x00", TlvFault::BadStatus),
-    NoResponse(b"\x71", TlvFault::BadStatus),
-    NoResponse(b"\x00\x01a", TlvFault::Truncated),
-    NoResponse(b"\x20\x01a\x01b", TlvFault::Truncated),
-    NoResponse(b"\x00\x01a\x00\x00", TlvFault::Trailing),
+static RESPONSE_FAULTS: [(&str, NoResponse); 7] = [
+    ("nothing", NoResponse(b"", TlvFault::Truncated)),
+    (
+        "an action that does not exist",
+        NoResponse(b"\x90\x01a\x00", TlvFault::BadAction),
+    ),
+    (
+        "a status that does not exist",
+        NoResponse(b"\x02\x01a\x00", TlvFault::BadStatus),
+    ),
+    (
+        "such a status alone",
+        NoResponse(b"\x71", TlvFault::BadStatus),
+    ),
+    ("no message", NoResponse(b"\x00\x01a", TlvFault::Truncated)),
+    (
+        "no message after two names",
+        NoResponse(b"\x20\x01a\x01b", TlvFault::Truncated),
+    ),
+    (
+        "an octet after the message",
+        NoResponse(b"\x00\x01a\x00\x00", TlvFault::Trailing),
+    ),
 ];
 
 impl Row for NoRequest {

@@ -9,17 +9,26 @@ use std::alloc::Global;
 /// and any octet but `/` and 0 may be in a name.
 type Family = (&'static [u8], &'static [u8]);
 
-static FAMILIES: [Family; 8] = [
-    (b"a", b"a|"),
-    (b"/a", b"a|"),
-    (b"...", b"...|"),
-    (b"\xff", b"\xff|"),
-    (b"/.a/a./..a", b".a|.a/a.|.a/a.|.a/a./..a|"),
-    (b" /\x01\x7f", b" | | /\x01\x7f|"),
-    (b"/d/x/y", b"d|d/x|d/x|d/x/y|"),
+static FAMILIES: [(&str, Family); 8] = [
+    ("one name", (b"a", b"a|")),
+    ("a / in front", (b"/a", b"a|")),
+    ("a name of dots", (b"...", b"...|")),
+    ("an octet above 127", (b"\xff", b"\xff|")),
     (
-        b"/1/2/3/4/5/6/7/8",
-        b"1|1/2|1/2/3|1/2/3/4|1/2/3/4/5|1/2/3/4/5/6|1/2/3/4/5/6/7|1/2/3/4/5/6/7|1/2/3/4/5/6/7/8|",
+        "dots in names",
+        (b"/.a/a./..a", b".a|.a/a.|.a/a.|.a/a./..a|"),
+    ),
+    (
+        "a space and control octets",
+        (b" /\x01\x7f", b" | | /\x01\x7f|"),
+    ),
+    ("three names after a /", (b"/d/x/y", b"d|d/x|d/x|d/x/y|")),
+    (
+        "eight names after a /",
+        (
+            b"/1/2/3/4/5/6/7/8",
+            b"1|1/2|1/2/3|1/2/3/4|1/2/3/4/5|1/2/3/4/5/6|1/2/3/4/5/6/7|1/2/3/4/5/6/7|1/2/3/4/5/6/7/8|",
+        ),
     ),
 ];
 
@@ -54,7 +63,11 @@ fn families(rt: HostRuntime) {
 /// How many of the first names of `d/x/y`, and the text of these.
 type Beginning = (usize, &'static [u8]);
 
-static BEGINNINGS: [Beginning; 3] = [(1, b"d"), (2, b"d/x"), (3, b"d/x/y")];
+static BEGINNINGS: [(&str, Beginning); 3] = [
+    ("one name", (1, b"d")),
+    ("two names", (2, b"d/x")),
+    ("three names", (3, b"d/x/y")),
+];
 
 /// The first names of a path, if it has this many.
 fn beginning(alloc: Global, path: &Path, depth: usize) -> Result<Option<Path>, Memory> {
@@ -92,11 +105,14 @@ fn beginnings(rt: HostRuntime) {
 /// A path, where it is moved from and to, and its text then.
 type Move = (&'static [u8], &'static [u8], &'static [u8], &'static [u8]);
 
-static MOVES: [Move; 4] = [
-    (b"d/x/y", b"d", b"e/f", b"e/f/x/y"),
-    (b"d/x/y/z", b"d/x", b"e", b"e/y/z"),
-    (b"d", b"d", b"e/f", b"e/f"),
-    (b"1/2/3/4/5/6/7", b"1", b"8/9", b"8/9/2/3/4/5/6/7"),
+static MOVES: [(&str, Move); 4] = [
+    ("to a longer path", (b"d/x/y", b"d", b"e/f", b"e/f/x/y")),
+    ("to a shorter path", (b"d/x/y/z", b"d/x", b"e", b"e/y/z")),
+    ("the path itself", (b"d", b"d", b"e/f", b"e/f")),
+    (
+        "to a path of eight names",
+        (b"1/2/3/4/5/6/7", b"1", b"8/9", b"8/9/2/3/4/5/6/7"),
+    ),
 ];
 
 /// A path, moved from one path to another, where it is there and has room.

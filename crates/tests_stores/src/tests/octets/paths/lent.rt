@@ -11,39 +11,63 @@ struct Lent {
     names: &'static [u8],
 }
 
-static LENT: [Lent; 8] = [
-    Lent {
-        octets: b"a",
-        names: b"a|",
-    },
-    Lent {
-        octets: b"/a",
-        names: b"a|",
-    },
-    Lent {
-        octets: b"...",
-        names: b"...|",
-    },
-    Lent {
-        octets: b"\xff",
-        names: b"\xff|",
-    },
-    Lent {
-        octets: b"d/x/y",
-        names: b"d|x|y|",
-    },
-    Lent {
-        octets: b"/d/x/y",
-        names: b"d|x|y|",
-    },
-    Lent {
-        octets: b"/.a/a./..a",
-        names: b".a|a.|..a|",
-    },
-    Lent {
-        octets: b"/1/2/3/4/5/6/7/8",
-        names: b"1|2|3|4|5|6|7|8|",
-    },
+static LENT: [(&str, Lent); 8] = [
+    (
+        "one name",
+        Lent {
+            octets: b"a",
+            names: b"a|",
+        },
+    ),
+    (
+        "a / in front",
+        Lent {
+            octets: b"/a",
+            names: b"a|",
+        },
+    ),
+    (
+        "a name of dots",
+        Lent {
+            octets: b"...",
+            names: b"...|",
+        },
+    ),
+    (
+        "an octet above 127",
+        Lent {
+            octets: b"\xff",
+            names: b"\xff|",
+        },
+    ),
+    (
+        "three names",
+        Lent {
+            octets: b"d/x/y",
+            names: b"d|x|y|",
+        },
+    ),
+    (
+        "three names after a /",
+        Lent {
+            octets: b"/d/x/y",
+            names: b"d|x|y|",
+        },
+    ),
+    (
+        "dots in names",
+        Lent {
+            octets: b"/.a/a./..a",
+            names: b".a|a.|..a|",
+        },
+    ),
+    (
+        "eight names after a /",
+        Lent {
+            octets: b"/1/2/3/4/5/6/7/8",
+            names: b"1|2|3|4|5|6|7|8|",
+        },
+    ),
 ];
 
 /// The names, with `|` after each.

@@ -29,12 +29,12 @@ fn is_shown(alloc: Global, map: &PathMap<usize>, want: &str) -> Result<bool, Mem
 /// A path, the value at it, how many entries are at and below it, and whether one is below it.
 type LookUp = (&'static [u8], Option<usize>, usize, bool);
 
-static LOOK_UPS: [LookUp; 5] = [
-    (b"d", Some(2), 3, true),
-    (b"d/x", Some(1), 2, true),
-    (b"d/x/y", Some(3), 1, false),
-    (b"d/y", None, 0, false),
-    (b"e", Some(4), 1, false),
+static LOOK_UPS: [(&str, LookUp); 5] = [
+    ("the top of a tree", (b"d", Some(2), 3, true)),
+    ("within a tree", (b"d/x", Some(1), 2, true)),
+    ("the end of a tree", (b"d/x/y", Some(3), 1, false)),
+    ("no entry, beside others", (b"d/y", None, 0, false)),
+    ("an entry alone", (b"e", Some(4), 1, false)),
 ];
 
 /// The map of which that is so.
@@ -70,7 +70,12 @@ fn at_beginning(map: &PathMap<usize>, path: &Path, depth: usize) -> Option<usize
 /// How many names of `d/x/y`, and the value at these in a map.
 type Beginning = (usize, Option<usize>);
 
-static BEGINNINGS: [Beginning; 4] = [(0, None), (1, Some(1)), (2, None), (3, Some(2))];
+static BEGINNINGS: [(&str, Beginning); 4] = [
+    ("no names", (0, None)),
+    ("one name", (1, Some(1))),
+    ("two names", (2, None)),
+    ("three names", (3, Some(2))),
+];
 
 /// The map of which that is so.
 static BEGUN: [&[u8]; 3] = [b"e", b"d", b"d/x/y"];
@@ -114,7 +119,10 @@ fn is_changed(alloc: Global) -> Result<bool, Memory> {
 
 #[test]
 fn changes(rt: HostRuntime) {
-    assert!(rt; is_changed(rt.alloc()) == Ok(true));
+    assert!(rt;
+        is_changed(rt.alloc()) == Ok(true),
+        "exchange, set and remove"
+    );
 }
 
 /// Whether one of the entries would have more than 8 names once it moved.
@@ -147,35 +155,43 @@ struct Move {
     want: &'static str,
 }
 
-static MOVES: [Move; 4] = [
-    // Where nothing exists.
-    Move {
-        paths: &[b"d0", b"d/x", b"d", b"d/x/y", b"b"],
-        from: b"d",
-        to: b"c",
-        want: "[(b, 4), (c, 2), (c/x, 1), (c/x/y, 3), (d0, 0)]",
-    },
-    // Onto another directory: what has the same path there is gone.
-    Move {
-        paths: &[b"d", b"d/x", b"e", b"e/x", b"e/z"],
-        from: b"d",
-        to: b"e",
-        want: "[(e, 0), (e/x, 1), (e/z, 4)]",
-    },
-    // Below itself.
-    Move {
-        paths: &[b"d", b"d/x"],
-        from: b"d",
-        to: b"d/x",
-        want: "[(d/x, 0), (d/x/x, 1)]",
-    },
-    // Where it has no room.
-    Move {
-        paths: &[b"1/2/3/4/5/6/7/8"],
-        from: b"1",
-        to: b"d/x",
-        want: "[(1/2/3/4/5/6/7/8, 0)]",
-    },
+static MOVES: [(&str, Move); 4] = [
+    (
+        "to where nothing exists",
+        Move {
+            paths: &[b"d0", b"d/x", b"d", b"d/x/y", b"b"],
+            from: b"d",
+            to: b"c",
+            want: "[(b, 4), (c, 2), (c/x, 1), (c/x/y, 3), (d0, 0)]",
+        },
+    ),
+    (
+        "onto another directory: what has the same path there is gone",
+        Move {
+            paths: &[b"d", b"d/x", b"e", b"e/x", b"e/z"],
+            from: b"d",
+            to: b"e",
+            want: "[(e, 0), (e/x, 1), (e/z, 4)]",
+        },
+    ),
+    (
+        "below itself",
+        Move {
+            paths: &[b"d", b"d/x"],
+            from: b"d",
+            to: b"d/x",
+            want: "[(d/x, 0), (d/x/x, 1)]",
+        },
+    ),
+    (
+        "to where it has no room",
+        Move {
+            paths: &[b"1/2/3/4/5/6/7/8"],
+            from: b"1",
+            to: b"d/x",
+            want: "[(1/2/3/4/5/6/7/8, 0)]",
+        },
+    ),
 ];
 
 impl Row for Move {
@@ -227,5 +243,8 @@ fn moved_crowd(alloc: Global) -> Result<(usize, usize, usize), Memory> {
 
 #[test]
 fn move_of_many(rt: HostRuntime) {
-    assert!(rt; moved_crowd(rt.alloc()) == Ok((0, 677, 679)));
+    assert!(rt;
+        moved_crowd(rt.alloc()) == Ok((0, 677, 679)),
+        "676 entries and their directory"
+    );
 }

@@ -6,7 +6,14 @@ use cfdp_paths::Memory;
 use std::alloc::Global;
 
 /// How many octets each of the two names has.
-static LENGTHS: [usize; 6] = [7, 8, 9, 15, 16, 17];
+static LENGTHS: [(&str, usize); 6] = [
+    ("7 octets", 7),
+    ("8 octets", 8),
+    ("9 octets", 9),
+    ("15 octets", 15),
+    ("16 octets", 16),
+    ("17 octets", 17),
+];
 
 /// An octet of the first name and one of the second, where all others are `m`: both greater, both less, and neither.
 static CHANGED: [(u8, u8); 3] = [(0xff, b'n'), (1, b'l'), (b'm', b'm')];
@@ -53,7 +60,7 @@ fn all_are_in_order(alloc: Global, length: usize, other: usize) -> Result<bool, 
 /// A length, beside each of the six.
 impl Row for usize {
     fn holds(&self, alloc: Global) -> Result<bool, Memory> {
-        for length in LENGTHS {
+        for (_, length) in LENGTHS {
             if !all_are_in_order(alloc, *self, length)? {
                 return Ok(false);
             }

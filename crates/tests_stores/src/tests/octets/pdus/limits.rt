@@ -51,7 +51,7 @@ fn metadata(alloc: Global, name_len: usize, has_requests: bool) -> Result<Writte
     let name = vec![in alloc; b'p'; name_len]?;
     let metadata = Metadata {
         closure: true,
-        checksum_type: 15,
+        checksum_type: checksum_type::NULL_CHECKSUM,
         size: u64::MAX,
         source_name: Vec::from_slice(alloc, &name)?,
         destination_name: name,
@@ -74,7 +74,7 @@ fn file_data(alloc: Global, len: usize) -> Result<Written, WriteFault> {
 }
 
 const LONGEST_EOF: Eof = Eof {
-    condition: 15,
+    condition: condition::CANCEL_REQUEST_RECEIVED,
     checksum: u32::MAX,
     size: u64::MAX,
 };
@@ -99,9 +99,9 @@ fn responses(alloc: Global) -> Result<Vec<FilestoreResponse>, AllocError> {
 // A Finished PDU with 64 responses.
 fn finished(alloc: Global) -> Result<Written, WriteFault> {
     let finished = Finished {
-        condition: 15,
+        condition: condition::CANCEL_REQUEST_RECEIVED,
         incomplete: true,
-        file_status: 3,
+        file_status: file_status::UNREPORTED,
         responses: responses(alloc)?,
         fault: Some(2),
     };
@@ -140,14 +140,32 @@ fn are_read_as(alloc: Global, octets: &[u8], pdu: &Pdu) -> Result<bool, AllocErr
 // A PDU, and in how many octets it is written and read back, or the fault.
 type Length = (Longest, Result<usize, WriteFault>);
 
-static LENGTHS: [Length; 7] = [
-    (Longest::Metadata(255, false), Ok(550)),
-    (Longest::Metadata(256, false), Err(WriteFault::TooLong)),
-    (Longest::Metadata(255, true), Ok(16_934)),
-    (Longest::FileData(65_527), Ok(65_563)),
-    (Longest::FileData(65_528), Err(WriteFault::TooLong)),
-    (Longest::Eof, Ok(52)),
-    (Longest::Finished, Ok(13_352)),
+static LENGTHS: [(&str, Length); 7] = [
+    (
+        "Metadata with names of 255 octets",
+        (Longest::Metadata(255, false), Ok(550)),
+    ),
+    (
+        "Metadata with names of 256 octets",
+        (Longest::Metadata(256, false), Err(WriteFault::TooLong)),
+    ),
+    (
+        "Metadata with names of 255 octets and 64 requests",
+        (Longest::Metadata(255, true), Ok(16_934)),
+    ),
+    (
+        "File Data of 65,527 octets",
+        (Longest::FileData(65_527), Ok(65_563)),
+    ),
+    (
+        "File Data of 65,528 octets",
+        (Longest::FileData(65_528), Err(WriteFault::TooLong)),
+    ),
+    ("EOF", (Longest::Eof, Ok(52))),
+    (
+        "Finished with 64 responses",
+        (Longest::Finished, Ok(13_352)),
+    ),
 ];
 
 impl Row for Length {

@@ -59,7 +59,7 @@ fn is_rewritten_at_last(alloc: Global, example: &str) -> Result<bool, WriteFault
 }
 
 #[test]
-fn as_they_stand(rt: HostRuntime) {
+fn as_they_are(rt: HostRuntime) {
     for example in &WRITTEN {
         assert!(rt;
             is_rewritten_at_last(rt.alloc(), example) == Ok(true),

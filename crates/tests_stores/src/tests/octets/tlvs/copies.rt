@@ -38,6 +38,6 @@ fn copies(rt: HostRuntime) -> Result<(), AllocError> {
         Err(AllocError) => is_made(rt.alloc())?,
         answer => answer?,
     };
-    assert!(rt; is_made);
+    assert!(rt; is_made, "a copy, or an answer");
     Ok(())
 }

@@ -38,10 +38,16 @@ fn response_len(alloc: Global, response: &FilestoreResponse) -> Result<usize, Tl
 // How many octets the name has, and how many the request and the response.
 type Lens = (usize, Result<usize, TlvFault>, Result<usize, TlvFault>);
 
-static LENS: [Lens; 3] = [
-    (252, Ok(256), Ok(257)),
-    (253, Ok(257), Err(TlvFault::TooLong)),
-    (254, Err(TlvFault::TooLong), Err(TlvFault::TooLong)),
+static LENS: [(&str, Lens); 3] = [
+    ("a name of 252 octets", (252, Ok(256), Ok(257))),
+    (
+        "a name of 253 octets",
+        (253, Ok(257), Err(TlvFault::TooLong)),
+    ),
+    (
+        "a name of 254 octets",
+        (254, Err(TlvFault::TooLong), Err(TlvFault::TooLong)),
+    ),
 ];
 
 impl Row for Lens {
@@ -75,6 +81,6 @@ fn response_reads_back(alloc: Global) -> Result<bool, AllocError> {
 
 #[test]
 fn longest_values_read_back(rt: HostRuntime) {
-    assert!(rt; request_reads_back(rt.alloc()) == Ok(true));
-    assert!(rt; response_reads_back(rt.alloc()) == Ok(true));
+    assert!(rt; request_reads_back(rt.alloc()) == Ok(true), "a request");
+    assert!(rt; response_reads_back(rt.alloc()) == Ok(true), "a response");
 }
