@@ -26,17 +26,20 @@
  * path (those of the requests and of the destination, and each directory above one of them), twice the octets of
  * these paths, and twice those of the names in the Metadata PDU. That is at most 600000 octets for a transaction.
  * While cfdp_receive judges a Metadata PDU with more than 64 filestore requests it also takes, and gives back, 40
- * octets for each of them.
+ * octets for each of them. A list that changes directories with entries and names what is in them may take more than
+ * this sum until it is judged: up to 890000 octets were counted.
  * After the last cfdp_take nothing is kept but what cfdp_new took, and a table that grows once, by 57032 octets,
  * where many transactions come and go with more than 32 known at once. examples/c/memory.c counts it.
  *
- * THE LONGEST CALLS on a full filestore of 65536 blocks take, in millions of instructions: cfdp_receive 7.0 (Metadata:
- * 63 renames of a directory of 60000 entries, and a request that names something in it), 3.2 (Metadata: 32 renames in
- * the last of seven directories, each in the one before it, and 32 of the first one), 3.0 (File Data at the end of a
- * file of 7.8 MB of which nothing came) and 2.5 (Metadata: 64 renames of a directory of 65000 entries); cfdp_free 15
- * (64 lists of long paths are live), cfdp_step 10.5 (an append of 3.9 MB), cfdp_put 8.1 (a file of 7.8 MB), cfdp_read
- * 2.7 (7.8 MB), cfdp_new 1.6, cfdp_cancel 0.9 (a list of 64 long paths), and as much each call by which such a list
- * ends. Each other call takes less than 0.1. docs/C.md has the longest case of each.
+ * THE LONGEST CALLS that we know on a full filestore of 65536 blocks take, in millions of instructions: cfdp_receive
+ * 324 (Metadata: 64 renames of and in two directories that hold the same 124 chains of directories), 18 (Metadata: a
+ * rename of the first of seven directories, each in the one before it, with 60000 files in the last one, and a request
+ * that names one of these), 7.0 (Metadata: 63 renames of a directory of 60000 entries, and a request that names
+ * something in it), 6.4 (Metadata: 64 renames of long paths, beside 63 such lists) and 3.0 (File Data at the end of a
+ * file of 7.8 MB of which nothing came); cfdp_free 27 (64 lists of such renames are live), cfdp_step 10.5 (an append of
+ * 3.9 MB), cfdp_put 8.1 (a file of 7.8 MB), cfdp_read 2.7 (7.8 MB), cfdp_cancel 1.6 (a list of such renames), and as
+ * much each call by which such a list ends, cfdp_new 1.6, and cfdp_reply_text 0.24 (the longest Finished PDU). Each
+ * other call takes less than 0.1. docs/C.md has the longest case of each.
  *
  * NAMES begin with cfdp_ or CFDP_, and those of an enumeration say which one. Other CFDP packages use some of the
  * short names that came before, such as CFDP_DONE. They are macros at the end of this header until version 0.2.0;
@@ -206,8 +209,9 @@ enum cfdp_answer cfdp_free(struct cfdp_engine *engine);
  * CFDP_ANSWER_NOT_OURS, or the first fault that the octets have (CFDP_ANSWER_TRUNCATED to
  * CFDP_ANSWER_REQUEST_TOO_LONG); CFDP_ANSWER_NO_MEMORY for a Metadata PDU alone. The octets are not kept. Cost: one
  * pass over them, and that of the event: of File Data and of an EOF PDU as docs/CONFORMANCE.md says; of a Metadata
- * PDU the paths of its requests, a few searches among the leased paths for each, and a walk over what is in a
- * directory that a request renames (see THE LONGEST CALLS). */
+ * PDU the paths of its requests, a few searches among the leased paths for each, and for a directory with entries that
+ * its list changes a comparison with each path that it names, and walks over what is there if a request renames it (see
+ * THE LONGEST CALLS). */
 enum cfdp_answer cfdp_receive(struct cfdp_engine *engine, const uint8_t *octets, size_t length,
                               struct cfdp_reply *reply);
 

@@ -18,8 +18,8 @@
  * THE LONGEST CALLS are those of the engine for the same event (cfdp.h): cfdp_receiver_receive is as long as
  * cfdp_receive, cfdp_receiver_work as cfdp_step, cfdp_receiver_cancel as cfdp_cancel, cfdp_receiver_read as cfdp_read,
  * and cfdp_receiver_free as cfdp_free. What a receiver adds is less than 10000 instructions, beside 63 other
- * transactions too, but for a Finished PDU with 64 of the longest paths: cfdp_receiver_finish takes 100000 then, and
- * cfdp_receiver_write 260000 with a CRC. docs/C.md has the longest case of each. */
+ * transactions too, but for a Finished PDU of 64 renames of long paths: cfdp_receiver_finish takes 240000 then, and
+ * cfdp_receiver_write 250000 with a CRC. docs/C.md has the longest case of each. */
 #ifndef CFDP_RECEIVER_H
 #define CFDP_RECEIVER_H
 

@@ -670,6 +670,7 @@ static const struct workload workloads[] = {
     {"free-live", 1, LIVE, LIVE, RISING, prepare_live, free_engine, check_gone},
     /* the size: requests of a list */
     {"nested-directories", 1, LIST, LIST, RISING, prepare_nest, admit, check_nothing},
+    {"swapped-chains", 4, LIST, LIST, RISING, prepare_chains, admit, check_nothing},
     /* the size: other transactions of a receiver */
     {"receiver-metadata", 1, LIVE, LIVE, RISING, prepare_heard_metadata, hear_one, check_receiver},
     {"receiver-data", 1, LIVE, LIVE, RISING, prepare_heard_data, hear_one, check_receiver},

@@ -17,7 +17,7 @@ enum {
     MOST_PIECES = 7800,
     MOST_COPIED = 3900, /* pieces of a file that fits in the filestore twice */
     DEPTH = 8,          /* names of the longest paths */
-    LONG_NAME = 30,     /* octets of such a name */
+    LONG_NAME = 14,     /* octets of such a name */
     SMALL_PIECE = 10,   /* octets of a file in a small PDU */
     SMALL_PIECES = PAYLOAD / SMALL_PIECE,
     HEADER = 7,         /* octets of the header of a PDU */

@@ -4,24 +4,58 @@
 
 #include "bench.h"
 
-/* The Metadata PDU of a list that denies 64 files, whose paths have eight names of 30 octets that no other path has. */
+/* A path of eight names of a transaction, of which no other list or request has one: the source of a rename, or its
+ * destination. */
+static void spell_long(struct cfdp_path *path, char which, uint32_t number, uint32_t request) {
+    char *octets = (char *)path->octets;
+    path->length = 0;
+    for (int level = 0; level < DEPTH; level++) {
+        if (level) octets[path->length++] = '/';
+        int begun = sprintf(octets + path->length, "%c%02u%02u", which, (unsigned)number, (unsigned)request);
+        memset(octets + path->length + begun, 'x', LONG_NAME - (size_t)begun);
+        path->length += LONG_NAME;
+    }
+}
+
+/* The directories above a path exist, and a file at it where it is a source. */
+static void put_long(char which, uint32_t number, uint32_t request) {
+    struct cfdp_path path;
+    spell_long(&path, which, number, request);
+    uint32_t whole = path.length;
+    for (uint32_t end = LONG_NAME; end < whole; end += LONG_NAME + 1) {
+        path.length = end;
+        if (cfdp_put(&engine, &path, CFDP_ENTRY_DIRECTORY, copy, 0) != CFDP_ANSWER_DONE) fail("no directory");
+    }
+    path.length = whole;
+    if (which == 'a' && cfdp_put(&engine, &path, CFDP_ENTRY_FILE, copy, 0) != CFDP_ANSWER_DONE) fail("no file");
+}
+
+/* What the lists of this many other transactions name, and of one more. */
+static void make_long_paths(uint32_t others) {
+    make_engine(BLOCKS);
+    for (uint32_t i = 0; i <= others; i++)
+        for (uint32_t request = 0; request < LIST; request++) {
+            put_long('a', i < others ? FIRST_OTHER + i : LIST_NUMBER, request);
+            put_long('b', i < others ? FIRST_OTHER + i : LIST_NUMBER, request);
+        }
+}
+
+/* The Metadata PDU of a list that renames 64 files, each into another directory. */
 static void make_long_list(uint32_t number) {
     make_metadata(number, 0, "");
     for (uint32_t request = 0; request < LIST; request++) {
-        char path[DEPTH * (LONG_NAME + 1) + 1], *at = path;
-        for (int level = 0; level < DEPTH; level++) {
-            at += sprintf(at, "%s%02u%02u", level ? "/" : "", (unsigned)number, (unsigned)request);
-            memset(at, 'x', LONG_NAME - 4);
-            at += LONG_NAME - 4;
-        }
-        *at = 0;
-        add_request(DENY_FILE, path, NULL);
+        struct cfdp_path from, to;
+        spell_long(&from, 'a', number, request);
+        spell_long(&to, 'b', number, request);
+        from.octets[from.length] = 0;
+        to.octets[to.length] = 0;
+        add_request(RENAME, (const char *)from.octets, (const char *)to.octets);
     }
 }
 
 /* Such lists of other transactions, and one more. */
 static void prepare_long(uint32_t others) {
-    make_engine(BLOCKS);
+    make_long_paths(others);
     for (uint32_t i = 0; i < others; i++) {
         make_long_list(FIRST_OTHER + i);
         receive(CFDP_ADMITTED);
@@ -95,6 +129,63 @@ static void prepare_nest(uint32_t requests) {
         } else {
             add_request(RENAME, (char[]){now, 0}, (char[]){names[(turn + 1) % 2], 0});
         }
+    }
+}
+
+/* Directories in a chain, and octets of a name and of a path. */
+enum { CHAIN = 6, TOP_NAME = 96, TEXT = TOP_NAME + 64 };
+
+/* The path of a directory or file in a chain of directories, which is in a directory with a long name: `top` is the
+ * last letter of that. */
+static void spell_chain(char text[TEXT], char top, uint32_t chain, int directories, const char *file) {
+    memset(text, 'x', TOP_NAME - 1);
+    char *at = text + TOP_NAME - 1;
+    *at++ = top;
+    *at = 0;
+    if (directories) at += sprintf(at, "/zzzzzzzzzzzzzz%c", (char)('0' + chain));
+    for (int i = 1; i < directories; i++) at += sprintf(at, "/0");
+    strcpy(at, file);
+}
+
+static void put_text(const char *text, enum cfdp_entry_kind kind) {
+    struct cfdp_path path;
+    if (cfdp_path_of(&path, text) != CFDP_ANSWER_DONE || cfdp_put(&engine, &path, kind, copy, 0) != CFDP_ANSWER_DONE)
+        fail("not put");
+}
+
+/* Two directories with the same chains of directories, each of which has a file too. A list moves the second one to
+ * where the first one was, and renames a file of each second chain there into the next chain. So each of its paths
+ * exists in both, before it. */
+static void prepare_chains(uint32_t requests) {
+    char text[TEXT], other[TEXT];
+    uint32_t chains = 2 * (requests - 2);
+    make_engine(BLOCKS);
+    for (char top = 'a'; top <= 'b'; top++) {
+        spell_chain(text, top, 0, 0, "");
+        put_text(text, CFDP_ENTRY_DIRECTORY);
+        spell_chain(text, top, 0, 0, "/~~");
+        put_text(text, CFDP_ENTRY_FILE);
+        for (uint32_t chain = 0; chain < chains; chain++) {
+            for (int directories = 1; directories <= CHAIN; directories++) {
+                spell_chain(text, top, chain, directories, "");
+                put_text(text, CFDP_ENTRY_DIRECTORY);
+                spell_chain(text, top, chain, directories, "/zz");
+                put_text(text, CFDP_ENTRY_FILE);
+            }
+            spell_chain(text, top, chain, CHAIN, "/y");
+            if (top == 'b' && chain % 2 == 0) put_text(text, CFDP_ENTRY_FILE);
+        }
+    }
+    make_metadata(LIST_NUMBER, 0, "");
+    for (const char *tops = "atba"; *tops; tops += 2) {
+        spell_chain(text, tops[0], 0, 0, "");
+        spell_chain(other, tops[1], 0, 0, "");
+        add_request(RENAME, text, other);
+    }
+    for (uint32_t chain = 0; chain < chains; chain += 2) {
+        spell_chain(text, 'a', chain, CHAIN, "/y");
+        spell_chain(other, 'a', chain + 1, CHAIN, "/y");
+        add_request(RENAME, text, other);
     }
 }
 

@@ -1,5 +1,5 @@
 /* The workloads with a receiver, for bench.c, which includes this after what they use of it. Their size is the number
- * of other transactions: each has a list of 64 of the longest paths, and waits for its EOF PDU. */
+ * of other transactions: each has a list of 64 renames of long paths, and waits for its EOF PDU. */
 #ifndef BENCH_RECEIVER_H
 #define BENCH_RECEIVER_H
 
@@ -47,7 +47,7 @@ static void make_receiver(void) {
 }
 
 static void make_others(uint32_t others) {
-    make_engine(BLOCKS);
+    make_long_paths(others);
     make_receiver();
     for (uint32_t i = 0; i < others; i++) {
         make_long_list(FIRST_OTHER + i);
@@ -104,7 +104,7 @@ static uint32_t ask_deadline(uint32_t others) {
     return 1;
 }
 
-/* A list of 64 of the longest paths is complete. */
+/* A list of 64 renames of long paths is complete. */
 static void prepare_work(uint32_t others) {
     prepare_heard_metadata(others);
     hear(CFDP_BECAME_REPLIED);
@@ -160,7 +160,7 @@ static uint32_t hear_ack(uint32_t others) {
     return 1;
 }
 
-/* A list of 64 of the longest paths waits for its EOF PDU. */
+/* A list of 64 renames of long paths waits for its EOF PDU. */
 static void prepare_receiver_cancel(uint32_t others) {
     prepare_heard_metadata(others);
     hear(CFDP_BECAME_REPLIED);

@@ -1,5 +1,5 @@
 /* A directory of 500 files over pool.c, as in months of service: each transaction renames the directory and creates one
- * more file in it, so each is judged with one entry more than the one before.
+ * more file in it.
  *   months TRANSACTIONS
  * It ends with 1 where one of them is not admitted and performed, or where memory is not given back. In the end it
  * writes how much of the region was used. */

@@ -24,10 +24,10 @@
  * items are added, and the octets of its Finished PDU are in one. A path that several lists share has a list of these:
  * of 288 octets for up to 8, of 1104 for up to 32, and else of 4368.
  *
- * ITS LIMITS. No list names a directory that has entries: while such a list is judged, each of its paths takes some
- * blocks of 64 or 288 octets more, and all of them together one of the larger sizes (months.c has lists of this kind).
- * The numbers are what the library keeps, and were counted; no clause says them. This program
- * holds them against its runs, in which a request at paths of several names has one path. */
+ * ITS LIMITS. No list names a directory that has entries: while such a list is judged, each of its paths, and each
+ * directory above one, takes some blocks of 64 or 288 octets more, and all of them together some of the larger sizes
+ * (months.c has small lists of this kind). The numbers are what the library keeps, and were counted; no clause says
+ * them. This program holds them against its runs, in which a request at paths of several names has one path. */
 #include "../../include/cfdp_receiver.h"
 #include "pool.h"
 #include <inttypes.h>

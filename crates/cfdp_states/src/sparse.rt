@@ -22,7 +22,8 @@ use std::alloc::Global;
 const MOST_BLOCKS: u128 = 65_536;
 
 /// A view of what a list of items sees: of each directory whose entries the list does not name it has one entry
-/// instead of them. So what it costs grows with the list, and not with the entries of a directory.
+/// instead of them. So what it costs grows with the list, at most with its square, and not with the entries of a
+/// directory.
 ///
 /// Such a view says how that list goes when it runs alone (CCSDS 727.0-B-5, filestore procedures), as a [`View`] does.
 #[derive(Drop)]
@@ -42,8 +43,9 @@ impl<'a> SparseView<'a> {
     ///
     /// Cost: for each named path, at the time of its item, a copy of its path for each rename before that item. For
     /// each of these paths, and each of their ancestors, a `kind` and a `has_entries`, and a `size` where that is a
-    /// file; for a directory with entries that is leased exclusively a `has_beside` and a few allocations for each
-    /// named path, and where one of the requests moves it a `deepest_beside`.
+    /// file, and an insertion into what the view has; for a directory with entries that is leased exclusively some
+    /// comparisons with each of these paths, a `has_beside`, and where one of the requests moves it a
+    /// `deepest_beside`.
     pub fn of<S: Filestore>(
         alloc: Global,
         store: &S,

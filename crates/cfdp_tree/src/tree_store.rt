@@ -51,8 +51,8 @@ use std::marker::Model;
 /// came and are read. `deepest` and `standing` go through what is at and below the path, and `listing` through
 /// everything but the octets, in time linear in it; they sort nothing. `has_beside` looks at the entries of the
 /// directory that are among the others and at one more, and `deepest_beside` goes through all that is below the path.
-/// Where the others are in path order, they compare each of them at most 2 and 9 times; else `has_beside` may compare
-/// each entry that it looks at with each of them. `next_entry` compares at most 45 names in each directory on the way,
+/// Where the others are in path order, they compare each of them at most 2 and 9 times; else both may compare each
+/// entry that is left out with each of them. `next_entry` compares at most 45 names in each directory on the way,
 /// and looks its names up in the orders, not in the index.
 #[derive(Drop)]
 pub struct TreeStore {
