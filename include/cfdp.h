@@ -27,7 +27,7 @@
  * these paths, and twice those of the names in the Metadata PDU. That is at most 600000 octets for a transaction.
  * While cfdp_receive judges a Metadata PDU with more than 64 filestore requests it also takes, and gives back, 40
  * octets for each of them. A list that changes directories with entries and names what is in them may take more than
- * this sum until it is judged: up to 890000 octets were counted.
+ * this sum until it is judged: 890000 octets were counted for one, and no bound of it is known.
  * After the last cfdp_take nothing is kept but what cfdp_new took, and a table that grows once, by 57032 octets,
  * where many transactions come and go with more than 32 known at once. examples/c/memory.c counts it.
  *
