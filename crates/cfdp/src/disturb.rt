@@ -4,6 +4,7 @@ use crate::end::End;
 use crate::input::unread;
 use crate::show::print;
 use cfdp_disturb::{Copies, Draw, Link, is_pdu_line};
+use cfdp_lines::{INPUT_LIMIT, LINE_LIMIT};
 use rand_core::utils::NextWord;
 use rand_pcg::Pcg32;
 use std::alloc::Global;
@@ -21,12 +22,6 @@ pub struct Odds {
 
 /// The stream of PCG32 from which is drawn.
 const STREAM: u64 = 54;
-
-/// The most octets that a line has.
-const LINE_LIMIT: usize = 200_000;
-
-/// The most octets that a script has.
-const INPUT_LIMIT: u64 = 268_435_456;
 
 /// How many octets are read at once, and held back at most before they are written, a line apart.
 const PIECE: usize = 65_536;
@@ -153,7 +148,7 @@ fn take_all<R: AllocGlobal + Print, I: Read + Drop>(
     let mut input = input;
     let mut room = vec![in alloc; 0_u8; PIECE]?;
     let mut total = 0_u64;
-    for _ in 0..=INPUT_LIMIT {
+    for _ in 0..=INPUT_LIMIT as u64 {
         let count = match input.read(&mut room) {
             Ok(count) => count,
             Err(error) => return Err(unread(alloc, script.name, &error)),
@@ -162,7 +157,7 @@ fn take_all<R: AllocGlobal + Print, I: Read + Drop>(
             break;
         }
         total = total.saturating_add(count as u64);
-        if total > INPUT_LIMIT {
+        if total > INPUT_LIMIT as u64 {
             return Err(End::file(alloc, script.name, "longer than 268435456 octets"));
         }
         script.take(rt, room.get(..count).unwrap_or(&[]))?;

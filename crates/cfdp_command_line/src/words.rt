@@ -2,12 +2,13 @@
 ghost use Rattle.std.specs.Prelude.{◌≡◌, ◌≢◌, ◌⊎◌, ℕ, List, [], ◌∷◌, map, true, false, codes, unwrap_or, OnOk, IfOk, IfErr, Err};
 ghost use Rattle.clap.specs.Words.{all_of, app_of, fault_of, found_of, kind_of, rows_of, shape_of, subcommand_of, subcommand_rows_of, takes};
 ghost use Rattle.clap.specs.declared.error.kind.ErrorKind.TheVariants as kind;
-ghost use Rattle.cfdp_lines.specs.declared.faults.ProgramEnd.TheVariants.{Usage, Run};
+ghost use Rattle.cfdp_ends.specs.declared.program_end.ProgramEnd.TheVariants.{Usage, Run};
 ghost use Rattle.cfdp_lines.specs.declared.faults.RunFault.TheVariants.{Memory};
 ghost use Rattle.cfdp_command_line.specs.Words.{IsAsked, links_shape, program, replay_shape};
 ghost use Rattle.cfdp_command_line.specs.code.Words.{has_globals};
 
-use cfdp_lines::{ProgramEnd, RunFault};
+use cfdp_ends::ProgramEnd;
+use cfdp_lines::RunFault;
 use clap::error::ErrorKind;
 use clap::{Arg, ArgMatches, Command, Error};
 use std::alloc::{AllocError, Global};

@@ -1,5 +1,5 @@
 pub mod Answers
-pub mod Ends
+pub mod FaultTexts
 pub mod Hexadecimal
 pub mod Lines
 pub mod Outcome

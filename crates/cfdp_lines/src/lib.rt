@@ -1,8 +1,8 @@
 //! Scripts in lines: each line is answered by itself, in order, and the answers are written.
 //!
 //! Octets are read some ten thousand at a time. Answers are held back: they are written when 64 KiB of them are full,
-//! before each read of input, and at the end. What a line does is a [`Script`]'s to say; how a run, and the program
-//! round it, can end is said here. So are the words of a line, and the numbers and octets that they spell.
+//! before each read of input, and at the end. What a line does is a [`Script`]'s to say; why a run can stop before its
+//! end is said here. So are the words of a line, and the numbers and octets that they spell.
 #![tactic(auto)]
 
 mod digits;
@@ -14,7 +14,8 @@ mod session;
 mod whole_run;
 mod words;
 
-pub use faults::{LinkFault, ProgramEnd, RunFault};
+pub use fault_lines::{LinkLine, RunLine};
+pub use faults::{LinkFault, RunFault};
 pub use hexadecimal::{decode_line, decode_within, decode_words};
 pub use script::{LineFault, Script};
 pub use session::{COMMENT, LINE_LIMIT, NEWLINE};

@@ -6,7 +6,7 @@ pub use Rattle.cfdp_links.specs.Links
 pub use Rattle.cfdp_commands.specs.Plain
 pub use Rattle.cfdp_commands.specs.Replay
 pub use Rattle.cfdp_commands.specs.RequestLines
-pub use Rattle.cfdp_lines.specs.Ends
+pub use Rattle.cfdp_ends.specs.Ends
 pub use Rattle.cfdp_lines.specs.Lines
 pub use Rattle.cfdp_lines.specs.Outcome
 pub use Rattle.cfdp_lines.specs.Report

@@ -12,7 +12,8 @@ mod link_scripts;
 mod plain_scripts;
 mod replay_scripts;
 
-pub use cfdp_lines::{INPUT_LIMIT, LinkFault, ProgramEnd, RunFault};
+pub use cfdp_ends::ProgramEnd;
+pub use cfdp_lines::{INPUT_LIMIT, LinkFault, RunFault};
 pub use cfdp_streams::{Failed, FromRead, ScriptIn, ScriptOut, ToWrite};
 pub use link_scripts::{Open, links};
 pub use plain_scripts::{plain, plain_text};

@@ -1,14 +1,14 @@
--- How a run and the program end.
+-- How the program `cfdpsim` ends.
 --
 --   exit_status             the exit status of an end
 use Rattle.std.specs.Prelude.{ℕ}
 use Rattle.cfdp_lines.specs.declared.faults.RunFault.TheVariants.{Read, Write, Memory, BadLine}
-use Rattle.cfdp_lines.specs.declared.faults.ProgramEnd.{ProgramEnd}
-use Rattle.cfdp_lines.specs.declared.faults.ProgramEnd.TheVariants.{Fine, Usage, Run, Link}
+use Rattle.cfdp_ends.specs.declared.program_end.ProgramEnd.{ProgramEnd}
+use Rattle.cfdp_ends.specs.declared.program_end.ProgramEnd.TheVariants.{Fine, Usage, Run, Link}
 use Rattle.cfdp_lines.specs.declared.faults.LinkFault.TheVariants as link
 
--- the exit status: 0 fine, 1 what reads, writes or remembers failed, or the journal is full or not what the seats were
--- reported, 2 unknown words, 3 a bad line
+-- 0: the whole input was run; 1: a read, a write or memory failed, the journal is full, or the receipts differ;
+-- 2: unknown words; 3: a bad line
 abbrev pub exit_status : ProgramEnd → ℕ
 exit_status Fine = 0
 exit_status Usage = 2

@@ -1,12 +1,9 @@
--- What only the proofs of the code need of `Ends`.
+-- The texts of faults.
 --   run_line, link_line     the text of a fault of a run, and of a run of `links`
---   end_line                the line on standard error, without its newline; empty where there is none
-use Rattle.std.specs.Prelude.{ℕ, List, [], ◌++◌, codes, decimal}
+use Rattle.std.specs.Prelude.{ℕ, List, ◌++◌, codes, decimal}
 use Rattle.cfdp_lines.specs.declared.faults.RunFault.{RunFault}
 use Rattle.cfdp_lines.specs.declared.faults.RunFault.TheVariants.{Read, Write, Memory, BadLine}
 use Rattle.cfdp_lines.specs.declared.faults.LinkFault.{LinkFault}
-use Rattle.cfdp_lines.specs.declared.faults.ProgramEnd.{ProgramEnd}
-use Rattle.cfdp_lines.specs.declared.faults.ProgramEnd.TheVariants.{Fine, Usage, Run, Link}
 use Rattle.cfdp_lines.specs.declared.faults.LinkFault.TheVariants as link
 
 -- lines count from 1
@@ -22,9 +19,3 @@ link_line link.Memory = codes "out of memory"
 link_line (link.BadLine file line) = codes "line " ++ decimal line
 link_line link.JournalFull = codes "journal full"
 link_line link.ReceiptsDiffer = codes "receipts differ"
-
-abbrev pub end_line : ProgramEnd → List ℕ
-end_line Fine = []
-end_line Usage = codes "cfdpsim: usage"
-end_line (Run fault) = codes "cfdpsim: " ++ run_line fault
-end_line (Link fault) = codes "cfdpsim: " ++ link_line fault

@@ -1,0 +1,2 @@
+-- What only the proofs of the code need: no clause of a public function cites it.
+pub mod Ends
