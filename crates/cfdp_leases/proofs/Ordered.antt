@@ -2,13 +2,13 @@
 --     same_set_from, same_set-append, same_set-there, same_set-insert      lists of the same paths
 --     searchable                   how the paths of an ordered list compare with one path never falls
 --     sorted-insert                a path is put at its index
---     found_there                  a path that is found is there
+--     found_there, searched        a path that is found is there;  whether one is found
 use Rattle.std.proofs.Common.{◌≡◌, ◌≢◌, length-take, refl, sym, ◌∙◌, ap, subst, ℕ, zero, suc, ◌<◌, ◌≤◌, ◌==◌, Bool, true, false, ◌||◌, inl, inr, List, [], ◌∷◌, ◌++◌, length, take, drop, get_or, arith, append_assoc, take-append-drop, ◌+◌, map, Option, Some, Result, Ok, Err}
-use Rattle.std.specs.Prelude.{flat_map, OnOk}
+use Rattle.std.specs.Prelude.{flat_map, is_ok, OnOk}
 use Rattle.std.proofs.lemmas.Grind.{flat_map-append}
 use Rattle.std.proofs.lemmas.List.{take_more, map-append, append-nil}
 use Rattle.std.specs.List.{list_any, AllByRecursion, AllWithin, HoldsAt, insert}
-use Rattle.std.specs.List.Sorted.{IsStrictlySortedBy, IsNonDecreasingBy}
+use Rattle.std.specs.List.Sorted.{IsStrictlySortedBy, IsNonDecreasingBy, IsSearchInRange, IsBinarySearchResult}
 use Rattle.std.specs.FinSet as set
 use Rattle.std.specs.declared.alloc.AllocError.{AllocError}
 use Rattle.std.specs.Ordering.{ordering_index, ordering_reverse, is_eq}
@@ -113,6 +113,25 @@ pub found_there : (xs : List Path) (t : Path) (k : ℕ) → k < length xs → Ho
 found_there [] t k within at = absurd (omega arith)
 found_there (x ∷ xs) t zero within at = or_left (same_path t x) (list_any (same_path t) xs) (ap is_eq (turned x t Equal (at t)))
 found_there (x ∷ xs) t (suc k) within at = or_right (same_path t x) (list_any (same_path t) xs) (found_there xs t k (omega arith) at)
+
+here : (xs : List Path) (t : Path) (k : ℕ) → k < length xs → HoldsAt (λ y. path_cmp y t ≡ Equal) xs k → list_any (λ held. same_path held t) xs ≡ true
+here [] t k within at = absurd (omega arith)
+here (x ∷ xs) t zero within at = or_left (same_path x t) (list_any (λ held. same_path held t) xs) (ap is_eq (at t))
+here (x ∷ xs) t (suc k) within at = or_right (same_path x t) (list_any (λ held. same_path held t) xs) (here xs t k (omega arith) at)
+
+nowhere : (xs : List Path) (t : Path) (i : ℕ) → AllWithin (λ y. path_cmp y t ≡ Less) xs 0 i → AllWithin (λ y. path_cmp y t ≡ Greater) xs i (length xs) →
+    list_any (λ held. same_path held t) xs ≡ false
+nowhere [] t i low high = refl
+nowhere (x ∷ xs) t zero low high = λ j. is_eq (high zero x (omega arith) (omega arith) j)
+    || nowhere xs t zero (λ k d above below. absurd (omega arith)) (λ k d above below. high (suc k) d (omega arith) (omega arith)) j
+nowhere (x ∷ xs) t (suc i) low high = λ j. is_eq (low zero x (omega arith) (omega arith) j)
+    || nowhere xs t i (λ k d above below. low (suc k) d (omega arith) (omega arith)) (λ k d above below. high (suc k) d (omega arith) (omega arith)) j
+
+-- what a binary search says
+pub searched : (xs : List Path) (t : Path) (r : Result ℕ ℕ) → IsStrictlySortedBy path_cmp xs → IsSearchInRange r (length xs) →
+    IsBinarySearchResult (λ y. path_cmp y t) xs r → is_ok r ≡ list_any (λ held. same_path held t) xs
+searched xs t (Ok k) sorted within at = sym (here xs t k within at)
+searched xs t (Err i) sorted within at = let parts = at (searchable xs t sorted) in sym (nowhere xs t i parts.0 parts.1)
 
 all_after : (t x : Path) (xs : List Path) → path_cmp t x ≡ Less → AllByRecursion (λ y. path_cmp x y ≡ Less) xs → AllByRecursion (λ y. path_cmp t y ≡ Less) xs
 all_after t x [] before all = tt

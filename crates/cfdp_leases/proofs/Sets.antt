@@ -15,7 +15,6 @@ use Rattle.cfdp_paths.specs.Paths.{Path, path_cmp, same_path}
 use Rattle.cfdp_paths.proofs.Comparing.{same_path-Decides}
 use Rattle.cfdp_leases.specs.Footprint.{PathSet, any_in}
 use Rattle.cfdp_actions.proofs.Order.{same_path-refl}
-use Rattle.cfdp_paths.proofs.InOrder.{path_antisym}
 
 pub path_cmp_total : IsTotalOrder path_cmp
 path_cmp_total = lists_total (lists_total nat_cmp_total)

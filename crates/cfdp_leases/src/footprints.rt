@@ -5,7 +5,7 @@ ghost use Rattle.std.specs.List.{list_any};
 ghost use Rattle.std.specs.FinSet as set;
 ghost use Rattle.std.specs.List.Sorted.{IsStrictlySortedBy};
 ghost use Rattle.cfdp_leases.specs.Footprint.{covers};
-ghost use Rattle.cfdp_paths.specs.Paths.{is_at_or_below, path_cmp};
+ghost use Rattle.cfdp_paths.specs.Paths.{is_at_or_below, path_cmp, same_path};
 
 use crate::lease::Lease;
 use cfdp_paths::Path;
@@ -55,17 +55,26 @@ impl Footprint {
 }
 
 /// How a footprint holds a path: exclusively at or below an exclusive path, else shared where it is a shared one, else
-/// not at all. Takes no memory, and looks at each path of the footprint once at most.
+/// not at all. Takes no memory. Cost: a comparison with each exclusive path, up to the first that is at or above the
+/// path, and one search among the shared ones.
 pub fn covers(footprint: &Footprint, path: &Path) -> Option<Lease>
     ensures { result ≡ covers footprint.now path.now }
 {
     if has_above(&footprint.exclusive, path) {
         Some(Lease::Exclusive)
-    } else if footprint.shared.contains(path) {
+    } else if has(&footprint.shared, path) {
         Some(Lease::Shared)
     } else {
         None
     }
+}
+
+/// Whether this path is one of the paths. Cost: one search.
+fn has(paths: &[Path], path: &Path) -> bool
+    requires { IsStrictlySortedBy path_cmp paths.now }
+    ensures { result ≡ list_any (λ held. same_path held path.now) paths.now }
+{
+    paths.binary_search(path).is_ok()
 }
 
 /// Whether this path is at or below one of the paths.

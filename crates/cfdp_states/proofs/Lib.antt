@@ -29,5 +29,6 @@ pub mod SparseViews
 pub mod SparseLists
 pub mod SparseSurveys
 pub mod SparseFillers
+pub mod SparsePaths
 pub mod SparseSteps
 pub mod Fillers

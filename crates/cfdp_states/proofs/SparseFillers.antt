@@ -1,12 +1,11 @@
 -- What a filestore hides below a path, in terms of `is_beside`, and one directory for it.
 --     hidden_by_child, child_hidden     a path is hidden exactly if its way begins with a child that is not shown
---     children-shown, children-next     the children that are shown, from the index of a path on
+--     children-shown                    the children that are shown
 --     filler_deep                       a directory that is put there has more names
 --     fills_none, fills_one             where nothing is hidden, and where one directory is put there
 --     none_covered                      below a path that is not leased exclusively the footprint covers nothing hidden
-use Rattle.std.proofs.Common.{◌≡◌, refl, sym, ◌∙◌, ap, subst, inl, inr, Bool, true, false, cond, not, ◌||◌, ◌==◌, is_some, None, ℕ, suc, ◌+◌, ◌<◌, ◌≤◌, List, [], ◌∷◌, ◌++◌, drop, get_or, length, length-take, take, take_all, if◌then◌else◌, true≢false, arith}
+use Rattle.std.proofs.Common.{◌≡◌, refl, sym, ◌∙◌, ap, subst, inl, inr, Bool, true, false, cond, not, ◌||◌, ◌==◌, is_some, None, ℕ, suc, ◌+◌, ◌<◌, ◌≤◌, List, [], ◌∷◌, length, length-take, take, take_all, if◌then◌else◌, true≢false, arith}
 use Rattle.std.proofs.lemmas.Bool.{cases_Bool, or_cases, and_parts, and_from, false_from_ne_true}
-use Rattle.std.proofs.Math.Seq.{drop-cons}
 use Rattle.std.specs.List.{list_any}
 use Rattle.std.specs.FinMap.{entries, get-entries, get-retain_keys, len-entries, insert}
 use Rattle.std.specs.FinMap.Entries.{find}
@@ -123,17 +122,6 @@ module _ (paths : List Path) (u : Path) (few : length u < 8) where
   hidden-beside x below hidden =
       and_from (is_below x u) (not (list_any (same_path (take (suc (length u)) x)) (children u paths))) below
       (ap not (children-shown (take (suc (length u)) x) (child-below x below) (child-length x below) paths ∙ child_hidden x below hidden))
-
--- ---- the children that are shown, from the index of a path on
-
-pub children-next : (p : Path) (found paths : List Path) (i k : ℕ) (s : Path) (b : Bool) → k ≡ i + 1 → i < length paths → s ≡ get_or paths i s →
-    is_below s p ≡ b →
-    found ++ children p (drop i paths) ≡ found ++ (if b then take (suc (length p)) s ∷ children p (drop k paths) else children p (drop k paths))
-children-next p found paths i k s b next within is e =
-    let here : k ≡ suc i = omega (arith, next) in
-    ap (λ rest. found ++ children p rest) (drop-cons paths i s within ∙ ap (λ x. x ∷ drop (suc i) paths) (sym is))
-    ∙ ap (λ b. found ++ (if b then take (suc (length p)) s ∷ children p (drop (suc i) paths) else children p (drop (suc i) paths))) e
-    ∙ ap (λ k. found ++ (if b then take (suc (length p)) s ∷ children p (drop k paths) else children p (drop k paths))) (sym here)
 
 -- ---- what is beside
 

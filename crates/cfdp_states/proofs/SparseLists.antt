@@ -2,7 +2,6 @@
 --     take-at_or_below, front_above     the first names of a path are above those of what is below it, and above itself
 --     shows_from, shows-parts           what is above one of the paths is shown
 --     sees_nothing, sees_request, sees_install, sees_more     no item, one more, and more paths
---     holds_copies                      the paths of a footprint
 --     origin_at, origin_gone, origin_else       where a path was
 --     moved_back-next                   one more path
 --     knows_all_moves                   what is moved by a list
@@ -11,17 +10,15 @@ use Rattle.std.proofs.lemmas.Bool.{cases_lt, cases_Bool, and_parts, and_from, or
 use Rattle.std.proofs.lemmas.List.{drop-take, take_min}
 use Rattle.std.proofs.Math.Seq.{drop-cons, take-append-add}
 use Rattle.std.specs.List.{list_any, list_all}
-use Rattle.std.specs.FinSet as set
 use Rattle.cfdp_paths.specs.Paths.{Path, IsPath, same_name, same_path, is_at_or_below, parent, rebased}
 use Rattle.cfdp_paths.proofs.Below.{at_or_below-itself, at_or_below-trans, prefixes_compare, parent_at_or_below}
 use Rattle.cfdp_actions.specs.Filestore.{is_root}
 use Rattle.cfdp_actions.specs.Actions.{Request, CreateFile, DeleteFile, RenameFile, AppendFile, ReplaceFile, CreateDirectory, RemoveDirectory, DenyFile, DenyDirectory, Item, Install, Perform, first_in, second_in}
 use Rattle.cfdp_actions.proofs.Prefixes.{below_root, rebased-below}
-use Rattle.cfdp_leases.specs.Footprint.{Footprint}
 use Rattle.cfdp_leases.specs.Items.{items_of}
-use Rattle.cfdp_leases.proofs.Sets.{stands, any_at, any_from, stands-append_left, stands-append_right, stands_from_contains}
+use Rattle.cfdp_leases.proofs.Sets.{stands, any_at, any_from, stands-append_left, stands-append_right}
 use Rattle.cfdp_states.specs.Sparse.{Sees, KnowsMoves, passes_after, named_in, sees_path}
-use Rattle.cfdp_states.specs.code.Sparse.{is_shown, shows, SeesBy, origin, with_origin, moved_back, shown_before, back_over, HoldsLeased, is_moved}
+use Rattle.cfdp_states.specs.code.Sparse.{is_shown, shows, SeesBy, origin, with_origin, moved_back, shown_before, back_over, is_moved}
 use Rattle.cfdp_actions.proofs.Order.{same_path-true, same_path-refl}
 use Rattle.cfdp_states.proofs.MovedPaths.{not_both, at-moved}
 use Rattle.cfdp_states.proofs.SparseMoves.{passes_at, passes_gone, passes_else}
@@ -288,20 +285,6 @@ pub sees_file : (destination : Option Path) (requests : List Request) (paths mor
 sees_file destination requests paths more p some named added sees =
     subst (λ (d : Option Path). SeesBy more (items_of d requests)) (sym some)
     (subst (λ (all : List Path). SeesBy all (Install p ∷ map Perform requests)) (sym added) (sees_install p paths (map Perform requests) named sees))
-
--- ---- the paths of a footprint
-
-pub holds_copies : (paths exclusive shared : List Path) (fp : Footprint) → set.from_list exclusive ≡ fp.exclusive → set.from_list shared ≡ fp.shared →
-    HoldsLeased ((paths ++ exclusive) ++ shared) fp
-holds_copies paths exclusive shared fp is_exclusive is_shared = record {
-  exclusive = λ e h. stands-append_left e (paths ++ exclusive) shared (stands-append_right e paths exclusive
-      (stands_from_contains exclusive e (ap (λ s. set.contains s e) is_exclusive ∙ h)));
-  shared = λ e h. stands-append_right e (paths ++ exclusive) shared (stands_from_contains shared e (ap (λ s. set.contains s e) is_shared ∙ h));
-}
-
--- with the paths of a footprint, those of the items
-pub all_with : (paths exclusive shared more all : List Path) → more ≡ paths ++ exclusive → all ≡ more ++ shared → all ≡ (paths ++ exclusive) ++ shared
-all_with paths exclusive shared more all one two = two ∙ ap (λ (xs : List Path). xs ++ shared) one
 
 -- ---- what moves
 

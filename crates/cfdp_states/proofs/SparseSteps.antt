@@ -2,14 +2,15 @@
 --     covers_some, covers_none       whether the footprint covers a path, by how it holds it
 --     adds_covered, adds_uncovered  what is put in at a path that the footprint covers, or does not
 --     shown_front, shown_at         what is above a path that is shown, and one of the paths
---     at_already, at_leased         a path that the map has;  one that it gets
+--     at_leased                     a path that the map gets
 --     nothing_hidden, empty_hidden  nothing is to be put below a path that is not leased exclusively, or that has nothing below it
 --     same_below                    what the footprint covers below a path that is leased exclusively
---     no_beginning, next_beginning, all_beginnings      the beginnings of a path, one after another
+--     known_beginning, next_beginning, all_beginnings      the beginnings of a path, one after another
 --     next_path, all_paths                              the paths, one after another
 use Rattle.std.proofs.Common.{◌≡◌, refl, sym, ◌∙◌, ap, subst, inl, inr, Bool, true, false, cond, if◌then◌else◌, not, ◌||◌, ◌&&◌, is_some, Some, None, ℕ, zero, suc, ◌+◌, ◌<◌, ◌≤◌, List, [], ◌∷◌, length, length-take, take, take_all, get_or, true≢false, arith}
 use Rattle.std.proofs.lemmas.Bool.{cases_lt, cases_Bool, or_cases, or_left, or_right, and_parts, and_from}
 use Rattle.std.proofs.lemmas.List.Folds.{list_any_more}
+use Rattle.std.specs.List.{list_any}
 use Rattle.std.specs.FinMap.{get, get-retain_keys}
 use Rattle.cfdp_paths.specs.Paths.{Path, same_path, is_at_or_below}
 use Rattle.cfdp_paths.proofs.Below.{at_or_below-itself, at_or_below-trans}
@@ -23,16 +24,16 @@ use Rattle.cfdp_states.specs.Alone.{alone}
 use Rattle.cfdp_states.specs.Sketching.{Extents, extent_at, extent_in}
 use Rattle.cfdp_states.specs.code.Sketching.{AddsWhere}
 use Rattle.cfdp_states.specs.Views.{only}
-use Rattle.cfdp_states.specs.code.Sparse.{is_shown, shows, is_moved, IsSparseSurvey, FillsAt, unfilled, HoldsLeased}
+use Rattle.cfdp_states.specs.code.Sparse.{is_shown, shows, is_moved, IsSparseSurvey, FillsAt, unfilled, HoldsLeased, PassAbove, paths_in}
 use Rattle.cfdp_actions.proofs.Order.{same_path-true, same_path-is}
 use Rattle.cfdp_actions.proofs.Moves.{none_unless}
 use Rattle.cfdp_states.proofs.Fillers.{prefix_take}
 use Rattle.cfdp_states.proofs.Surveys.{adds_none}
 use Rattle.cfdp_states.proofs.Entries.{found-has_entries, kept_some}
-use Rattle.cfdp_states.proofs.MovedPaths.{not_both}
 use Rattle.cfdp_states.proofs.SparseLists.{take-at_or_below, front_above, shows_from, shows-parts}
-use Rattle.cfdp_states.proofs.SparseSurveys.{as_sparse, already_sparse, stepped, take_take, same_front}
+use Rattle.cfdp_states.proofs.SparseSurveys.{as_sparse, stepped, take_take, same_front}
 use Rattle.cfdp_states.proofs.SparseFillers.{same_long, none_covered}
+use Rattle.cfdp_states.proofs.SparsePaths.{shown_entries}
 use Rattle.cfdp_paths.proofs.InOrder.{path_antisym}
 
 -- below a path of 8 names all is shown that has its first 8 names
@@ -65,11 +66,11 @@ shown_front paths x n h =
     any_at (λ s. is_at_or_below s (take n x)) paths s.0 s.1 (at_or_below-trans s.0 x (take n x) s.2 (front_above n x))
 
 -- one of the paths
-pub shown_at : (paths : List Path) (i : ℕ) (s : Path) → i < length paths → s ≡ get_or paths i s → is_shown paths s ≡ true
-shown_at [] i s within is = absurd (omega (arith, within))
-shown_at (t ∷ paths) zero s within is =
-    or_left (is_at_or_below t s) (is_shown paths s) (subst (λ x. is_at_or_below x s ≡ true) is (at_or_below-itself s))
-shown_at (t ∷ paths) (suc i) s within is = or_right (is_at_or_below t s) (is_shown paths s) (shown_at paths i s (omega (arith, within)) is)
+pub shown_at : {X : Type 0} (es : List (Path × X)) (i : ℕ) (e : Path × X) → i < length es → e ≡ get_or es i e → is_shown (paths_in es) e.0 ≡ true
+shown_at [] i e within is = absurd (omega (arith, within))
+shown_at {X} (f ∷ es) zero e within is =
+    or_left (is_at_or_below f.0 e.0) (is_shown (paths_in es) e.0) (subst (λ (g : Path × X). is_at_or_below g.0 e.0 ≡ true) is (at_or_below-itself e.0))
+shown_at (f ∷ es) (suc i) e within is = or_right (is_at_or_below f.0 e.0) (is_shown (paths_in es) e.0) (shown_at es i e (omega (arith, within)) is)
 
 -- whether the footprint covers a path, by how it holds it
 pub covers_some : (fp : Footprint) (u : Path) (lease : Lease) → covers fp u ≡ Some lease → is_covered fp u ≡ true
@@ -109,11 +110,6 @@ module _ (requests : List Request) (paths : List Path) (fp : Footprint) (F : Fil
   seen_u : shows paths u ≡ true
   seen_u = and_from (not (is_root u)) (is_shown paths (take 8 u)) (ap not named) (ap (is_shown paths) (take_all 8 u few) ∙ shown)
 
-  pub at_already : (m : Extents) → is_some (get m u) ≡ true → (done : Path → Bool) →
-      IsSparseSurvey (is_moved requests) (shows paths) m done (alone (only fp F) []) →
-      IsSparseSurvey (is_moved requests) (shows paths) m (λ p. done p || same_path p u) (alone (only fp F) [])
-  at_already m there done s = already_sparse (is_moved requests) (shows paths) m done (alone (only fp F) []) u seen_u few there s
-
   pub nothing_hidden : (m : Extents) → is_exclusive fp u ≡ false → FillsAt (shows paths) (is_moved requests) (alone (only fp F) []) u m m
   nothing_hidden m out = unfilled (none_covered paths fp F u holds seen_u out)
 
@@ -135,22 +131,19 @@ module _ (requests : List Request) (paths : List Path) (fp : Footprint) (F : Fil
 
 -- ---- the beginnings of a path
 
-root_only : (x : Path) → is_at_or_below [] x ≡ true → is_root x ≡ true
-root_only [] h = refl
-root_only (n ∷ x) h = absurd (true≢false (sym h))
-
 module _ (known : Path → Bool) (paths : List Path) (F : Filestore) (m : Extents) where
   named_front : (p : Path) → shows paths p ≡ true → is_root (take 8 p) ≡ false
   named_front [] seen = absurd (true≢false (sym seen))
   named_front (n ∷ p) seen = refl
 
-  pub no_beginning : (done : Path → Bool) (s : Path) → IsSparseSurvey known (shows paths) m done F →
-      IsSparseSurvey known (shows paths) m (λ p. done p || is_at_or_below (take 0 s) p) F
-  no_beginning done s survey = as_sparse known (shows paths) m done (λ p. done p || is_at_or_below (take 0 s) p) F survey (λ p seen.
-      by_truth (done (take 8 p) || is_at_or_below [] (take 8 p)) (done (take 8 p)) (λ h. elim (or_cases (done (take 8 p)) (is_at_or_below [] (take 8 p)) h) [
+  pub known_beginning : (done : Path → Bool) (s : Path) (k : ℕ) → PassAbove done (take k s) → IsSparseSurvey known (shows paths) m done F →
+      IsSparseSurvey known (shows paths) m (λ p. done p || is_at_or_below (take k s) p) F
+  known_beginning done s k passes survey = as_sparse known (shows paths) m done (λ p. done p || is_at_or_below (take k s) p) F survey (λ p seen.
+      by_truth (done (take 8 p) || is_at_or_below (take k s) (take 8 p)) (done (take 8 p))
+      (λ h. elim (or_cases (done (take 8 p)) (is_at_or_below (take k s) (take 8 p)) h) [
         | inl d ↦ d
-        | inr e ↦ not_both (is_root (take 8 p)) (root_only (take 8 p) e) (named_front p seen)
-      ]) (λ d. or_left (done (take 8 p)) (is_at_or_below [] (take 8 p)) d))
+        | inr at ↦ passes (take 8 p) (named_front p seen) at
+      ]) (λ d. or_left (done (take 8 p)) (is_at_or_below (take k s) (take 8 p)) d))
 
   one_more : (s x : Path) (k : ℕ) → k + 1 ≤ length s → is_at_or_below (take (k + 1) s) x ≡ (is_at_or_below (take k s) x || same_path x (take (k + 1) s))
   one_more s x k within =
@@ -193,17 +186,20 @@ module _ (known : Path → Bool) (paths : List Path) (F : Filestore) (m : Extent
 
   -- ---- the paths
 
-  pub next_path : (i : ℕ) (s : Path) → i < length paths → s ≡ get_or paths i s →
-      IsSparseSurvey known (shows paths) m (λ p. is_shown (take i paths) p || is_at_or_below s p) F →
-      IsSparseSurvey known (shows paths) m (λ p. is_shown (take (i + 1) paths) p) F
-  next_path i s within is survey = as_sparse known (shows paths) m (λ p. is_shown (take i paths) p || is_at_or_below s p)
-      (λ p. is_shown (take (i + 1) paths) p) F survey (λ p seen.
-      list_any_more (λ r. is_at_or_below r (take 8 p)) paths i s within ∙ ap (λ r. is_shown (take i paths) (take 8 p) || is_at_or_below r (take 8 p)) (sym is))
+  pub next_path : {X : Type 0} (es : List (Path × X)) (i : ℕ) (e : Path × X) → i < length es → e ≡ get_or es i e →
+      IsSparseSurvey known (shows paths) m (λ p. is_shown (paths_in (take i es)) p || is_at_or_below e.0 p) F →
+      IsSparseSurvey known (shows paths) m (λ p. is_shown (paths_in (take (i + 1) es)) p) F
+  next_path {X} es i e within is survey = as_sparse known (shows paths) m (λ p. is_shown (paths_in (take i es)) p || is_at_or_below e.0 p)
+      (λ p. is_shown (paths_in (take (i + 1) es)) p) F survey (λ p seen.
+      shown_entries (take (i + 1) es) (take 8 p) ∙ list_any_more (λ (f : Path × X). is_at_or_below f.0 (take 8 p)) es i e within
+      ∙ ap (λ (f : Path × X). list_any (λ (f : Path × X). is_at_or_below f.0 (take 8 p)) (take i es) || is_at_or_below f.0 (take 8 p)) (sym is)
+      ∙ ap (λ b. b || is_at_or_below e.0 (take 8 p)) (sym (shown_entries (take i es) (take 8 p))))
 
-  pub all_paths : (i : ℕ) → length paths ≤ i → IsSparseSurvey known (shows paths) m (λ p. is_shown (take i paths) p) F →
-      IsSparseSurvey known (shows paths) m (λ p. is_shown paths p) F
-  all_paths i all survey = as_sparse known (shows paths) m (λ p. is_shown (take i paths) p) (λ p. is_shown paths p) F survey
-      (λ p seen. ap (λ ps. is_shown ps (take 8 p)) (sym (take_all i paths all)))
+  pub all_paths : {X : Type 0} (es : List (Path × X)) (i : ℕ) → length es ≤ i →
+      IsSparseSurvey known (shows paths) m (λ p. is_shown (paths_in (take i es)) p) F →
+      IsSparseSurvey known (shows paths) m (λ p. is_shown (paths_in es) p) F
+  all_paths es i all survey = as_sparse known (shows paths) m (λ p. is_shown (paths_in (take i es)) p) (λ p. is_shown (paths_in es) p) F survey
+      (λ p seen. ap (λ fs. is_shown (paths_in fs) (take 8 p)) (sym (take_all i es all)))
 
 -- each visible path has been looked at then
 pub all_shown : (paths : List Path) (p : Path) → shows paths p ≡ true → is_shown paths (take 8 p) ≡ true

@@ -1,18 +1,16 @@
 -- What is at visible paths, put into a map of extents, with one directory for what is hidden below each of them.
 --     nothing_sparse, as_sparse       no path;  the same test
---     already_sparse                  a path that the map has
 --     stepped                         one more path
 --     take_take, same_front           one more name of a path
 --     sparse_view                     the view of what was put in
 use Rattle.std.proofs.Common.{◌≡◌, refl, sym, ◌∙◌, ap, subst, ◌⊎◌, inl, inr, ◌↔◌, Bool, true, false, cond, ◌||◌, ◌&&◌, is_some, Option, Some, None, ℕ, zero, suc, ◌<◌, ◌≤◌, List, [], ◌∷◌, length, length-take, take, take_all, if◌then◌else◌, true≢false, arith}
-use Rattle.std.proofs.lemmas.Bool.{cases_lt, cases_Bool, or_cases, or_parts, or_left, or_right, and_parts, false_from_ne_true}
+use Rattle.std.proofs.lemmas.Bool.{cases_lt, cases_Bool, or_parts, or_right, and_parts, false_from_ne_true}
 use Rattle.std.specs.FinMap.{get, empty, insert, get-insert, get-empty}
 use Rattle.cfdp_paths.specs.Paths.{Path, path_cmp, same_name, same_path, is_at_or_below, is_below}
 use Rattle.cfdp_paths.proofs.Below.{at_or_below-itself, prefixes_compare, is_below-Decides}
 use Rattle.cfdp_actions.specs.Filestore.{Node, Filestore, node_at, blocks}
 use Rattle.cfdp_actions.specs.Actions.{Item}
 use Rattle.cfdp_leases.specs.Footprint.{Footprint}
-use Rattle.cfdp_leases.proofs.Sets.{by_truth}
 use Rattle.cfdp_states.specs.declared.extent.Extent.{Extent}
 use Rattle.cfdp_states.specs.declared.extent.Extent.TheVariants as extent
 use Rattle.cfdp_states.specs.Alone.{alone}
@@ -50,24 +48,6 @@ module _ (known visible : Path → Bool) where
     deep = λ p n seen d k. s.deep p n seen (sym (same p seen) ∙ d) k;
     none = λ p seen d h. s.none p seen (sym (same p seen) ∙ d) h;
   }
-
-  -- what the map has was looked at
-  pub already_sparse : (m : Extents) (done : Path → Bool) (F : Filestore) (u : Path) → visible u ≡ true → length u ≤ 8 → is_some (get m u) ≡ true →
-      IsSparseSurvey known visible m done F → IsSparseSurvey known visible m (λ p. done p || same_path p u) F
-  already_sparse m done F u seen few there s = as_sparse m done (λ p. done p || same_path p u) F s (λ p seen_p. at (take 8 p))
-    where
-      looked : (b : Bool) (v w : Option Extent) → w ≡ (if b then v else None) → is_some w ≡ true → b ≡ true
-      looked true v w e h = refl
-      looked false v w e h = absurd (true≢false (sym h ∙ ap is_some e))
-
-      done_u : done u ≡ true
-      done_u = ap done (sym (take_all 8 u few)) ∙ looked (done (take 8 u)) (extent_at F u) (get m u) (s.told u seen) there
-
-      at : (x : Path) → (done x || same_path x u) ≡ done x
-      at x = by_truth (done x || same_path x u) (done x) (λ h. elim (or_cases (done x) (same_path x u) h) [
-        | inl d ↦ d
-        | inr e ↦ ap done (same_path-true x u e) ∙ done_u
-      ]) (λ d. or_left (done x) (same_path x u) d)
 
   -- ---- one more path
 

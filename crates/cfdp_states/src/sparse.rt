@@ -22,8 +22,7 @@ use std::alloc::Global;
 const MOST_BLOCKS: u128 = 65_536;
 
 /// A view of what a list of items sees: of each directory whose entries the list does not name it has one entry
-/// instead of them. So what it costs grows with the list, at most with its square, and not with the entries of a
-/// directory.
+/// instead of them. So what it costs grows with the list, and not with the entries of a directory.
 ///
 /// Such a view says how that list goes when it runs alone (CCSDS 727.0-B-5, filestore procedures), as a [`View`] does.
 #[derive(Drop)]
@@ -41,11 +40,14 @@ impl<'a> SparseView<'a> {
     ///
     /// [`Memory`] when out of memory.
     ///
-    /// Cost: for each named path, at the time of its item, a copy of its path for each rename before that item. For
-    /// each of these paths, and each of their ancestors, a `kind` and a `has_entries`, and a `size` where that is a
-    /// file, and an insertion into what the view has; for a directory with entries that is leased exclusively some
-    /// comparisons with each of these paths, a `has_beside`, and where one of the requests moves it a
-    /// `deepest_beside`.
+    /// Cost: each named path is compared with each rename before its item, and copied at each that moves it. These
+    /// paths and those of the footprint are put into path order, each once. Then for each of them and each of their
+    /// ancestors, once: a `kind`, a `has_entries`, a `size` where that is a file, a look at the footprint as by
+    /// [`covers`](cfdp_leases::covers), and an insertion at the end of what the view has, or near it. For a directory
+    /// with entries that is leased exclusively also some searches among these paths, a look at each that is below it,
+    /// a copy of each child that leads to one, a `has_beside` with these children, and a comparison with each rename;
+    /// where one of the renames moves it a `deepest_beside`, too. So but for `covers` and the comparisons with renames
+    /// it grows with the number of these paths times its logarithm.
     pub fn of<S: Filestore>(
         alloc: Global,
         store: &S,

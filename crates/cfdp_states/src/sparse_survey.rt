@@ -1,72 +1,129 @@
 //! What a list of items sees of a store, without octets.
 
-ghost use Rattle.std.specs.Prelude.{◌≡◌, ◌+◌, ◌<◌, ◌≤◌, ◌||◌, Bool, if◌then◌else◌, is_some, IsTrue, [], Ok, IfOk, IfSome, OnOk, length, true};
-ghost use Rattle.cfdp_paths.specs.Paths.{Path, is_at_or_below, same_path};
+ghost use Rattle.std.specs.Prelude.{◌≡◌, ◌+◌, ◌<◌, ◌≤◌, ◌||◌, Bool, drop, if◌then◌else◌, is_some, IsFalse, IsTrue, [], Ok, IfOk, IfSome, OnOk, length, take, true};
+ghost use Rattle.std.specs.List.{list_any};
+ghost use Rattle.cfdp_paths.specs.Paths.{Path, is_at_or_below, is_below, same_path};
 ghost use Rattle.cfdp_actions.specs.Filestore.{Filestore, blocks, deepest_beside, has_beside, node_at};
 ghost use Rattle.cfdp_leases.specs.Footprint.{is_exclusive};
 ghost use Rattle.cfdp_states.specs.Alone.{alone};
 ghost use Rattle.cfdp_states.specs.Views.{only};
 ghost use Rattle.cfdp_states.specs.code.Sketching.{AddsWhere};
-ghost use Rattle.cfdp_states.specs.code.Sparse.{FillsAt, HoldsLeased, IsFiller, IsSparseSurvey, IsUnseenBelow, children, is_moved, is_shown, moves_at, shows};
+ghost use Rattle.cfdp_states.specs.code.Sparse.{AreSame, FillsAt, HoldsLeased, IsFiller, IsSparseSurvey, IsUnseenBelow, PassAbove, children, is_moved, is_shown, moves_at, paths_in, shows};
 
 use crate::extent::Extent;
 use crate::extents::Extents;
 use crate::surveying::add_extent;
 use cfdp_actions::{Filestore, Request};
 use cfdp_leases::{Footprint, Lease, covers};
-use cfdp_paths::{MOST_NAMES, Memory, Path};
+use cfdp_paths::{MOST_NAMES, Memory, Names, Path, PathMap};
 use std::alloc::{AllocError, Global};
 
 /// What is at the paths and above them, as far as the footprint covers it. In a directory that is leased exclusively,
 /// one made-up directory takes the role of all entries that lead to none of the paths. If the requests move the leased
 /// directory, the made-up one is as deep as the deepest of what it represents. `None` if no such directory can be made.
 ///
-/// Cost: for each path at or above one of the paths a `kind`, a `has_entries`, and a `size` where that is a file; for
-/// each that is leased exclusively and has entries a `has_beside`, and where a request moves it a `deepest_beside`.
+/// Cost: for each path at or above one of the paths, once and in path order, a `kind`, a `has_entries`, and a `size`
+/// where that is a file; for each that is leased exclusively and has entries some searches among the paths, a look at
+/// those below it, a `has_beside`, and where a request moves it a `deepest_beside`.
 pub fn survey_sparse<S: Filestore>(
     alloc: Global,
     store: &S,
     footprint: &Footprint,
-    paths: &[Path],
+    paths: &PathMap<()>,
     requests: &[Request],
 ) -> Result<Option<Extents>, Memory>
-    requires { HoldsLeased paths.now footprint.now }
+    requires { HoldsLeased (paths_in paths.now) footprint.now }
     ensures extents { IfOk result (λ found. IfSome found (λ extents.
-        IsSparseSurvey (is_moved requests.now) (shows paths.now) extents (λ p. is_shown paths.now p)
+        IsSparseSurvey (is_moved requests.now) (shows (paths_in paths.now)) extents
+        (λ p. is_shown (paths_in paths.now) p)
         (alone (only footprint.now (S.state store.now).filestore) []))) }
     ensures small { blocks (S.state store.now).filestore ≤ 65536 }
 {
     // Its contract says that few blocks are in use, so that an extent can say each size.
     let _ = store.takes_no_memory();
     let mut extents = Extents::new(alloc);
-    for path in paths {
-        if !add_beginnings(alloc, &mut extents, store, footprint, paths, requests, path)? {
+    let entries = paths.entries();
+    for (place, entry) in entries.iter().enumerate() {
+        let path = &entry.0;
+        let known = known_depth(&entries[..place], path);
+        if !add_beginnings(
+            alloc,
+            &mut extents,
+            store,
+            footprint,
+            paths,
+            requests,
+            path,
+            known,
+        )? {
             return Ok(None);
         }
     }
     Ok(Some(extents))
 }
 
-/// Adds what is at a path and above it; `false` where that cannot be said.
+/// How many first names of a path are the first names of the last of the paths before it, too.
+fn known_depth(before: &[(Path, ())], path: &Path) -> usize
+    ensures known { PassAbove (λ x. is_shown (paths_in before.now) x) (take result path.now) }
+    ensures within { result ≤ length path.now }
+{
+    match before.last() {
+        None => 0,
+        Some(last) => common_depth(&last.0, path),
+    }
+}
+
+/// How many first names two paths share.
+fn common_depth(other: &Path, path: &Path) -> usize
+    ensures shared { take result other.now ≡ take result path.now }
+    ensures within { result ≤ length path.now }
+{
+    let mut theirs = other.names();
+    let mut ours = path.names();
+    for depth in 0..path.depth() {
+        if !next_is_shared(&mut ours, &mut theirs) {
+            return depth;
+        }
+    }
+    path.depth()
+}
+
+/// Takes the next name of both, and returns whether it is the same one.
+fn next_is_shared(ours: &mut Names<'_>, theirs: &mut Names<'_>) -> bool
+    ensures shared { IsTrue result → take 1 theirs.old ≡ take 1 ours.old }
+    ensures ours { IsTrue result → ours.new ≡ drop 1 ours.old }
+    ensures theirs { IsTrue result → theirs.new ≡ drop 1 theirs.old }
+{
+    match (ours.next(), theirs.next()) {
+        (Some(our), Some(their)) => our == their,
+        _ => false,
+    }
+}
+
+/// Adds what is at a path and above it; `false` where that cannot be said. The path of its first `known` names, and all
+/// above that, are in already.
 fn add_beginnings<S: Filestore>(
     alloc: Global,
     extents: &mut Extents,
     store: &S,
     footprint: &Footprint,
-    paths: &[Path],
+    paths: &PathMap<()>,
     requests: &[Request],
     path: &Path,
+    known: usize,
 ) -> Result<bool, Memory>
-    requires leased { HoldsLeased paths.now footprint.now }
+    requires leased { HoldsLeased (paths_in paths.now) footprint.now }
     requires small { blocks (S.state store.now).filestore ≤ 65536 }
-    requires shown { IsTrue (is_shown paths.now path.now) }
-    ensures { result ≡ Ok true → (done : Path → Bool) →
+    requires shown { IsTrue (is_shown (paths_in paths.now) path.now) }
+    requires known { known ≤ length path.now }
+    ensures { result ≡ Ok true → (done : Path → Bool) → PassAbove done (take known path.now) →
         let F = alone (only footprint.now (S.state store.now).filestore) [] in
-        IsSparseSurvey (is_moved requests.now) (shows paths.now) extents.old done F
-        → IsSparseSurvey (is_moved requests.now) (shows paths.now) extents.new
+        IsSparseSurvey (is_moved requests.now) (shows (paths_in paths.now)) extents.old done F
+        → IsSparseSurvey (is_moved requests.now) (shows (paths_in paths.now)) extents.new
         (λ p. done p || is_at_or_below path.now p) F }
 {
-    for depth in 1..path.depth() + 1 {
+    let end = path.depth() + 1;
+    for depth in known + 1..end {
         let beginning = path.beginning(alloc, depth)?;
         if !add_path(
             alloc, extents, store, footprint, paths, requests, &beginning,
@@ -83,22 +140,20 @@ fn add_path<S: Filestore>(
     extents: &mut Extents,
     store: &S,
     footprint: &Footprint,
-    paths: &[Path],
+    paths: &PathMap<()>,
     requests: &[Request],
     path: &Path,
 ) -> Result<bool, Memory>
-    requires leased { HoldsLeased paths.now footprint.now }
+    requires leased { HoldsLeased (paths_in paths.now) footprint.now }
     requires small { blocks (S.state store.now).filestore ≤ 65536 }
-    requires shown { IsTrue (is_shown paths.now path.now) }
+    requires shown { IsTrue (is_shown (paths_in paths.now) path.now) }
     ensures { result ≡ Ok true → (done : Path → Bool) →
         let F = alone (only footprint.now (S.state store.now).filestore) [] in
-        IsSparseSurvey (is_moved requests.now) (shows paths.now) extents.old done F
-        → IsSparseSurvey (is_moved requests.now) (shows paths.now) extents.new (λ p. done p || same_path p path.now) F }
+        IsSparseSurvey (is_moved requests.now) (shows (paths_in paths.now)) extents.old done F
+        → IsSparseSurvey (is_moved requests.now) (shows (paths_in paths.now)) extents.new
+        (λ p. done p || same_path p path.now) F }
 {
     let depth = path.depth();
-    if extents.get(path).is_some() {
-        return Ok(true);
-    }
     let is_full = store.has_entries(path);
     if is_full && depth == MOST_NAMES {
         return Ok(false);
@@ -141,7 +196,7 @@ fn add_filler<S: Filestore>(
     alloc: Global,
     extents: &mut Extents,
     store: &S,
-    paths: &[Path],
+    paths: &PathMap<()>,
     requests: &[Request],
     path: &Path,
 ) -> Result<bool, Memory>
@@ -149,7 +204,7 @@ fn add_filler<S: Filestore>(
     ensures { result ≡ Ok true → (F : Filestore)
         → ((x : Path) → IsTrue (is_at_or_below x path.now)
         → node_at F x ≡ node_at (S.state store.now).filestore x)
-        → FillsAt (shows paths.now) (is_moved requests.now) F path.now extents.old extents.new }
+        → FillsAt (shows (paths_in paths.now)) (is_moved requests.now) F path.now extents.old extents.new }
 {
     let Some(depth) = hidden_depth(alloc, store, paths, requests, path)? else {
         return Ok(true);
@@ -167,15 +222,15 @@ fn add_filler<S: Filestore>(
 fn hidden_depth<S: Filestore>(
     alloc: Global,
     store: &S,
-    paths: &[Path],
+    paths: &PathMap<()>,
     requests: &[Request],
     path: &Path,
 ) -> Result<Option<usize>, Memory>
     requires { length path.now < 8 }
     ensures there { IfOk result (λ found. is_some found
-        ≡ has_beside (S.state store.now).filestore path.now (children path.now paths.now)) }
+        ≡ has_beside (S.state store.now).filestore path.now (children path.now (paths_in paths.now))) }
     ensures deep { IfOk result (λ found. IfSome found (λ depth. depth ≡ (if is_moved requests.now path.now
-        then deepest_beside (S.state store.now).filestore path.now (children path.now paths.now)
+        then deepest_beside (S.state store.now).filestore path.now (children path.now (paths_in paths.now))
         else length path.now + 1))) }
     ensures within { IfOk result (λ found. IfSome found (λ depth. depth ≤ 8)) }
 {
@@ -206,18 +261,40 @@ fn depth_beside<S: Filestore>(
     }
 }
 
-/// The children of a path that are at or above one of the paths.
-fn children(alloc: Global, paths: &[Path], path: &Path) -> Result<Vec<Path>, Memory>
-    ensures { IfOk result (λ found. found.items ≡ children path.now paths.now) }
+/// The children of a path that are at or above one of the paths, in path order. Cost: two searches, a look at each of
+/// the paths below it, and a copy of each child.
+fn children(alloc: Global, paths: &PathMap<()>, path: &Path) -> Result<Vec<Path>, Memory>
+    ensures { IfOk result (λ found. AreSame found.items (children path.now (paths_in paths.now))) }
+{
+    children_in(alloc, paths.tree(path), path)
+}
+
+/// The children of a path that are at or above the path of one of the entries, in the order of these: each once, if
+/// they are in path order.
+fn children_in(alloc: Global, entries: &[(Path, ())], path: &Path) -> Result<Vec<Path>, Memory>
+    ensures { IfOk result (λ found. AreSame found.items (children path.now (paths_in entries.now))) }
 {
     let depth = path.depth() + 1;
     let mut found = Vec::new(alloc);
-    for other in paths {
-        if other.is_below(path) {
+    for entry in entries {
+        let other = &entry.0;
+        if leads_anew(&found, other, path) {
             found.push(other.beginning(alloc, depth)?)?;
         }
     }
     Ok(found)
+}
+
+/// Whether another path is below the path, and not at or below the last child that was found.
+fn leads_anew(found: &[Path], other: &Path, path: &Path) -> bool
+    ensures below { IsTrue result → IsTrue (is_below other.now path.now) }
+    ensures known { IsFalse result → IsTrue (is_below other.now path.now)
+        → IsTrue (list_any (λ child. is_at_or_below other.now child) found.now) }
+{
+    match found.last() {
+        Some(last) if other.is_at_or_below(last) => false,
+        _ => other.is_below(path),
+    }
 }
 
 /// Whether one of the requests moves the path, or one that is above it.
@@ -246,10 +323,15 @@ fn moves(request: &Request, path: &Path) -> bool
 
 /// A path of `depth` names below a path, whose child of that path is at or above none of the paths; `None` where no
 /// name is left for the child.
-fn filler(alloc: Global, paths: &[Path], path: &Path, depth: usize) -> Result<Option<Path>, Memory>
+fn filler(
+    alloc: Global,
+    paths: &PathMap<()>,
+    path: &Path,
+    depth: usize,
+) -> Result<Option<Path>, Memory>
     requires below { length path.now < depth }
     requires within { depth ≤ 8 }
-    ensures { IfOk result (λ found. IfSome found (λ filler. IsUnseenBelow paths.now path.now depth filler)) }
+    ensures { IfOk result (λ found. IfSome found (λ filler. IsUnseenBelow (paths_in paths.now) path.now depth filler)) }
 {
     for octet in b'0'..u8::MAX {
         let filler = below(alloc, path, depth, octet)?;
@@ -261,11 +343,11 @@ fn filler(alloc: Global, paths: &[Path], path: &Path, depth: usize) -> Result<Op
     Ok(None)
 }
 
-/// Whether the path is at or above one of the paths.
-fn is_shown(paths: &[Path], path: &Path) -> bool
-    ensures { result ≡ is_shown paths.now path.now }
+/// Whether the path is at or above one of the paths. Cost: two searches.
+fn is_shown(paths: &PathMap<()>, path: &Path) -> bool
+    ensures { result ≡ is_shown (paths_in paths.now) path.now }
 {
-    paths.iter().any(|other| other.is_at_or_below(path))
+    !paths.tree(path).is_empty()
 }
 
 /// A path of `depth` names below the path, whose own names are all this octet.

@@ -1,6 +1,8 @@
 -- What only the proofs of the code need of `Sparse`.
 --     shows paths x                   x is not the root, and is at or above one of the paths, as far as its first 8
 --                                     names go
+--     paths_in es, AreSame a b        the paths of some entries;  the same paths are in two lists
+--     PassAbove test p                p and all paths above it, the root apart, pass the test
 --     SeesBy paths items              the items see no more than what the paths show
 --     origin p q s, moved_back        where s was before a rename of p to q, its first 8 names: of one path, and of all
 --     shown_before request paths      what is to be shown before a request, where these are after it
@@ -14,7 +16,7 @@
 --     IsSparseSurvey known visible m done F      the map says what is in F at the visible paths that pass the test, and
 --                                     hides as much as F below each of them, as far as that is known
 --     FillsAt visible known F p m m'  the map with one directory more, if F hides something below p
-use Rattle.std.specs.Prelude.{◌≡◌, ℕ, suc, ◌+◌, ◌≤◌, Bool, false, not, ◌&&◌, IsTrue, IsFalse, IsSome, is_some, ◌↔◌, ◌⊎◌, if◌then◌else◌, List, [], ◌∷◌, ◌++◌, length, take, Option, Some, None}
+use Rattle.std.specs.Prelude.{◌≡◌, ℕ, suc, ◌+◌, ◌≤◌, Bool, false, not, ◌&&◌, IsTrue, IsFalse, IsSome, is_some, ◌↔◌, ◌⊎◌, if◌then◌else◌, List, [], ◌∷◌, ◌++◌, length, map, take, Option, Some, None}
 use Rattle.std.specs.List.{list_any}
 use Rattle.std.specs.FinMap as finite
 use Rattle.std.specs.FinSet as set
@@ -32,6 +34,15 @@ is_shown paths x = list_any (λ s. is_at_or_below s x) paths
 
 abbrev pub shows : List Path → Path → Bool
 shows paths x = not (is_root x) && is_shown paths (take 8 x)
+
+abbrev pub paths_in : {X : Type 0} → List (Path × X) → List Path
+paths_in es = map (λ e. e.0) es
+
+abbrev pub AreSame : List Path → List Path → Type 0
+AreSame a b = (x : Path) → list_any (same_path x) a ≡ list_any (same_path x) b
+
+abbrev pub PassAbove : (Path → Bool) → Path → Type 0
+PassAbove test p = (x : Path) → IsFalse (is_root x) → IsTrue (is_at_or_below p x) → IsTrue (test x)
 
 abbrev pub SeesBy : List Path → List Item → Type 0
 SeesBy paths items = (test : Path → Bool) → ((x : Path) → IsTrue (shows paths x) → IsTrue (test x)) → Sees test items

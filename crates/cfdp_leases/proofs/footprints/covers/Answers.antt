@@ -21,20 +21,20 @@ returns-then-has_above c =
     (is_exclusive-view c.footprint.inside.exclusive.items c.footprint.inside.shared.items c.args.footprint.now c.args.path.now c.footprint.view_is
     ∙ ap (list_any (λ (held : Path). is_at_or_below c.args.path.now held)) (sym c.deref.ensures.value) ∙ sym c.has_above.ensures ∙ c.if-has_above.true)
 
-pub returns-then-contains : goal.returns-then-contains
-returns-then-contains c =
+pub returns-then-has : goal.returns-then-has
+returns-then-has c =
     otherwise c.args.footprint.now c.args.path.now true
     (is_exclusive-view c.footprint.inside.exclusive.items c.footprint.inside.shared.items c.args.footprint.now c.args.path.now c.footprint.view_is
     ∙ ap (list_any (λ (held : Path). is_at_or_below c.args.path.now held)) (sym c.deref.ensures.value) ∙ sym c.has_above.ensures ∙ c.if-has_above.false)
     (is_shared-view c.footprint.inside.exclusive.items c.footprint.inside.shared.items c.args.footprint.now c.args.path.now c.footprint.view_is
-    ∙ ap (list_any (λ (held : Path). same_path held c.args.path.now)) (sym c.deref-else-has_above.ensures.value) ∙ sym c.contains.ensures.value
-    ∙ c.if-contains.true)
+    ∙ ap (list_any (λ (held : Path). same_path held c.args.path.now)) (sym c.deref-else-has_above.ensures.value) ∙ sym c.has.ensures
+    ∙ c.if-has.true)
 
-pub returns-else-contains : goal.returns-else-contains
-returns-else-contains c =
+pub returns-else-has : goal.returns-else-has
+returns-else-has c =
     otherwise c.args.footprint.now c.args.path.now false
     (is_exclusive-view c.footprint.inside.exclusive.items c.footprint.inside.shared.items c.args.footprint.now c.args.path.now c.footprint.view_is
     ∙ ap (list_any (λ (held : Path). is_at_or_below c.args.path.now held)) (sym c.deref.ensures.value) ∙ sym c.has_above.ensures ∙ c.if-has_above.false)
     (is_shared-view c.footprint.inside.exclusive.items c.footprint.inside.shared.items c.args.footprint.now c.args.path.now c.footprint.view_is
-    ∙ ap (list_any (λ (held : Path). same_path held c.args.path.now)) (sym c.deref-else-has_above.ensures.value) ∙ sym c.contains.ensures.value
-    ∙ c.if-contains.false)
+    ∙ ap (list_any (λ (held : Path). same_path held c.args.path.now)) (sym c.deref-else-has_above.ensures.value) ∙ sym c.has.ensures
+    ∙ c.if-has.false)

@@ -1,21 +1,13 @@
-use Rattle.std.proofs.Common.{◌≡◌, sym, ◌∙◌, ap, is_some, [], length, false, true, arith}
+use Rattle.std.proofs.Common.{◌≡◌, sym, ◌∙◌, [], length, false, true, arith}
 use Rattle.cfdp_actions.specs.Filestore.{has_entries}
 use Rattle.cfdp_leases.specs.Footprint.{is_exclusive}
 use Rattle.cfdp_states.specs.Alone.{alone}
 use Rattle.cfdp_states.specs.Views.{only}
-use Rattle.cfdp_states.specs.code.Sparse.{FillsAt, is_moved, shows}
+use Rattle.cfdp_states.specs.code.Sparse.{FillsAt, is_moved, shows, paths_in}
 use Rattle.cfdp_states.proofs.SparseLists.{path_named}
-use Rattle.cfdp_states.proofs.SparseSteps.{at_already, at_leased, nothing_hidden, empty_hidden, same_below}
+use Rattle.cfdp_states.proofs.SparseSteps.{at_leased, nothing_hidden, empty_hidden, same_below}
 use Rattle.cfdp_states.proofs.sparse_survey.add_path.Goals as goal
 use Rattle.cfdp_states.proofs.sparse_survey.add_path.Goals.{else-is_full-via-then-is_full+else-depth-eq-MOST_NAMES, else-is_full-via-else-is_full, then-not-is_full-via-then-not-is_full, then-not-is_full-via-else-not-is_full+then-not-is_exclusive}
-
--- the map has it
-pub returns-then-is_some : goal.returns-then-is_some
-returns-then-is_some g c = λ ok done s.
-    let F = (g.S.Filestore.state c.args.store.now).filestore in
-    let path = c.depth-depth.ensures.within in
-    at_already c.args.requests.now c.args.paths.now c.args.footprint.now F c.requires.leased c.args.path.now (path_named c.args.path.now path) path.few
-    c.requires.shown c.args.extents.now (ap is_some (sym c.get.ensures) ∙ sym c.is_some.ensures ∙ c.if-is_some.true) done s
 
 -- nothing is hidden below it
 pub returns-then-not-is_full : goal.returns-then-not-is_full
@@ -24,7 +16,7 @@ returns-then-not-is_full g c = λ ok done s.
     let u = c.args.path.now in
     let fp = c.args.footprint.now in
     let requests = c.args.requests.now in
-    let paths = c.args.paths.now in
+    let paths = paths_in c.args.paths.now in
     let path = c.depth-depth.ensures.within in
     let m = c.add_node.new.extents in
     let bare : (length u ≡ 8 → has_entries F u ≡ false) = elim c.else-is_full.branch [
@@ -49,7 +41,7 @@ returns g c = λ ok done s.
     let u = c.args.path.now in
     let fp = c.args.footprint.now in
     let requests = c.args.requests.now in
-    let paths = c.args.paths.now in
+    let paths = paths_in c.args.paths.now in
     let path = c.depth-depth.ensures.within in
     let bare : (length u ≡ 8 → has_entries F u ≡ false) = elim c.else-is_full.branch [
       | else-is_full-via-then-is_full+else-depth-eq-MOST_NAMES w ↦ λ e. absurd (omega (arith, e, c.depth-depth.ensures.depth, w.if-depth-eq-MOST_NAMES.false))

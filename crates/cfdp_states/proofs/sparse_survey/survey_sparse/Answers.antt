@@ -1,30 +1,42 @@
-use Rattle.std.proofs.Common.{sym, ◌∙◌, ap, subst, [], take, Ok}
+use Rattle.std.proofs.Common.{◌≡◌, true, List, sym, ◌∙◌, ap, subst, [], take, Ok}
+use Rattle.std.specs.Bool.{⊤}
+use Rattle.cfdp_paths.specs.Paths.{Path}
 use Rattle.cfdp_states.specs.Alone.{alone}
 use Rattle.cfdp_states.specs.Sketching.{Extents}
 use Rattle.cfdp_states.specs.Views.{only}
-use Rattle.cfdp_states.specs.code.Sparse.{IsSparseSurvey, is_moved, is_shown, shows}
+use Rattle.cfdp_states.specs.code.Sparse.{IsSparseSurvey, is_moved, is_shown, paths_in, shows}
 use Rattle.cfdp_states.proofs.SparseSurveys.{nothing_sparse}
 use Rattle.cfdp_states.proofs.SparseSteps.{shown_at, next_path, all_paths}
 use Rattle.cfdp_states.proofs.sparse_survey.survey_sparse.Goals as goal
 
-pub loop-path-init : goal.loop-path-init
-loop-path-init g c =
+pub loop-place-init : goal.loop-place-init
+loop-place-init g c =
     let F = alone (only c.args.footprint.now (g.S.Filestore.state c.args.store.now).filestore) [] in
-    subst (λ (m : Extents). IsSparseSurvey (is_moved c.args.requests.now) (shows c.args.paths.now) m (λ p. is_shown [] p) F) (sym c.new-extents.ensures)
-    (nothing_sparse (is_moved c.args.requests.now) (shows c.args.paths.now) F)
+    subst (λ (m : Extents). IsSparseSurvey (is_moved c.args.requests.now) (shows (paths_in c.args.paths.now)) m (λ p. is_shown [] p) F)
+    (sym c.new-extents.ensures)
+    (nothing_sparse (is_moved c.args.requests.now) (shows (paths_in c.args.paths.now)) F)
 
 pub add_beginnings-requires-clause-shown : goal.add_beginnings-requires-clause-shown
-add_beginnings-requires-clause-shown g c = shown_at c.args.paths.now c.loop-path.path-index c.path-item.result c.loop-path-test.true c.path-item.is
+add_beginnings-requires-clause-shown g c =
+    let entry = c.index-entries-place.result in
+    subst (λ (es : List (Path × ⊤)). is_shown (paths_in es) entry.0 ≡ true) c.entries-entries.ensures.entries
+    (shown_at c.entries-entries.result.now c.loop-place.place entry c.loop-place-test.true c.index-entries-place.is)
 
-pub loop-path-preserved : goal.loop-path-preserved
-loop-path-preserved g c =
+pub loop-place-preserved : goal.loop-place-preserved
+loop-place-preserved g c =
     let F = alone (only c.args.footprint.now (g.S.Filestore.state c.args.store.now).filestore) [] in
-    next_path (is_moved c.args.requests.now) c.args.paths.now F c.add_beginnings.new.extents c.loop-path.path-index c.path-item.result c.loop-path-test.true
-    c.path-item.is
-    (c.add_beginnings.ensures (c.in_ok-add_beginnings.was ∙ ap Ok c.if-not-branch.false) (λ p. is_shown (take c.loop-path.path-index c.args.paths.now) p)
-    c.loop-path.invariant)
+    let es = c.entries-entries.result.now in
+    let i = c.loop-place.place in
+    next_path (is_moved c.args.requests.now) (paths_in c.args.paths.now) F c.add_beginnings.new.extents es i c.index-entries-place.result
+    c.loop-place-test.true c.index-entries-place.is
+    (c.add_beginnings.ensures (c.in_ok-add_beginnings.was ∙ ap Ok c.if-not-branch.false) (λ p. is_shown (paths_in (take i es)) p)
+    c.known_depth-known.ensures.known c.loop-place.invariant)
 
 pub returns-clause-extents : goal.returns-clause-extents
 returns-clause-extents g c =
     let F = alone (only c.args.footprint.now (g.S.Filestore.state c.args.store.now).filestore) [] in
-    all_paths (is_moved c.args.requests.now) c.args.paths.now F c.loop-path.extents c.loop-path.path-index c.loop-path-test.false c.loop-path.invariant
+    let known = is_moved c.args.requests.now in
+    let paths = paths_in c.args.paths.now in
+    subst (λ (es : List (Path × ⊤)). IsSparseSurvey known (shows paths) c.loop-place.extents (λ p. is_shown (paths_in es) p) F)
+    c.entries-entries.ensures.entries
+    (all_paths known paths F c.loop-place.extents c.entries-entries.result.now c.loop-place.place c.loop-place-test.false c.loop-place.invariant)
