@@ -7,14 +7,14 @@ ghost use Rattle.cfdp_tree.specs.code.Beside.{is_entry_beside, entries_beside};
 ghost use Rattle.cfdp_tree.specs.code.Nodes.{nodes_in};
 ghost use Rattle.cfdp_tree.specs.code.Tree.{IsTree};
 ghost use Rattle.cfdp_tree.specs.code.Orders.{IsInOrders, IsKnown};
-ghost use Rattle.cfdp_tree.specs.code.Walk.{walks_at, most_names_in, StandAt};
+ghost use Rattle.cfdp_tree.specs.code.Walk.{walks_at, most_names_in, StandsDeep, StandAt};
 
 use crate::node_block::name_in;
 use crate::orders::Orders;
 use crate::walk::deepest_in;
 use cfdp_arena::{Arena, BlockId};
 use cfdp_order::Order;
-use cfdp_paths::Path;
+use cfdp_paths::{MOST_NAMES, Path};
 
 /// Entries of a directory that are left out: those whose paths are given.
 #[derive(Clone, Copy)]
@@ -23,6 +23,19 @@ pub(crate) struct Others<'a> {
     pub(crate) directory: &'a Path,
     /// The paths. Those that are no children of the directory leave nothing out.
     pub(crate) paths: &'a [Path],
+}
+
+/// The most entries that [`deepest_beside`] seeks in vain before it walks below them.
+const MOST_MISSES: usize = 16;
+
+/// How far entries were sought among the paths of [`Others`]. It changes what a search costs, and not what it says.
+#[derive(Default, Drop)]
+pub(crate) struct Search {
+    /// The index after the path that was found last, at which the next search begins: so entries that are sought in
+    /// the order of the paths are found at once.
+    next: usize,
+    /// How many entries were sought in vain, so are not left out. Each of them was compared with all paths.
+    misses: usize,
 }
 
 impl Others<'_> {
@@ -40,16 +53,15 @@ impl Others<'_> {
         paths.iter().position(|path| self.is_entry(path, name))
     }
 
-    /// Whether the entry of this name is left out. The search begins at the index `next`, which is then the one after
-    /// the path that was found: so entries that are sought in the order of the paths are found at once.
-    fn has(&self, name: &[u8], next: &mut usize) -> bool
+    /// Whether the entry of this name is left out.
+    fn has(&self, name: &[u8], search: &mut Search) -> bool
         ensures { result ≡ list_any (same_path (self.now.directory.now ++ name.now ∷ [])) self.now.paths.now }
     {
-        let start = (*next).min(self.paths.len());
+        let start = search.next.min(self.paths.len());
         let (before, after) = self.paths.split_at(start);
         match self.find(after, name) {
             Some(count) => {
-                *next = start + count + 1;
+                search.next = start + count + 1;
                 true
             }
             None => self.find(before, name).is_some(),
@@ -57,12 +69,14 @@ impl Others<'_> {
     }
 
     /// Whether an entry of the directory, of which this is the number of the node, is not left out.
-    fn leaves(&self, arena: &Arena, node: u16, next: &mut usize) -> bool
+    fn leaves(&self, arena: &Arena, node: u16, search: &mut Search) -> bool
         requires { IsKnown (nodes_in arena.now) node }
         ensures { result ≡ is_entry_beside self.now.directory.now self.now.paths.now (nodes_in arena.now) node }
     {
         let block = arena.bytes(BlockId::of_number(u32::from(node)));
-        !self.has(name_in(block), next)
+        let leaves = !self.has(name_in(block), search);
+        search.misses = search.misses.saturating_add(usize::from(leaves));
+        leaves
     }
 }
 
@@ -73,7 +87,7 @@ pub(crate) fn any_beside(
     orders: &Orders,
     order: Order,
     others: &Others<'_>,
-    next: &mut usize,
+    search: &mut Search,
 ) -> bool
     requires tree { IsTree (nodes_in arena.now) }
     requires ordered { IsInOrders (nodes_in arena.now) orders.now None }
@@ -89,20 +103,58 @@ pub(crate) fn any_beside(
         return false;
     }
     let around = orders.links[usize::from(order.root)];
-    any_beside(arena, orders, around.left(), others, next)
-        || others.leaves(arena, order.root, next)
-        || any_beside(arena, orders, around.right(), others, next)
+    any_beside(arena, orders, around.left(), others, search)
+        || others.leaves(arena, order.root, search)
+        || any_beside(arena, orders, around.right(), others, search)
+}
+
+/// The number of names of the longest path at and below an entry of the directory, of which this is the number of the
+/// node; or `before`, if that is more or the entry is left out. Takes no memory. A file or an empty directory is sought
+/// among the paths only where it would change the result. A directory with entries is sought before what is below it is
+/// walked over; after 16 that were sought in vain only if that would change the result.
+fn deepest_at(
+    arena: &Arena,
+    orders: &Orders,
+    node: u16,
+    others: &Others<'_>,
+    search: &mut Search,
+    before: usize,
+) -> usize
+    requires tree { IsTree (nodes_in arena.now) }
+    requires ordered { IsInOrders (nodes_in arena.now) orders.now None }
+    requires deep { StandsDeep (nodes_in arena.now) (length others.now.directory.now + 1) node }
+    requires before { before ≤ 8 }
+    ensures value { result ≡ max before (most_names_in (nodes_in arena.now)
+        (walks_at orders.now (length others.now.directory.now + 1)
+        (entries_beside others.now.directory.now others.now.paths.now (nodes_in arena.now) (node ∷ [])))) }
+    ensures within { result ≤ 8 }
+{
+    let entries = orders.directories[usize::from(node)];
+    let depth = others.directory.depth() + 1;
+    if entries.is_empty() && depth <= before {
+        return before;
+    }
+    let comes_first = search.misses < MOST_MISSES;
+    if comes_first && !others.leaves(arena, node, search) {
+        return before;
+    }
+    let here = depth.max(deepest_in(arena, orders, entries, depth + 1));
+    if before < here && (comes_first || others.leaves(arena, node, search)) {
+        here
+    } else {
+        before
+    }
 }
 
 /// The number of names of the longest path at and below the entries in an order, which is of entries of the directory,
-/// but for those that are left out; or `most`, if that is more. Takes no memory. In time linear in what is there: an
-/// entry is sought among the paths only where it would change the result.
+/// but for those that are left out; or `most`, if that is more. Takes no memory. In time linear in what is there, by
+/// at most 23 calls within one another for the directory and each one on the way down. It ends at a path of 8 names.
 pub(crate) fn deepest_beside(
     arena: &Arena,
     orders: &Orders,
     order: Order,
     others: &Others<'_>,
-    next: &mut usize,
+    search: &mut Search,
     most: usize,
 ) -> usize
     requires tree { IsTree (nodes_in arena.now) }
@@ -123,14 +175,19 @@ pub(crate) fn deepest_beside(
         return most;
     }
     let around = orders.links[usize::from(order.root)];
-    let entries = orders.directories[usize::from(order.root)];
-    let before = deepest_beside(arena, orders, around.left(), others, next, most);
-    let depth = others.directory.depth() + 1;
-    let here = depth.max(deepest_in(arena, orders, entries, depth + 1));
-    let sofar = if before < here && others.leaves(arena, order.root, next) {
-        here
+    let left = around.left();
+    let before = if left.is_empty() {
+        most
     } else {
-        before
+        deepest_beside(arena, orders, left, others, search, most)
     };
-    deepest_beside(arena, orders, around.right(), others, next, sofar)
+    if before == MOST_NAMES {
+        return before;
+    }
+    let sofar = deepest_at(arena, orders, order.root, others, search, before);
+    let right = around.right();
+    if right.is_empty() {
+        return sofar;
+    }
+    deepest_beside(arena, orders, right, others, search, sofar)
 }

@@ -9,11 +9,11 @@ ghost use Rattle.cfdp_tree.specs.code.Walk.{walks_at, most_names_in, StandAt};
 use crate::orders::Orders;
 use cfdp_arena::{Arena, BlockId};
 use cfdp_order::Order;
-use cfdp_paths::Memory;
+use cfdp_paths::{MOST_NAMES, Memory};
 
 /// The number of names of the longest path among the nodes of an order, each of which has a path of `depth` names, and
 /// all that is below them; 0 for an empty order. Takes no memory, and reads no block. In time linear in the nodes, by
-/// at most 23 calls within one another for each directory on the way down.
+/// at most 23 calls within one another for each directory on the way down. It ends at a path of 8 names.
 pub(crate) fn deepest_in(arena: &Arena, orders: &Orders, order: Order, depth: usize) -> usize
     requires tree { IsTree (nodes_in arena.now) }
     requires ordered { IsInOrders (nodes_in arena.now) orders.now None }
@@ -35,19 +35,27 @@ pub(crate) fn deepest_in(arena: &Arena, orders: &Orders, order: Order, depth: us
     } else {
         deepest_in(arena, orders, entries, depth + 1)
     };
+    let here = depth.max(below);
+    if here == MOST_NAMES {
+        return here;
+    }
     let left = around.left();
     let before = if left.is_empty() {
         0
     } else {
         deepest_in(arena, orders, left, depth)
     };
+    let sofar = here.max(before);
+    if sofar == MOST_NAMES {
+        return sofar;
+    }
     let right = around.right();
     let after = if right.is_empty() {
         0
     } else {
         deepest_in(arena, orders, right, depth)
     };
-    depth.max(below).max(before).max(after)
+    sofar.max(after)
 }
 
 /// Puts the nodes of an order, each of which has a path of `depth` names, at the end of a vector, and what is below

@@ -3,8 +3,9 @@
 --     found_is, found_after, found_before    what a search tells
 --     split_any                 whether one of the paths passes, by those before an index and after it
 --     any_parts                 the same of the nodes of an order
---     grown, passed, left_out   how the longest path so far grows
---     longest_with, longest_without    the longest path, by whether a node between others is left out
+--     longest_apart             the longest path is that of a node, of those before it or of those after it
+--     longest_few               it has no more than 8 names
+--     longest_kept, longest_left, longest_within    that of one node, by whether it is left out
 use Rattle.std.proofs.Common.{◌≡◌, ℕ, suc, ◌+◌, ◌-◌, ◌<◌, ◌≤◌, ◌||◌, nat_lt, max, cond, Bool, true, false, is_some, List, [], ◌∷◌, ◌++◌, length, take, drop, get_or, Option, Some, None, refl, sym, ap, ◌∙◌, arith}
 use Rattle.std.proofs.lemmas.Bool.{lt-ltb}
 use Rattle.std.proofs.lemmas.Bool.Decides.{same_from_decides, Decides-ltb}
@@ -20,10 +21,10 @@ use Rattle.cfdp_paths.proofs.Comparing.{same_name-Decides, same_path-Decides}
 use Rattle.cfdp_tree.specs.declared.orders.Orders.{Orders}
 use Rattle.cfdp_tree.specs.code.Tree.{path_of_node}
 use Rattle.cfdp_tree.specs.code.Orders.{in_order}
-use Rattle.cfdp_tree.specs.code.Walk.{walk, walks, most_names_in}
+use Rattle.cfdp_tree.specs.code.Walk.{walk, walks_at, most_names_in, StandsDeep}
 use Rattle.cfdp_tree.specs.code.Beside.{is_entry_beside, entries_beside}
 use Rattle.cfdp_tree.proofs.OfNodes.TreeLaws.{last_same}
-use Rattle.cfdp_tree.proofs.OfWalks.WalkLaws.{longest-append, longest_parts}
+use Rattle.cfdp_tree.proofs.OfWalks.WalkLaws.{few_names, longest-append, longest_parts, names_few}
 use Rattle.cfdp_paths.proofs.Scanning.{or_false, or_true}
 
 some_names : (p q : Path) → parent q ≡ p → 1 ≤ length p → 1 ≤ length q
@@ -107,41 +108,50 @@ pub any_parts : (test : ℕ → Bool) (before : List ℕ) (b : ℕ) (after list 
     list_any test list ≡ (list_any test before || (test b || list_any test after))
 any_parts test before b after list is = ap (list_any test) is ∙ list_any-append test before (b ∷ after)
 
-module _ (nodes : Blocks) (orders : Orders) (p : Path) (others : List Path) (n m : ℕ) (before : List ℕ) (b : ℕ) (after list : List ℕ) (more : n ≡ suc m)
-    (is : list ≡ before ++ b ∷ after) where
-  abbrev kept : List ℕ → List ℕ
-  kept = entries_beside p others nodes
-
+module _ (nodes : Blocks) (orders : Orders) (p : Path) (others : List Path) (depth : ℕ) where
   abbrev most : List ℕ → ℕ
-  most xs = most_names_in nodes (walks orders n (entries_beside p others nodes xs))
+  most xs = most_names_in nodes (walks_at orders depth (entries_beside p others nodes xs))
 
-  apart : entries_beside p others nodes list ≡ kept before ++ kept (b ∷ after)
-  apart = ap kept is ∙ filter-append (is_entry_beside p others nodes) before (b ∷ after)
+  most-append : (xs ys : List ℕ) → most (xs ++ ys) ≡ max (most xs) (most ys)
+  most-append xs ys =
+      ap (λ zs. most_names_in nodes (walks_at orders depth zs)) (filter-append (is_entry_beside p others nodes) xs ys)
+      ∙ ap (most_names_in nodes) (flat_map-append (walk orders (9 - depth)) (entries_beside p others nodes xs) (entries_beside p others nodes ys))
+      ∙ longest-append nodes (walks_at orders depth (entries_beside p others nodes xs)) (walks_at orders depth (entries_beside p others nodes ys))
 
-  pub longest_with : is_entry_beside p others nodes b ≡ true → most_names_in nodes (walks orders n (entries_beside p others nodes list))
-      ≡ max (max (max (length (path_of_node nodes b)) (most_names_in nodes (walks orders m (in_order orders (Some b)))))
-      (most_names_in nodes (walks orders n (entries_beside p others nodes before))))
-      (most_names_in nodes (walks orders n (entries_beside p others nodes after)))
-  longest_with test =
-      ap (λ xs. most_names_in nodes (walks orders n xs)) (apart ∙ ap (λ t. kept before ++ cond t (b ∷ kept after) (kept after)) test)
-      ∙ longest_parts nodes orders n m (kept before) b (kept after) more
+  pub longest_apart : (before : List ℕ) (b : ℕ) (after list : List ℕ) → list ≡ before ++ b ∷ after →
+      most_names_in nodes (walks_at orders depth (entries_beside p others nodes list))
+      ≡ max (most_names_in nodes (walks_at orders depth (entries_beside p others nodes before)))
+      (max (most_names_in nodes (walks_at orders depth (entries_beside p others nodes (b ∷ []))))
+      (most_names_in nodes (walks_at orders depth (entries_beside p others nodes after))))
+  longest_apart before b after list is = ap most is ∙ most-append before (b ∷ after) ∙ ap (max (most before)) (most-append (b ∷ []) after)
 
-  pub longest_without : is_entry_beside p others nodes b ≡ false → most_names_in nodes (walks orders n (entries_beside p others nodes list))
-      ≡ max (most_names_in nodes (walks orders n (entries_beside p others nodes before)))
-      (most_names_in nodes (walks orders n (entries_beside p others nodes after)))
-  longest_without test =
-      ap (λ xs. most_names_in nodes (walks orders n xs)) (apart ∙ ap (λ t. kept before ++ cond t (b ∷ kept after) (kept after)) test)
-      ∙ ap (most_names_in nodes) (flat_map-append (walk orders n) (kept before) (kept after))
-      ∙ longest-append nodes (walks orders n (kept before)) (walks orders n (kept after))
+  pub longest_few : (list : List ℕ) → most_names_in nodes (walks_at orders depth (entries_beside p others nodes list)) ≤ 8
+  longest_few list = names_few nodes (walks_at orders depth (entries_beside p others nodes list))
 
--- how the longest path so far grows, where an entry counts, is no longer, or is left out
-pub grown : (most before here sofar names below left right whole : ℕ) → before ≡ max most left → here ≡ max names below → before < here → sofar ≡ here
-    → whole ≡ max (max (max names below) left) right → max sofar right ≡ max most whole
-grown most before here sofar names below left right whole b h longer s w = grind (arith, b, h, longer, s, w)
+  module _ (b : ℕ) (deep : StandsDeep nodes depth b) where
+    pub longest_kept : is_entry_beside p others nodes b ≡ true → most_names_in nodes (walks_at orders depth (entries_beside p others nodes (b ∷ [])))
+        ≡ max depth (most_names_in nodes (walks_at orders (depth + 1) (in_order orders (Some b))))
+    longest_kept test =
+        ap (λ t. most_names_in nodes (walks_at orders depth (cond t (b ∷ []) []))) test
+        ∙ longest_parts nodes orders (9 - depth) (9 - (depth + 1)) [] b [] more
+        ∙ no_more (length (path_of_node nodes b)) (most_names_in nodes (walks_at orders (depth + 1) (in_order orders (Some b))))
+        ∙ ap (λ k. max k (most_names_in nodes (walks_at orders (depth + 1) (in_order orders (Some b))))) deep.names
+      where
+        more : 9 - depth ≡ suc (9 - (depth + 1))
+        more = omega (arith, few_names nodes b, deep.names)
 
-pub passed : (most before here sofar names below left right whole : ℕ) → before ≡ max most left → here ≡ max names below → here ≤ before → sofar ≡ before
-    → whole ≡ max (max (max names below) left) right → max sofar right ≡ max most whole
-passed most before here sofar names below left right whole b h shorter s w = grind (arith, b, h, shorter, s, w)
+        no_more : (x y : ℕ) → max (max (max x y) 0) 0 ≡ max x y
+        no_more x y = grind arith
 
-pub left_out : (most before sofar left right whole : ℕ) → before ≡ max most left → sofar ≡ before → whole ≡ max left right → max sofar right ≡ max most whole
-left_out most before sofar left right whole b s w = grind (arith, b, s, w)
+    pub longest_left : is_entry_beside p others nodes b ≡ false → most_names_in nodes (walks_at orders depth (entries_beside p others nodes (b ∷ []))) ≡ 0
+    longest_left test = ap (λ t. most_names_in nodes (walks_at orders depth (cond t (b ∷ []) []))) test
+
+    -- whether the entry is left out or not
+    pub longest_within : (most : ℕ) → depth ≤ most → most_names_in nodes (walks_at orders (depth + 1) (in_order orders (Some b))) ≤ most →
+        most_names_in nodes (walks_at orders depth (entries_beside p others nodes (b ∷ []))) ≤ most
+    longest_within most here below = by_test (is_entry_beside p others nodes b) refl
+      where
+        by_test : (t : Bool) → is_entry_beside p others nodes b ≡ t →
+            most_names_in nodes (walks_at orders depth (entries_beside p others nodes (b ∷ []))) ≤ most
+        by_test true is = grind (arith, longest_kept is, here, below)
+        by_test false is = omega (arith, longest_left is)

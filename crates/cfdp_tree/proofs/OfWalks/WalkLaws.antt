@@ -1,13 +1,13 @@
 -- Walks over what is below a directory or the root.
 --     max_three, longest-append     of numbers and of nodes together
---     few_names                 a path has no more than 8 names
+--     few_names, names_few      a path has no more than 8 names, nor has the longest of some
 --     deep_parts                of an order, a node and those before and after it
 --     longest_parts, walks_parts    the longest path, and a walk, in these parts
 --     place_deep                the entries of a directory have a name more
 --     Parts, parts              an order that is not empty, with the orders of its parts
 --     falls_below               how far a walk has to go yet
 --     no_walk                   of an empty order nothing is walked over
---     filled, read_parts, read_around, top_inside    the same by what a walk reads
+--     filled, read_parts, read_around, read_below, top_inside    the same by what a walk reads
 --     place_few                 the path of a directory has 8 names at most
 --     some_begun, none_begun, one_deeper    where a walk from a directory or the root begins
 use Rattle.std.proofs.Common.{◌≡◌, ℕ, zero, suc, ◌+◌, ◌≤◌, max, ◌-◌, ◌*◌, ◌<◌, List, [], ◌∷◌, ◌++◌, length, length-append, get_or, Bool, true, false, inl, inr, Option, Some, None, refl, sym, ap, ◌∙◌, subst, arith}
@@ -59,6 +59,10 @@ climb_few nodes (suc n) b = by_home (λ d. climb_few nodes n d) (home nodes b) r
 
 pub few_names : (nodes : Blocks) (b : ℕ) → length (path_of_node nodes b) ≤ 8
 few_names nodes b = subst (λ n. length (climb nodes n b) ≤ 8) (sym most_is) (climb_few nodes 8 b)
+
+pub names_few : (nodes : Blocks) (list : List ℕ) → most_names_in nodes list ≤ 8
+names_few nodes [] = omega arith
+names_few nodes (b ∷ list) = grind (arith, few_names nodes b, names_few nodes list)
 
 -- a node, and those before and after it
 pub deep_parts : (nodes : Blocks) (depth : ℕ) (before : List ℕ) (b : ℕ) (after : List ℕ) → StandAt nodes depth (before ++ b ∷ after) →
@@ -234,6 +238,27 @@ read_around arena tree orders ordered small order depth is some deep n n_is arou
     let here : around ≡ links_at links n = around_is ∙ get_or_default links n around no_links within in
     parts (nodes_in arena) tree orders ordered few order depth is some deep n order.root n_is refl (left_of around) (order_at orders (Some order.root))
     (right_of around) (ap (λ (l : Links). left_of l) here) refl (ap (λ (l : Links). right_of l) here)
+
+-- what is below a node
+pub record Below (nodes : Blocks) (orders : Orders) (depth b : ℕ) (below : Order) : Type 0 where
+  pub listed : nodes_of orders.links.items below ≡ in_order orders (Some b)
+  pub is_below : IsOrder orders.links.items below
+  pub deep_below : StandAt nodes (depth + 1) (nodes_of orders.links.items below)
+  pub few : depth ≤ 8
+
+pub read_below : (nodes : Blocks) → IsTree nodes → (orders : Orders) → IsInOrders nodes orders None → (depth b : ℕ) → StandsDeep nodes depth b →
+    (m : ℕ) → m ≡ b → (below : Order) → below ≡ get_or orders.directories.items m below → Below nodes orders depth b below
+read_below nodes tree orders ordered depth b deep m m_is below below_is =
+    let inside : m < length orders.directories.items = omega (arith, m_is, live_within nodes b deep.node, ordered.directories) in
+    let here : below ≡ order_at orders (Some b) = below_is ∙ get_or_default orders.directories.items m below no_order inside
+    ∙ ap (λ k. order_at orders (Some k)) m_is in
+    let list : nodes_of orders.links.items below ≡ in_order orders (Some b) = ap (λ (o : Order). nodes_of orders.links.items o) here in
+    record {
+      listed = list;
+      is_below = subst (λ (o : Order). IsOrder orders.links.items o) (sym here) (ordered.order (Some b));
+      deep_below = subst (StandAt nodes (depth + 1)) (sym list) (place_deep nodes tree orders ordered (Some b) depth deep.names);
+      few = omega (arith, few_names nodes b, deep.names);
+    }
 
 pub top_inside : (arena : Blocks) → IsTree (nodes_in arena) → (orders : Orders) → IsInOrders (nodes_in arena) orders None → length arena ≤ 65536 →
     (order : Order) (depth : ℕ) → IsOrder orders.links.items order → 0 < order.height

@@ -2,21 +2,20 @@
 //! both stores.
 
 use super::calls::{Asked, parsed};
-use super::steps::{BLOCKS, Existing, Step, take};
+use super::steps::{BLOCKS, Existing, Step, performs, puts, take, takes};
 use cfdp_actions::{Filestore, Kind, ListStore, Protected, entry_checksum};
 use cfdp_paths::{Memory, Names, Path};
-use cfdp_status::Action;
 use cfdp_tree::TreeStore;
 use std::alloc::Global;
 use std::process::Abort;
 
 /// Makes what is in [`FOUND`].
 const MAKES: &[Step<'static>] = &[
-    Step::Performs(Action::CreateDirectory, b"d", b"", 0x50, 1, 63),
-    Step::Performs(Action::CreateFile, b"e", b"", 0x00, 1, 62),
-    Step::Takes(Asked::Extend(0, 5), 1, 61),
-    Step::Puts(0, 0, b"abcde"),
-    Step::Takes(Asked::Install(0, b"d/f"), 1, 60),
+    performs!(CreateDirectory, b"d" => status 0x50, ticks 1, free 63),
+    performs!(CreateFile, b"e" => status 0x00, ticks 1, free 62),
+    takes!(Asked::Extend(0, 5) => ticks 1, free 61),
+    puts!(slot 0, at 0, b"abcde"),
+    takes!(Asked::Install(0, b"d/f") => ticks 1, free 60),
 ];
 
 /// What exists, also with a `/` in front. The octets of `d/f` are the words 61 62 63 64 and 65 00 00 00.
@@ -193,9 +192,9 @@ fn sum_written<S: Filestore>(
     let blocks = octets.len().div_ceil(120).min(64) as u32;
     let free = BLOCKS.saturating_sub(blocks);
     let steps = [
-        Step::Takes(Asked::Extend(0, octets.len() as u64), blocks, free),
-        Step::Puts(0, 0, octets),
-        Step::Takes(Asked::Install(0, b"sum"), 1, free.saturating_sub(1)),
+        takes!(Asked::Extend(0, octets.len() as u64) => ticks blocks, free free),
+        puts!(slot 0, at 0, octets),
+        takes!(Asked::Install(0, b"sum") => ticks 1, free free.saturating_sub(1)),
     ];
     take(rt, alloc, store, &Protected::new(), "written", &steps)?;
     let path = parsed(alloc, b"sum")?;

@@ -2,10 +2,12 @@
 //! and as long names as there may be. `.ci/run_scripts` has a directory of 4,096 entries.
 
 use super::calls::{Asked, deepest, parsed};
-use super::steps::{Existing, Script, Shown, Step, are_listed, are_standing, run, take};
+use super::steps::{
+    Existing, Script, Shown, Step, are_listed, are_standing, performs, puts, run, shows_octets,
+    shows_staged, take, takes,
+};
 use cfdp_actions::{Filestore, Kind, Protected};
 use cfdp_paths::Memory;
-use cfdp_status::Action;
 use cfdp_tree::TreeStore;
 use std::alloc::Global;
 use std::process::Abort;
@@ -23,32 +25,32 @@ const CHECKSUM: u32 = 0xab2f_bfb5;
 /// What is staged in the last slot takes all that is left, with three pieces in it, of which the second one goes from
 /// one block into the next. It becomes the contents of a file, which takes no block.
 const A_LIST_TAKES_ALL_THAT_IS_LEFT: &[Step<'static>] = &[
-    Step::Performs(Action::CreateDirectory, b"d", b"", 0x50, 1, 65_535),
-    Step::Performs(Action::CreateFile, b"d/f", b"", 0x00, 1, 65_534),
-    Step::Takes(Asked::Extend(63, 1), 1, 65_533),
-    Step::Takes(Asked::Extend(63, 3_600_000), 29_999, 35_534),
-    Step::Takes(Asked::Extend(63, LONGEST), 35_534, 0),
-    Step::Puts(63, LONGEST - 4, b"last"),
-    Step::Puts(63, 3_599_998, b"middle"),
-    Step::Puts(63, 0, b"first"),
-    Step::Shows(Shown::Staged(63, LONGEST, 0, b"first")),
-    Step::Shows(Shown::Staged(63, LONGEST, 3_599_998, b"middle")),
-    Step::Shows(Shown::Staged(63, LONGEST, LONGEST - 4, b"last")),
+    performs!(CreateDirectory, b"d" => status 0x50, ticks 1, free 65_535),
+    performs!(CreateFile, b"d/f" => status 0x00, ticks 1, free 65_534),
+    takes!(Asked::Extend(63, 1) => ticks 1, free 65_533),
+    takes!(Asked::Extend(63, 3_600_000) => ticks 29_999, free 35_534),
+    takes!(Asked::Extend(63, LONGEST) => ticks 35_534, free 0),
+    puts!(slot 63, at LONGEST - 4, b"last"),
+    puts!(slot 63, at 3_599_998, b"middle"),
+    puts!(slot 63, at 0, b"first"),
+    shows_staged!(slot 63, size LONGEST, at 0, b"first"),
+    shows_staged!(slot 63, size LONGEST, at 3_599_998, b"middle"),
+    shows_staged!(slot 63, size LONGEST, at LONGEST - 4, b"last"),
     Step::Shows(Shown::StagedChecksum(63, CHECKSUM)),
-    Step::Takes(Asked::Install(63, b"d/f"), 0, 0),
-    Step::Shows(Shown::Staged(63, 0, 0, b"")),
-    Step::Shows(Shown::Octets(b"d/f", LONGEST, 0, b"first")),
-    Step::Shows(Shown::Octets(b"d/f", LONGEST, 3_599_998, b"middle")),
-    Step::Shows(Shown::Octets(b"d/f", LONGEST, LONGEST - 4, b"last")),
+    takes!(Asked::Install(63, b"d/f") => ticks 0, free 0),
+    shows_staged!(slot 63, size 0, at 0, b""),
+    shows_octets!(b"d/f", size LONGEST, at 0, b"first"),
+    shows_octets!(b"d/f", size LONGEST, at 3_599_998, b"middle"),
+    shows_octets!(b"d/f", size LONGEST, at LONGEST - 4, b"last"),
     Step::Shows(Shown::Checksum(b"d/f", Some(CHECKSUM))),
-    Step::Performs(Action::DeleteFile, b"d/f", b"", 0x10, 65_535, 65_535),
-    Step::Performs(Action::RemoveDirectory, b"d", b"", 0x60, 1, BLOCKS),
+    performs!(DeleteFile, b"d/f" => status 0x10, ticks 65_535, free 65_535),
+    performs!(RemoveDirectory, b"d" => status 0x60, ticks 1, free BLOCKS),
 ];
 
 /// The octets of all blocks are staged, and given back.
 const A_LIST_TAKES_ALL_BLOCKS: &[Step<'static>] = &[
-    Step::Takes(Asked::Extend(63, 65_536 * 120), BLOCKS, 0),
-    Step::Takes(Asked::Unstage(63), BLOCKS, BLOCKS),
+    takes!(Asked::Extend(63, 65_536 * 120) => ticks BLOCKS, free 0),
+    takes!(Asked::Unstage(63) => ticks BLOCKS, free BLOCKS),
 ];
 
 #[test]
@@ -111,7 +113,7 @@ fn made(alloc: Global, path: &[u8]) -> Result<Vec<Step<'_>>, Memory> {
     for names in 1..8u32 {
         let directory = beginning(path, names);
         let free = BLOCKS - names;
-        steps.push(Step::Performs(Action::CreateDirectory, directory, b"", 0x50, 1, free))?;
+        steps.push(performs!(CreateDirectory, directory => status 0x50, ticks 1, free free))?;
     }
     Ok(steps)
 }
@@ -119,17 +121,17 @@ fn made(alloc: Global, path: &[u8]) -> Result<Vec<Step<'_>>, Memory> {
 /// Makes the file.
 fn delivered(file: &[u8]) -> [Step<'_>; 4] {
     [
-        Step::Takes(Asked::Extend(0, 6), 1, 65_528),
-        Step::Puts(0, 0, b"octets"),
-        Step::Takes(Asked::Install(0, file), 1, 65_527),
-        Step::Shows(Shown::Octets(file, 6, 0, b"octets")),
+        takes!(Asked::Extend(0, 6) => ticks 1, free 65_528),
+        puts!(slot 0, at 0, b"octets"),
+        takes!(Asked::Install(0, file) => ticks 1, free 65_527),
+        shows_octets!(file, size 6, at 0, b"octets"),
     ]
 }
 
 /// The first directory gets another name.
 fn renamed<'a>(old: &'a [u8], new: &'a [u8]) -> [Step<'a>; 2] {
     [
-        Step::Performs(Action::RenameFile, old, new, 0x20, 0, 65_527),
+        performs!(RenameFile, old, new => status 0x20, ticks 0, free 65_527),
         Step::Shows(Shown::Deepest(old, None)),
     ]
 }
@@ -137,8 +139,8 @@ fn renamed<'a>(old: &'a [u8], new: &'a [u8]) -> [Step<'a>; 2] {
 /// The file has its octets, and is removed.
 fn deleted(file: &[u8]) -> [Step<'_>; 2] {
     [
-        Step::Shows(Shown::Octets(file, 6, 0, b"octets")),
-        Step::Performs(Action::DeleteFile, file, b"", 0x10, 2, 65_529),
+        shows_octets!(file, size 6, at 0, b"octets"),
+        performs!(DeleteFile, file => status 0x10, ticks 2, free 65_529),
     ]
 }
 
@@ -148,7 +150,7 @@ fn unmade(alloc: Global, path: &[u8]) -> Result<Vec<Step<'_>>, Memory> {
     for above in 0..7u32 {
         let directory = beginning(path, 7 - above);
         let free = 65_530 + above;
-        steps.push(Step::Performs(Action::RemoveDirectory, directory, b"", 0x60, 1, free))?;
+        steps.push(performs!(RemoveDirectory, directory => status 0x60, ticks 1, free free))?;
     }
     Ok(steps)
 }

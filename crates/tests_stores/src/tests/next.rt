@@ -4,24 +4,23 @@ ghost use Rattle.std.specs.Prelude.{All};
 ghost use Rattle.cfdp_paths.specs.Paths.{IsName};
 
 use super::calls::{Asked, parsed};
-use super::steps::{BLOCKS, Existing, Step, take};
+use super::steps::{BLOCKS, Existing, Step, performs, puts, take, takes};
 use cfdp_actions::{Kind, Protected};
 use cfdp_paths::{Memory, Names};
-use cfdp_status::Action;
 use cfdp_tree::TreeStore;
 use std::alloc::Global;
 use std::process::Abort;
 
 /// Makes what is in [`ROWS`], in another order.
 const MAKES: &[Step<'static>] = &[
-    Step::Performs(Action::CreateFile, b"b", b"", 0x00, 1, 63),
-    Step::Performs(Action::CreateDirectory, b"ab", b"", 0x50, 1, 62),
-    Step::Performs(Action::CreateDirectory, b"a", b"", 0x50, 1, 61),
-    Step::Performs(Action::CreateFile, b"a!", b"", 0x00, 1, 60),
-    Step::Performs(Action::CreateDirectory, b"a/b", b"", 0x50, 1, 59),
-    Step::Takes(Asked::Extend(0, 3), 1, 58),
-    Step::Puts(0, 0, b"abc"),
-    Step::Takes(Asked::Install(0, b"a/b/c"), 1, 57),
+    performs!(CreateFile, b"b" => status 0x00, ticks 1, free 63),
+    performs!(CreateDirectory, b"ab" => status 0x50, ticks 1, free 62),
+    performs!(CreateDirectory, b"a" => status 0x50, ticks 1, free 61),
+    performs!(CreateFile, b"a!" => status 0x00, ticks 1, free 60),
+    performs!(CreateDirectory, b"a/b" => status 0x50, ticks 1, free 59),
+    takes!(Asked::Extend(0, 3) => ticks 1, free 58),
+    puts!(slot 0, at 0, b"abc"),
+    takes!(Asked::Install(0, b"a/b/c") => ticks 1, free 57),
 ];
 
 /// What exists, in path order: names are compared whole, so that what is below `a` is before `a!`. The octets of

@@ -2,9 +2,8 @@
 //! and renamed like others. `worked` runs these scripts.
 
 use super::calls::Asked;
-use super::steps::{Existing, Script, Shown, Step};
+use super::steps::{Existing, Script, Shown, Step, performs, puts, shows_octets, takes};
 use cfdp_actions::Kind;
-use cfdp_status::Action;
 use std::hash::{FoldHasher, Hasher};
 
 // The hash of 16 octets is a product. One factor is the last eight octets, less a constant of the hasher bit by bit.
@@ -44,16 +43,16 @@ const IN_K: &[u8] =
 
 /// Ten files: the list of their head has eight of them.
 const CREATES: &[Step<'static>] = &[
-    Step::Performs(Action::CreateFile, A, b"", 0x00, 1, 63),
-    Step::Performs(Action::CreateFile, B, b"", 0x00, 1, 62),
-    Step::Performs(Action::CreateFile, C, b"", 0x00, 1, 61),
-    Step::Performs(Action::CreateFile, D, b"", 0x00, 1, 60),
-    Step::Performs(Action::CreateFile, E, b"", 0x00, 1, 59),
-    Step::Performs(Action::CreateFile, F, b"", 0x00, 1, 58),
-    Step::Performs(Action::CreateFile, G, b"", 0x00, 1, 57),
-    Step::Performs(Action::CreateFile, H, b"", 0x00, 1, 56),
-    Step::Performs(Action::CreateFile, I, b"", 0x00, 1, 55),
-    Step::Performs(Action::CreateFile, J, b"", 0x00, 1, 54),
+    performs!(CreateFile, A => status 0x00, ticks 1, free 63),
+    performs!(CreateFile, B => status 0x00, ticks 1, free 62),
+    performs!(CreateFile, C => status 0x00, ticks 1, free 61),
+    performs!(CreateFile, D => status 0x00, ticks 1, free 60),
+    performs!(CreateFile, E => status 0x00, ticks 1, free 59),
+    performs!(CreateFile, F => status 0x00, ticks 1, free 58),
+    performs!(CreateFile, G => status 0x00, ticks 1, free 57),
+    performs!(CreateFile, H => status 0x00, ticks 1, free 56),
+    performs!(CreateFile, I => status 0x00, ticks 1, free 55),
+    performs!(CreateFile, J => status 0x00, ticks 1, free 54),
 ];
 
 /// What exists then.
@@ -78,31 +77,31 @@ const FINDS: &[Step<'static>] = &[
     Step::Shows(Shown::Deepest(I, Some(1))),
     Step::Shows(Shown::Deepest(J, Some(1))),
     Step::Shows(Shown::Deepest(K, None)),
-    Step::Performs(Action::CreateFile, A, b"", 0x01, 0, 54),
-    Step::Performs(Action::CreateFile, J, b"", 0x01, 0, 54),
-    Step::Performs(Action::DeleteFile, K, b"", 0x11, 0, 54),
+    performs!(CreateFile, A => status 0x01, ticks 0, free 54),
+    performs!(CreateFile, J => status 0x01, ticks 0, free 54),
+    performs!(DeleteFile, K => status 0x11, ticks 0, free 54),
 ];
 
 /// Those in the list go, from its end, its middle and its front, and others that are not in it.
 const REMOVES: &[Step<'static>] = &[
-    Step::Performs(Action::DeleteFile, I, b"", 0x10, 1, 55),
-    Step::Performs(Action::DeleteFile, A, b"", 0x10, 1, 56),
-    Step::Performs(Action::DeleteFile, D, b"", 0x10, 1, 57),
-    Step::Performs(Action::DeleteFile, H, b"", 0x10, 1, 58),
+    performs!(DeleteFile, I => status 0x10, ticks 1, free 55),
+    performs!(DeleteFile, A => status 0x10, ticks 1, free 56),
+    performs!(DeleteFile, D => status 0x10, ticks 1, free 57),
+    performs!(DeleteFile, H => status 0x10, ticks 1, free 58),
     Step::Shows(Shown::Deepest(I, None)),
     Step::Shows(Shown::Deepest(D, None)),
     Step::Shows(Shown::Deepest(J, Some(1))),
-    Step::Performs(Action::DeleteFile, B, b"", 0x10, 1, 59),
-    Step::Performs(Action::DeleteFile, C, b"", 0x10, 1, 60),
-    Step::Performs(Action::DeleteFile, E, b"", 0x10, 1, 61),
-    Step::Performs(Action::DeleteFile, F, b"", 0x10, 1, 62),
-    Step::Performs(Action::DeleteFile, G, b"", 0x10, 1, 63),
+    performs!(DeleteFile, B => status 0x10, ticks 1, free 59),
+    performs!(DeleteFile, C => status 0x10, ticks 1, free 60),
+    performs!(DeleteFile, E => status 0x10, ticks 1, free 61),
+    performs!(DeleteFile, F => status 0x10, ticks 1, free 62),
+    performs!(DeleteFile, G => status 0x10, ticks 1, free 63),
     Step::Shows(Shown::Listing(&[(J, Kind::File, 0, 0)])),
     Step::Shows(Shown::Deepest(J, Some(1))),
-    Step::Performs(Action::CreateFile, J, b"", 0x01, 0, 63),
-    Step::Performs(Action::DeleteFile, J, b"", 0x10, 1, 64),
-    Step::Performs(Action::DeleteFile, J, b"", 0x11, 0, 64),
-    Step::Performs(Action::CreateFile, J, b"", 0x00, 1, 63),
+    performs!(CreateFile, J => status 0x01, ticks 0, free 63),
+    performs!(DeleteFile, J => status 0x10, ticks 1, free 64),
+    performs!(DeleteFile, J => status 0x11, ticks 0, free 64),
+    performs!(CreateFile, J => status 0x00, ticks 1, free 63),
     Step::Shows(Shown::Listing(&[(J, Kind::File, 0, 0)])),
 ];
 
@@ -122,13 +121,13 @@ const RENAMED: &[Existing<'static>] = &[
 
 /// Names of this hash are given away, taken, and changed for one another.
 const RENAMES: &[Step<'static>] = &[
-    Step::Performs(Action::RenameFile, A, b"a", 0x20, 0, 54),
-    Step::Performs(Action::RenameFile, I, b"i", 0x20, 0, 54),
-    Step::Performs(Action::RenameFile, J, K, 0x20, 0, 54),
-    Step::Performs(Action::RenameFile, B, J, 0x20, 0, 54),
-    Step::Performs(Action::RenameFile, b"i", A, 0x20, 0, 54),
-    Step::Performs(Action::RenameFile, K, C, 0x22, 0, 54),
-    Step::Performs(Action::RenameFile, I, b"i", 0x21, 0, 54),
+    performs!(RenameFile, A, b"a" => status 0x20, ticks 0, free 54),
+    performs!(RenameFile, I, b"i" => status 0x20, ticks 0, free 54),
+    performs!(RenameFile, J, K => status 0x20, ticks 0, free 54),
+    performs!(RenameFile, B, J => status 0x20, ticks 0, free 54),
+    performs!(RenameFile, b"i", A => status 0x20, ticks 0, free 54),
+    performs!(RenameFile, K, C => status 0x22, ticks 0, free 54),
+    performs!(RenameFile, I, b"i" => status 0x21, ticks 0, free 54),
     Step::Shows(Shown::Listing(RENAMED)),
     Step::Shows(Shown::Deepest(A, Some(1))),
     Step::Shows(Shown::Deepest(B, None)),
@@ -147,24 +146,24 @@ const BELOW: &[Existing<'static>] = &[
 
 /// Directories, whose entries are found by the same hash, and octets in files that are not in the list.
 const IN_DIRECTORIES: &[Step<'static>] = &[
-    Step::Performs(Action::CreateDirectory, K, b"", 0x50, 1, 53),
-    Step::Performs(Action::CreateDirectory, b"d", b"", 0x50, 1, 52),
-    Step::Performs(Action::CreateFile, IN_K, b"", 0x00, 1, 51),
-    Step::Performs(Action::RemoveDirectory, K, b"", 0x62, 0, 51),
-    Step::Performs(Action::RenameFile, IN_K, BELOW_A, 0x20, 0, 51),
-    Step::Performs(Action::RemoveDirectory, K, b"", 0x60, 1, 52),
-    Step::Takes(Asked::Extend(0, 3), 1, 51),
-    Step::Puts(0, 0, b"abc"),
-    Step::Takes(Asked::Install(0, BELOW_K), 1, 50),
-    Step::Performs(Action::CreateFile, BELOW_B, b"", 0x00, 1, 49),
-    Step::Performs(Action::ReplaceFile, BELOW_B, BELOW_K, 0x40, 2, 48),
-    Step::Performs(Action::AppendFile, J, BELOW_B, 0x30, 2, 47),
-    Step::Shows(Shown::Octets(J, 3, 0, b"abc")),
+    performs!(CreateDirectory, K => status 0x50, ticks 1, free 53),
+    performs!(CreateDirectory, b"d" => status 0x50, ticks 1, free 52),
+    performs!(CreateFile, IN_K => status 0x00, ticks 1, free 51),
+    performs!(RemoveDirectory, K => status 0x62, ticks 0, free 51),
+    performs!(RenameFile, IN_K, BELOW_A => status 0x20, ticks 0, free 51),
+    performs!(RemoveDirectory, K => status 0x60, ticks 1, free 52),
+    takes!(Asked::Extend(0, 3) => ticks 1, free 51),
+    puts!(slot 0, at 0, b"abc"),
+    takes!(Asked::Install(0, BELOW_K) => ticks 1, free 50),
+    performs!(CreateFile, BELOW_B => status 0x00, ticks 1, free 49),
+    performs!(ReplaceFile, BELOW_B, BELOW_K => status 0x40, ticks 2, free 48),
+    performs!(AppendFile, J, BELOW_B => status 0x30, ticks 2, free 47),
+    shows_octets!(J, size 3, at 0, b"abc"),
     Step::Shows(Shown::Checksum(BELOW_K, Some(0x6162_6300))),
     Step::Shows(Shown::Standing(b"d", BELOW)),
-    Step::Performs(Action::RenameFile, b"d", K, 0x20, 0, 47),
+    performs!(RenameFile, b"d", K => status 0x20, ticks 0, free 47),
     Step::Shows(Shown::Deepest(K, Some(2))),
-    Step::Performs(Action::DeleteFile, IN_K, b"", 0x10, 1, 48),
+    performs!(DeleteFile, IN_K => status 0x10, ticks 1, free 48),
     Step::Shows(Shown::Deepest(IN_K, None)),
 ];
 

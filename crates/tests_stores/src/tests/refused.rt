@@ -4,10 +4,9 @@
 //! `TreeStore` no change can be refused.
 
 use super::calls::{Asked, read_staged, staged_size};
-use super::steps::{BLOCKS, Script, Shown, Step};
+use super::steps::{BLOCKS, Script, Shown, Step, performs, puts, shows_staged, takes};
 use cfdp_actions::{Entry, Filestore, Kind, ListStore, Protected};
 use cfdp_paths::Memory;
-use cfdp_status::Action;
 use cfdp_tree::TreeStore;
 use std::alloc::{AllocError, Global};
 use std::process::Abort;
@@ -77,15 +76,15 @@ fn take_at_last<S: Filestore, R: Abort + Print>(
 /// Of an empty store.
 const NEW: &[Step<'static>] = &[
     Step::Shows(Shown::Listing(&[])),
-    Step::Shows(Shown::Staged(SLOT, 0, 0, b"")),
-    Step::Takes(Asked::Unstage(SLOT), 0, BLOCKS),
+    shows_staged!(slot SLOT, size 0, at 0, b""),
+    takes!(Asked::Unstage(SLOT) => ticks 0, free BLOCKS),
 ];
 
 const CREATES: &[Step<'static>] = &[
-    Step::Performs(Action::CreateDirectory, b"d", b"", 0x50, 1, 63),
-    Step::Performs(Action::CreateFile, b"d/x", b"", 0x00, 1, 62),
-    Step::Performs(Action::CreateFile, b"d/x", b"", 0x01, 0, 62),
-    Step::Performs(Action::CreateFile, b"c", b"", 0x00, 1, 61),
+    performs!(CreateDirectory, b"d" => status 0x50, ticks 1, free 63),
+    performs!(CreateFile, b"d/x" => status 0x00, ticks 1, free 62),
+    performs!(CreateFile, b"d/x" => status 0x01, ticks 0, free 62),
+    performs!(CreateFile, b"c" => status 0x00, ticks 1, free 61),
     Step::Shows(Shown::Listing(&[
         (b"c", Kind::File, 0, 0),
         (b"d", Kind::Directory, 0, 0),
@@ -94,22 +93,22 @@ const CREATES: &[Step<'static>] = &[
 ];
 
 const RENAMES: &[Step<'static>] = &[
-    Step::Performs(Action::CreateDirectory, b"d", b"", 0x50, 1, 63),
-    Step::Performs(Action::CreateFile, b"d/x", b"", 0x00, 1, 62),
-    Step::Performs(Action::RenameFile, b"d", b"e", 0x20, 0, 62),
-    Step::Performs(Action::RenameFile, b"e/x", b"c", 0x20, 0, 62),
+    performs!(CreateDirectory, b"d" => status 0x50, ticks 1, free 63),
+    performs!(CreateFile, b"d/x" => status 0x00, ticks 1, free 62),
+    performs!(RenameFile, b"d", b"e" => status 0x20, ticks 0, free 62),
+    performs!(RenameFile, b"e/x", b"c" => status 0x20, ticks 0, free 62),
     Step::Shows(Shown::Listing(&[(b"c", Kind::File, 0, 0), (b"e", Kind::Directory, 0, 0)])),
 ];
 
 const REMOVES: &[Step<'static>] = &[
-    Step::Performs(Action::CreateFile, b"a", b"", 0x00, 1, 63),
-    Step::Performs(Action::DeleteFile, b"a", b"", 0x10, 1, 64),
-    Step::Performs(Action::CreateFile, b"a", b"", 0x00, 1, 63),
-    Step::Performs(Action::DenyFile, b"a", b"", 0x70, 1, 64),
-    Step::Performs(Action::CreateDirectory, b"a", b"", 0x50, 1, 63),
-    Step::Performs(Action::RemoveDirectory, b"a", b"", 0x60, 1, 64),
-    Step::Performs(Action::CreateDirectory, b"a", b"", 0x50, 1, 63),
-    Step::Performs(Action::DenyDirectory, b"a", b"", 0x80, 1, 64),
+    performs!(CreateFile, b"a" => status 0x00, ticks 1, free 63),
+    performs!(DeleteFile, b"a" => status 0x10, ticks 1, free 64),
+    performs!(CreateFile, b"a" => status 0x00, ticks 1, free 63),
+    performs!(DenyFile, b"a" => status 0x70, ticks 1, free 64),
+    performs!(CreateDirectory, b"a" => status 0x50, ticks 1, free 63),
+    performs!(RemoveDirectory, b"a" => status 0x60, ticks 1, free 64),
+    performs!(CreateDirectory, b"a" => status 0x50, ticks 1, free 63),
+    performs!(DenyDirectory, b"a" => status 0x80, ticks 1, free 64),
     Step::Shows(Shown::Listing(&[])),
 ];
 
@@ -118,19 +117,19 @@ const ONES: &[u8] = &[1; 120];
 
 /// What is delivered at `a` takes blocks of its own: one where it is staged, and one for the file.
 const APPENDS: &[Step<'static>] = &[
-    Step::Takes(Asked::Extend(SLOT, 120), 1, 63),
-    Step::Puts(SLOT, 0, ONES),
-    Step::Takes(Asked::Install(SLOT, b"a"), 1, 62),
-    Step::Performs(Action::AppendFile, b"a", b"a", 0x30, 2, 61),
+    takes!(Asked::Extend(SLOT, 120) => ticks 1, free 63),
+    puts!(slot SLOT, at 0, ONES),
+    takes!(Asked::Install(SLOT, b"a") => ticks 1, free 62),
+    performs!(AppendFile, b"a", b"a" => status 0x30, ticks 2, free 61),
     Step::Shows(Shown::Listing(&[(b"a", Kind::File, 240, 0x3c3c_3c3c)])),
 ];
 
 const REPLACES: &[Step<'static>] = &[
-    Step::Takes(Asked::Extend(SLOT, 120), 1, 63),
-    Step::Puts(SLOT, 0, ONES),
-    Step::Takes(Asked::Install(SLOT, b"a"), 1, 62),
-    Step::Performs(Action::CreateFile, b"b", b"", 0x00, 1, 61),
-    Step::Performs(Action::ReplaceFile, b"b", b"a", 0x40, 2, 60),
+    takes!(Asked::Extend(SLOT, 120) => ticks 1, free 63),
+    puts!(slot SLOT, at 0, ONES),
+    takes!(Asked::Install(SLOT, b"a") => ticks 1, free 62),
+    performs!(CreateFile, b"b" => status 0x00, ticks 1, free 61),
+    performs!(ReplaceFile, b"b", b"a" => status 0x40, ticks 2, free 60),
     Step::Shows(Shown::Listing(&[
         (b"a", Kind::File, 120, 0x1e1e_1e1e),
         (b"b", Kind::File, 120, 0x1e1e_1e1e),
@@ -139,20 +138,20 @@ const REPLACES: &[Step<'static>] = &[
 
 /// What is staged grows, is installed where nothing exists, and then over the file.
 const STAGES_AND_INSTALLS: &[Step<'static>] = &[
-    Step::Takes(Asked::Extend(SLOT, 4), 1, 63),
-    Step::Takes(Asked::Extend(SLOT, 120), 0, 63),
-    Step::Puts(SLOT, 0, ONES),
-    Step::Takes(Asked::Install(SLOT, b"a"), 1, 62),
-    Step::Takes(Asked::Extend(SLOT, 4), 1, 61),
-    Step::Puts(SLOT, 0, &[1; 4]),
-    Step::Takes(Asked::Install(SLOT, b"a"), 1, 62),
-    Step::Shows(Shown::Staged(SLOT, 0, 0, b"")),
+    takes!(Asked::Extend(SLOT, 4) => ticks 1, free 63),
+    takes!(Asked::Extend(SLOT, 120) => ticks 0, free 63),
+    puts!(slot SLOT, at 0, ONES),
+    takes!(Asked::Install(SLOT, b"a") => ticks 1, free 62),
+    takes!(Asked::Extend(SLOT, 4) => ticks 1, free 61),
+    puts!(slot SLOT, at 0, &[1; 4]),
+    takes!(Asked::Install(SLOT, b"a") => ticks 1, free 62),
+    shows_staged!(slot SLOT, size 0, at 0, b""),
     Step::Shows(Shown::Listing(&[(b"a", Kind::File, 4, 0x0101_0101)])),
 ];
 
 const WHAT_EXISTS: &[Step<'static>] = &[
-    Step::Performs(Action::CreateDirectory, b"d", b"", 0x50, 1, 63),
-    Step::Performs(Action::CreateFile, b"d/x", b"", 0x00, 1, 62),
+    performs!(CreateDirectory, b"d" => status 0x50, ticks 1, free 63),
+    performs!(CreateFile, b"d/x" => status 0x00, ticks 1, free 62),
     Step::Shows(Shown::Listing(&[(b"d", Kind::Directory, 0, 0), (b"d/x", Kind::File, 0, 0)])),
     Step::Shows(Shown::Standing(
         b"d",
@@ -214,14 +213,14 @@ const MORE_BLOCKS: u32 = 257;
 
 /// Of 60 staged blocks the last one is written first, then the first one, and then the 33rd one.
 const WRITES_OUT_OF_ORDER: &[Step<'static>] = &[
-    Step::Takes(Asked::Extend(SLOT, 7_200), 60, 197),
-    Step::Puts(SLOT, 7_080, ONES),
-    Step::Puts(SLOT, 0, ONES),
-    Step::Puts(SLOT, 3_840, ONES),
-    Step::Shows(Shown::Staged(SLOT, 7_200, 7_080, ONES)),
-    Step::Shows(Shown::Staged(SLOT, 7_200, 0, ONES)),
-    Step::Shows(Shown::Staged(SLOT, 7_200, 3_840, ONES)),
-    Step::Takes(Asked::Unstage(SLOT), 60, MORE_BLOCKS),
+    takes!(Asked::Extend(SLOT, 7_200) => ticks 60, free 197),
+    puts!(slot SLOT, at 7_080, ONES),
+    puts!(slot SLOT, at 0, ONES),
+    puts!(slot SLOT, at 3_840, ONES),
+    shows_staged!(slot SLOT, size 7_200, at 7_080, ONES),
+    shows_staged!(slot SLOT, size 7_200, at 0, ONES),
+    shows_staged!(slot SLOT, size 7_200, at 3_840, ONES),
+    takes!(Asked::Unstage(SLOT) => ticks 60, free MORE_BLOCKS),
 ];
 
 /// A store of more blocks. If one of its allocations is refused, the next call makes it.

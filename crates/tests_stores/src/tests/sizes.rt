@@ -1,10 +1,11 @@
 //! Octets of sizes around those of whole blocks: staged in pieces, appended to others and to themselves, and replaced.
 
 use super::calls::Asked;
-use super::steps::{BLOCKS, Script, Shown, Step, run_on_both};
+use super::steps::{
+    BLOCKS, Script, Step, performs, puts, run_on_both, shows_octets, shows_staged, takes,
+};
 use cfdp_actions::Protected;
 use cfdp_paths::Memory;
-use cfdp_status::Action;
 use std::alloc::Global;
 
 /// How many octets the files have: none, and around one block and two of them.
@@ -31,7 +32,7 @@ fn blocks(octets: usize) -> u32 {
 }
 
 /// How many blocks are free after this many.
-fn free(blocks: u32) -> u32 {
+fn all_but(blocks: u32) -> u32 {
     BLOCKS.wrapping_sub(blocks)
 }
 
@@ -42,7 +43,7 @@ fn part(octets: &[u8], from: usize, to: usize) -> &[u8] {
 
 /// The file of the name has just these octets.
 fn has<'a>(name: &'a [u8], octets: &'a [u8]) -> Step<'a> {
-    Step::Shows(Shown::Octets(name, octets.len() as u64, 0, octets))
+    shows_octets!(name, size octets.len() as u64, at 0, octets)
 }
 
 /// Makes a file of these octets in a store of which this many blocks are in use.
@@ -55,9 +56,9 @@ fn push_file<'a>(
     let taken = blocks(octets.len());
     let used = used.wrapping_add(taken);
     steps.extend_from_slice(&[
-        Step::Takes(Asked::Extend(0, octets.len() as u64), taken, free(used)),
-        Step::Puts(0, 0, octets),
-        Step::Takes(Asked::Install(0, name), 1, free(used.wrapping_add(1))),
+        takes!(Asked::Extend(0, octets.len() as u64) => ticks taken, free all_but(used)),
+        puts!(slot 0, at 0, octets),
+        takes!(Asked::Install(0, name) => ticks 1, free all_but(used.wrapping_add(1))),
     ])?;
     Ok(())
 }
@@ -73,18 +74,18 @@ fn push_join<'a>(steps: &mut Vec<Step<'a>>, both: &'a [u8], front: usize) -> Res
     push_file(steps, b"f", front, 0)?;
     push_file(steps, b"g", back, of_front.wrapping_add(1))?;
     let appended = of_both.wrapping_sub(of_front).wrapping_add(of_back);
-    let beside = free(of_both.wrapping_add(of_back).wrapping_add(2));
+    let beside = all_but(of_both.wrapping_add(of_back).wrapping_add(2));
     let replaced = of_back.wrapping_add(of_both.wrapping_mul(2));
-    let twice = free(of_both.wrapping_mul(2).wrapping_add(2));
+    let twice = all_but(of_both.wrapping_mul(2).wrapping_add(2));
     let last = of_both.wrapping_add(1);
     steps.extend_from_slice(&[
-        Step::Performs(Action::AppendFile, b"f", b"g", 0x30, appended, beside),
+        performs!(AppendFile, b"f", b"g" => status 0x30, ticks appended, free beside),
         has(b"f", both),
         has(b"g", back),
-        Step::Performs(Action::ReplaceFile, b"g", b"f", 0x40, replaced, twice),
+        performs!(ReplaceFile, b"g", b"f" => status 0x40, ticks replaced, free twice),
         has(b"g", both),
-        Step::Performs(Action::DeleteFile, b"f", b"", 0x10, last, free(last)),
-        Step::Performs(Action::DeleteFile, b"g", b"", 0x10, last, BLOCKS),
+        performs!(DeleteFile, b"f" => status 0x10, ticks last, free all_but(last)),
+        performs!(DeleteFile, b"g" => status 0x10, ticks last, free BLOCKS),
     ])?;
     Ok(())
 }
@@ -115,9 +116,9 @@ fn push_double<'a>(steps: &mut Vec<Step<'a>>, twice: &'a [u8]) -> Result<(), Mem
     let used = taken.wrapping_add(1);
     push_file(steps, b"f", part(twice, 0, twice.len() / 2), 0)?;
     steps.extend_from_slice(&[
-        Step::Performs(Action::AppendFile, b"f", b"f", 0x30, taken, free(used)),
+        performs!(AppendFile, b"f", b"f" => status 0x30, ticks taken, free all_but(used)),
         has(b"f", twice),
-        Step::Performs(Action::DeleteFile, b"f", b"", 0x10, used, BLOCKS),
+        performs!(DeleteFile, b"f" => status 0x10, ticks used, free BLOCKS),
     ])?;
     Ok(())
 }
@@ -170,7 +171,7 @@ static ZEROS: [u8; MOST] = [0; MOST];
 
 /// What is staged has just this many octets; these are among them.
 fn is_staged<'a>(size: usize, from: usize, octets: &'a [u8]) -> Step<'a> {
-    Step::Shows(Shown::Staged(SLOT, size as u64, from as u64, octets))
+    shows_staged!(slot SLOT, size size as u64, at from as u64, octets)
 }
 
 /// What is staged has zeros at its end when it was extended, and then what is put there in two pieces.
@@ -184,19 +185,15 @@ fn push_growth<'a>(
     let whole = part(octets, 0, size);
     let beginning = part(whole, 0, begun);
     steps.extend_from_slice(&[
-        Step::Takes(Asked::Extend(SLOT, begun as u64), first, free(first)),
-        Step::Puts(SLOT, 0, beginning),
-        Step::Takes(
-            Asked::Extend(SLOT, size as u64),
-            last.wrapping_sub(first),
-            free(last),
-        ),
+        takes!(Asked::Extend(SLOT, begun as u64) => ticks first, free all_but(first)),
+        puts!(slot SLOT, at 0, beginning),
+        takes!(Asked::Extend(SLOT, size as u64) => ticks last.wrapping_sub(first), free all_but(last)),
         is_staged(size, 0, beginning),
         is_staged(size, begun, part(&ZEROS, begun, size)),
-        Step::Puts(SLOT, begun as u64, part(whole, begun, middle)),
-        Step::Puts(SLOT, middle as u64, part(whole, middle, size)),
+        puts!(slot SLOT, at begun as u64, part(whole, begun, middle)),
+        puts!(slot SLOT, at middle as u64, part(whole, middle, size)),
         is_staged(size, 0, whole),
-        Step::Takes(Asked::Unstage(SLOT), last, BLOCKS),
+        takes!(Asked::Unstage(SLOT) => ticks last, free BLOCKS),
     ])?;
     Ok(())
 }

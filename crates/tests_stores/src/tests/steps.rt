@@ -13,27 +13,123 @@ use std::process::Abort;
 /// How many blocks the stores of [`run_on_both`] have.
 pub const BLOCKS: u32 = 64;
 
-/// A step of a script.
+/// A step of a script. The macros after this enum write the rows of a table.
 #[derive(Clone, Copy)]
 pub enum Step<'a> {
-    /// An action is performed at its names: the status octet, the ticks and the free blocks that it comes to. No second
-    /// name: empty.
-    Performs(Action, &'a [u8], &'a [u8], u8, u32, u32),
-    /// What is asked, the ticks that are answered, and the free blocks that are left.
-    Takes(Asked<'a>, u32, u32),
-    /// These octets are in what is staged in the slot, from the offset on.
-    Puts(u8, u64, &'a [u8]),
+    /// An action is performed at its names, and comes to a status, ticks and free blocks.
+    Performs {
+        action: Action,
+        first: &'a [u8],
+        /// Empty: no second name.
+        second: &'a [u8],
+        /// The status octet.
+        status: u8,
+        ticks: u32,
+        /// The blocks that are free then.
+        free: u32,
+    },
+    /// What is asked comes to ticks and free blocks.
+    Takes {
+        asked: Asked<'a>,
+        ticks: u32,
+        free: u32,
+    },
+    /// These octets are in what is staged in the slot, from the offset `at` on.
+    Puts {
+        slot: u8,
+        at: u64,
+        octets: &'a [u8],
+    },
     /// What is shown then.
     Shows(Shown<'a>),
 }
 
+/// A [`Step::Performs`], as `performs!(RenameFile, b"a", b"b" => status 0x20, ticks 0, free 62)`.
+macro_rules! performs {
+    ($action:ident, $first:expr => status $status:expr, ticks $ticks:expr, free $free:expr) => {
+        performs!($action, $first, b"" => status $status, ticks $ticks, free $free)
+    };
+    ($action:ident, $first:expr, $second:expr => status $status:expr, ticks $ticks:expr, free $free:expr) => {
+        $crate::tests::steps::Step::Performs {
+            action: cfdp_status::Action::$action,
+            first: $first,
+            second: $second,
+            status: $status,
+            ticks: $ticks,
+            free: $free,
+        }
+    };
+}
+
+/// A [`Step::Takes`], as `takes!(Asked::Extend(0, 120) => ticks 1, free 63)`.
+macro_rules! takes {
+    ($asked:expr => ticks $ticks:expr, free $free:expr) => {
+        $crate::tests::steps::Step::Takes {
+            asked: $asked,
+            ticks: $ticks,
+            free: $free,
+        }
+    };
+}
+
+/// A [`Step::Puts`], as `puts!(slot 0, at 3, b"abc")`.
+macro_rules! puts {
+    (slot $slot:expr, at $at:expr, $octets:expr) => {
+        $crate::tests::steps::Step::Puts {
+            slot: $slot,
+            at: $at,
+            octets: $octets,
+        }
+    };
+}
+
+/// A [`Step::Shows`] of [`Shown::Octets`], as `shows_octets!(b"a", size 240, at 3, b"abc")`.
+macro_rules! shows_octets {
+    ($path:expr, size $size:expr, at $at:expr, $octets:expr) => {
+        $crate::tests::steps::Step::Shows($crate::tests::steps::Shown::Octets {
+            path: $path,
+            size: $size,
+            at: $at,
+            octets: $octets,
+        })
+    };
+}
+
+/// A [`Step::Shows`] of [`Shown::Staged`], as `shows_staged!(slot 0, size 240, at 3, b"abc")`.
+macro_rules! shows_staged {
+    (slot $slot:expr, size $size:expr, at $at:expr, $octets:expr) => {
+        $crate::tests::steps::Step::Shows($crate::tests::steps::Shown::Staged {
+            slot: $slot,
+            size: $size,
+            at: $at,
+            octets: $octets,
+        })
+    };
+}
+
+pub(crate) use performs;
+pub(crate) use puts;
+pub(crate) use shows_octets;
+pub(crate) use shows_staged;
+pub(crate) use takes;
+
 /// What a store shows.
 #[derive(Clone, Copy)]
 pub enum Shown<'a> {
-    /// How many octets the file at the path has, and some of them, from the offset on.
-    Octets(&'a [u8], u64, u64, &'a [u8]),
-    /// How many octets are staged in the slot, and some of them, from the offset on.
-    Staged(u8, u64, u64, &'a [u8]),
+    /// How many octets the file at the path has, and some of them, from the offset `at` on.
+    Octets {
+        path: &'a [u8],
+        size: u64,
+        at: u64,
+        octets: &'a [u8],
+    },
+    /// How many octets are staged in the slot, and some of them, from the offset `at` on.
+    Staged {
+        slot: u8,
+        size: u64,
+        at: u64,
+        octets: &'a [u8],
+    },
     /// The checksum of the file at the path; `None` where no file exists.
     Checksum(&'a [u8], Option<u32>),
     /// The checksum of what is staged in the slot.
@@ -65,12 +161,19 @@ impl<'a> Step<'a> {
         protected: &Protected,
     ) -> Result<bool, Memory> {
         match self {
-            Step::Performs(action, first, second, octet, ticks, free) => {
+            Step::Performs {
+                action,
+                first,
+                second,
+                status,
+                ticks,
+                free,
+            } => {
                 let asked = Asked::Perform(*action, first, second);
-                let answer = Answer::Performed(*octet, *ticks);
+                let answer = Answer::Performed(*status, *ticks);
                 comes_to(alloc, store, protected, &asked, &answer, *free)
             }
-            Step::Takes(asked, ticks, free) => {
+            Step::Takes { asked, ticks, free } => {
                 comes_to(
                     alloc,
                     store,
@@ -80,7 +183,7 @@ impl<'a> Step<'a> {
                     *free,
                 )
             }
-            Step::Puts(slot, at, octets) => {
+            Step::Puts { slot, at, octets } => {
                 let free = store.free();
                 let asked = Asked::Put(*slot, *at, octets);
                 comes_to(alloc, store, protected, &asked, &Answer::Put, free)
@@ -107,12 +210,18 @@ impl<'a> Shown<'a> {
     /// Whether the store shows it.
     pub fn holds<S: Filestore>(&self, alloc: Global, store: &S) -> Result<bool, Memory> {
         match self {
-            Shown::Octets(path, size, at, octets) => {
-                has_octets(alloc, store, &parsed(alloc, path)?, *size, *at, octets)
-            }
-            Shown::Staged(slot, size, at, octets) => {
-                has_staged(alloc, store, *slot, *size, *at, octets)
-            }
+            Shown::Octets {
+                path,
+                size,
+                at,
+                octets,
+            } => { has_octets(alloc, store, &parsed(alloc, path)?, *size, *at, octets) }
+            Shown::Staged {
+                slot,
+                size,
+                at,
+                octets,
+            } => has_staged(alloc, store, *slot, *size, *at, octets),
             Shown::Checksum(path, sum) => Ok(checksum(store, &parsed(alloc, path)?) == *sum),
             Shown::StagedChecksum(slot, sum) => Ok(has_staged_checksum(store, *slot, *sum)),
             Shown::Deepest(path, names) => Ok(deepest(store, &parsed(alloc, path)?) == *names),

@@ -2,46 +2,47 @@
 //! `.ci/cases/run/lines.txt`.
 
 use super::calls::{Asked, parsed};
-use super::steps::{Existing, Script, Shown, Step, run_on_both};
+use super::steps::{
+    Existing, Script, Shown, Step, performs, puts, run_on_both, shows_octets, shows_staged, takes,
+};
 use super::{many, one_hash};
 use cfdp_actions::{Filestore, Kind, ListStore, Protected};
 use cfdp_paths::Memory;
-use cfdp_status::Action;
 use cfdp_tree::TreeStore;
 use std::alloc::Global;
 
 const CREATES_AND_REMOVES: &[Step<'static>] = &[
-    Step::Performs(Action::CreateDirectory, b"d", b"", 0x50, 1, 63),
-    Step::Performs(Action::CreateFile, b"d/x", b"", 0x00, 1, 62),
-    Step::Performs(Action::RemoveDirectory, b"d", b"", 0x62, 0, 62),
-    Step::Performs(Action::RenameFile, b"d/x", b"b", 0x20, 0, 62),
-    Step::Performs(Action::ReplaceFile, b"b", b"c", 0x42, 0, 62),
-    Step::Performs(Action::RemoveDirectory, b"d", b"", 0x60, 1, 63),
-    Step::Performs(Action::DenyDirectory, b"d", b"", 0x80, 0, 63),
-    Step::Performs(Action::AppendFile, b"b", b"b", 0x30, 0, 63),
-    Step::Performs(Action::DenyFile, b"b", b"", 0x70, 1, 64),
-    Step::Performs(Action::DeleteFile, b"b", b"", 0x11, 0, 64),
-    Step::Performs(Action::CreateFile, b"x/y", b"", 0x01, 0, 64),
+    performs!(CreateDirectory, b"d" => status 0x50, ticks 1, free 63),
+    performs!(CreateFile, b"d/x" => status 0x00, ticks 1, free 62),
+    performs!(RemoveDirectory, b"d" => status 0x62, ticks 0, free 62),
+    performs!(RenameFile, b"d/x", b"b" => status 0x20, ticks 0, free 62),
+    performs!(ReplaceFile, b"b", b"c" => status 0x42, ticks 0, free 62),
+    performs!(RemoveDirectory, b"d" => status 0x60, ticks 1, free 63),
+    performs!(DenyDirectory, b"d" => status 0x80, ticks 0, free 63),
+    performs!(AppendFile, b"b", b"b" => status 0x30, ticks 0, free 63),
+    performs!(DenyFile, b"b" => status 0x70, ticks 1, free 64),
+    performs!(DeleteFile, b"b" => status 0x11, ticks 0, free 64),
+    performs!(CreateFile, b"x/y" => status 0x01, ticks 0, free 64),
 ];
 
 const DENIES: &[Step<'static>] = &[
-    Step::Performs(Action::DenyFile, b"z", b"", 0x70, 0, 64),
-    Step::Performs(Action::DenyDirectory, b"y/z", b"", 0x80, 0, 64),
-    Step::Performs(Action::CreateDirectory, b"d", b"", 0x50, 1, 63),
-    Step::Performs(Action::CreateFile, b"d/x", b"", 0x00, 1, 62),
-    Step::Performs(Action::DenyDirectory, b"d", b"", 0x82, 0, 62),
-    Step::Performs(Action::DenyFile, b"d", b"", 0x72, 0, 62),
+    performs!(DenyFile, b"z" => status 0x70, ticks 0, free 64),
+    performs!(DenyDirectory, b"y/z" => status 0x80, ticks 0, free 64),
+    performs!(CreateDirectory, b"d" => status 0x50, ticks 1, free 63),
+    performs!(CreateFile, b"d/x" => status 0x00, ticks 1, free 62),
+    performs!(DenyDirectory, b"d" => status 0x82, ticks 0, free 62),
+    performs!(DenyFile, b"d" => status 0x72, ticks 0, free 62),
 ];
 
 const MOVES_A_DIRECTORY: &[Step<'static>] = &[
-    Step::Performs(Action::CreateDirectory, b"d", b"", 0x50, 1, 63),
-    Step::Performs(Action::CreateFile, b"d/x", b"", 0x00, 1, 62),
-    Step::Performs(Action::RenameFile, b"d", b"e", 0x20, 0, 62),
-    Step::Performs(Action::DeleteFile, b"e/x", b"", 0x10, 1, 63),
-    Step::Performs(Action::RenameFile, b"e", b"e/f", 0x23, 0, 63),
-    Step::Performs(Action::RenameFile, b"e", b"e", 0x22, 0, 63),
-    Step::Performs(Action::RenameFile, b"q", b"r", 0x21, 0, 63),
-    Step::Performs(Action::RenameFile, b"e", b"q/r", 0x23, 0, 63),
+    performs!(CreateDirectory, b"d" => status 0x50, ticks 1, free 63),
+    performs!(CreateFile, b"d/x" => status 0x00, ticks 1, free 62),
+    performs!(RenameFile, b"d", b"e" => status 0x20, ticks 0, free 62),
+    performs!(DeleteFile, b"e/x" => status 0x10, ticks 1, free 63),
+    performs!(RenameFile, b"e", b"e/f" => status 0x23, ticks 0, free 63),
+    performs!(RenameFile, b"e", b"e" => status 0x22, ticks 0, free 63),
+    performs!(RenameFile, b"q", b"r" => status 0x21, ticks 0, free 63),
+    performs!(RenameFile, b"e", b"q/r" => status 0x23, ticks 0, free 63),
 ];
 
 /// What is at and below `z/b` after the next script: seven names.
@@ -56,24 +57,17 @@ const BELOW: &[Existing<'static>] = &[
 ];
 
 const MOVES_NO_DEEPER_THAN_EIGHT_NAMES: &[Step<'static>] = &[
-    Step::Performs(Action::CreateDirectory, b"e", b"", 0x50, 1, 63),
-    Step::Performs(Action::CreateDirectory, b"a", b"", 0x50, 1, 62),
-    Step::Performs(Action::CreateDirectory, b"a/b", b"", 0x50, 1, 61),
-    Step::Performs(Action::CreateDirectory, b"a/b/c", b"", 0x50, 1, 60),
-    Step::Performs(Action::CreateDirectory, b"a/b/c/d", b"", 0x50, 1, 59),
-    Step::Performs(Action::CreateDirectory, b"a/b/c/d/e", b"", 0x50, 1, 58),
-    Step::Performs(Action::CreateDirectory, b"a/b/c/d/e/f", b"", 0x50, 1, 57),
-    Step::Performs(Action::CreateDirectory, b"a/b/c/d/e/f/g", b"", 0x50, 1, 56),
-    Step::Performs(
-        Action::CreateDirectory,
-        b"a/b/c/d/e/f/g/h",
-        b"",
-        0x50,
-        1,
-        55,
-    ),
-    Step::Performs(Action::RenameFile, b"a", b"e/a", 0x23, 0, 55),
-    Step::Performs(Action::RenameFile, b"a", b"z", 0x20, 0, 55),
+    performs!(CreateDirectory, b"e" => status 0x50, ticks 1, free 63),
+    performs!(CreateDirectory, b"a" => status 0x50, ticks 1, free 62),
+    performs!(CreateDirectory, b"a/b" => status 0x50, ticks 1, free 61),
+    performs!(CreateDirectory, b"a/b/c" => status 0x50, ticks 1, free 60),
+    performs!(CreateDirectory, b"a/b/c/d" => status 0x50, ticks 1, free 59),
+    performs!(CreateDirectory, b"a/b/c/d/e" => status 0x50, ticks 1, free 58),
+    performs!(CreateDirectory, b"a/b/c/d/e/f" => status 0x50, ticks 1, free 57),
+    performs!(CreateDirectory, b"a/b/c/d/e/f/g" => status 0x50, ticks 1, free 56),
+    performs!(CreateDirectory, b"a/b/c/d/e/f/g/h" => status 0x50, ticks 1, free 55),
+    performs!(RenameFile, b"a", b"e/a" => status 0x23, ticks 0, free 55),
+    performs!(RenameFile, b"a", b"z" => status 0x20, ticks 0, free 55),
     Step::Shows(Shown::Deepest(b"z", Some(8))),
     Step::Shows(Shown::Deepest(b"e", Some(1))),
     Step::Shows(Shown::Deepest(b"a", None)),
@@ -90,100 +84,100 @@ const BLOCK: &[u8] = &[1; 120];
 const SHORT: &[u8] = &[1; 119];
 
 const APPENDS_A_BLOCK_TO_ITSELF: &[Step<'static>] = &[
-    Step::Takes(Asked::Extend(0, 120), 1, 63),
-    Step::Puts(0, 0, BLOCK),
-    Step::Takes(Asked::Install(0, b"a"), 1, 62),
-    Step::Performs(Action::AppendFile, b"a", b"a", 0x30, 2, 61),
+    takes!(Asked::Extend(0, 120) => ticks 1, free 63),
+    puts!(slot 0, at 0, BLOCK),
+    takes!(Asked::Install(0, b"a") => ticks 1, free 62),
+    performs!(AppendFile, b"a", b"a" => status 0x30, ticks 2, free 61),
     Step::Shows(Shown::Listing(&[(b"a", Kind::File, 240, 0x3c3c_3c3c)])),
-    Step::Shows(Shown::Octets(b"a", 240, 0, ONES)),
+    shows_octets!(b"a", size 240, at 0, ONES),
 ];
 
 const APPENDS_A_SHORT_FILE_TO_ITSELF: &[Step<'static>] = &[
-    Step::Takes(Asked::Extend(0, 119), 1, 63),
-    Step::Puts(0, 0, SHORT),
-    Step::Takes(Asked::Install(0, b"a"), 1, 62),
-    Step::Performs(Action::AppendFile, b"a", b"a", 0x30, 2, 61),
+    takes!(Asked::Extend(0, 119) => ticks 1, free 63),
+    puts!(slot 0, at 0, SHORT),
+    takes!(Asked::Install(0, b"a") => ticks 1, free 62),
+    performs!(AppendFile, b"a", b"a" => status 0x30, ticks 2, free 61),
     Step::Shows(Shown::Listing(&[(b"a", Kind::File, 238, 0x3c3c_3b3b)])),
 ];
 
 /// A copy of a file over it and beside it, and three octets over the copy.
 const REPLACES: &[Step<'static>] = &[
-    Step::Takes(Asked::Extend(0, 120), 1, 63),
-    Step::Puts(0, 0, BLOCK),
-    Step::Takes(Asked::Install(0, b"a"), 1, 62),
-    Step::Performs(Action::ReplaceFile, b"a", b"a", 0x40, 0, 62),
-    Step::Performs(Action::CreateFile, b"b", b"", 0x00, 1, 61),
-    Step::Performs(Action::ReplaceFile, b"b", b"a", 0x40, 2, 60),
-    Step::Shows(Shown::Octets(b"a", 120, 0, BLOCK)),
+    takes!(Asked::Extend(0, 120) => ticks 1, free 63),
+    puts!(slot 0, at 0, BLOCK),
+    takes!(Asked::Install(0, b"a") => ticks 1, free 62),
+    performs!(ReplaceFile, b"a", b"a" => status 0x40, ticks 0, free 62),
+    performs!(CreateFile, b"b" => status 0x00, ticks 1, free 61),
+    performs!(ReplaceFile, b"b", b"a" => status 0x40, ticks 2, free 60),
+    shows_octets!(b"a", size 120, at 0, BLOCK),
     Step::Shows(Shown::Checksum(b"a", Some(0x1e1e_1e1e))),
-    Step::Shows(Shown::Octets(b"b", 120, 0, BLOCK)),
+    shows_octets!(b"b", size 120, at 0, BLOCK),
     Step::Shows(Shown::Checksum(b"b", Some(0x1e1e_1e1e))),
-    Step::Takes(Asked::Extend(0, 3), 1, 59),
-    Step::Puts(0, 0, b"xyz"),
-    Step::Takes(Asked::Install(0, b"b"), 1, 60),
+    takes!(Asked::Extend(0, 3) => ticks 1, free 59),
+    puts!(slot 0, at 0, b"xyz"),
+    takes!(Asked::Install(0, b"b") => ticks 1, free 60),
     Step::Shows(Shown::Standing(b"b", &[(b"b", Kind::File, 3, 0)])),
-    Step::Shows(Shown::Octets(b"b", 3, 0, b"xyz")),
+    shows_octets!(b"b", size 3, at 0, b"xyz"),
     Step::Shows(Shown::Checksum(b"b", Some(0x7879_7a00))),
 ];
 
 /// What is staged in the last slot takes all that another one leaves, and gives it back.
 const STAGES: &[Step<'static>] = &[
-    Step::Takes(Asked::Extend(0, 7440), 62, 2),
-    Step::Takes(Asked::Extend(63, 121), 2, 0),
-    Step::Shows(Shown::Staged(63, 121, 118, &[0, 0, 0])),
-    Step::Puts(63, 119, b"ab"),
-    Step::Shows(Shown::Staged(63, 121, 118, &[0, b'a', b'b'])),
-    Step::Takes(Asked::Unstage(63), 2, 2),
-    Step::Shows(Shown::Staged(63, 0, 0, b"")),
-    Step::Takes(Asked::Unstage(0), 62, 64),
+    takes!(Asked::Extend(0, 7440) => ticks 62, free 2),
+    takes!(Asked::Extend(63, 121) => ticks 2, free 0),
+    shows_staged!(slot 63, size 121, at 118, &[0, 0, 0]),
+    puts!(slot 63, at 119, b"ab"),
+    shows_staged!(slot 63, size 121, at 118, &[0, b'a', b'b']),
+    takes!(Asked::Unstage(63) => ticks 2, free 2),
+    shows_staged!(slot 63, size 0, at 0, b""),
+    takes!(Asked::Unstage(0) => ticks 62, free 64),
 ];
 
 /// The sum of what is staged after each piece: among zeros, over a part of the last one, over its beginning, twice,
 /// over all with the greatest octets and with zeros, and after the list grew within a word; then of files that are
 /// appended within a word, and of one that is replaced.
 const KEEPS_SUMS: &[Step<'static>] = &[
-    Step::Takes(Asked::Extend(0, 7), 1, 63),
+    takes!(Asked::Extend(0, 7) => ticks 1, free 63),
     Step::Shows(Shown::StagedChecksum(0, 0)),
-    Step::Puts(0, 2, &[1, 2, 3]),
+    puts!(slot 0, at 2, &[1, 2, 3]),
     Step::Shows(Shown::StagedChecksum(0, 0x0300_0102)),
-    Step::Puts(0, 1, &[4, 5, 6]),
+    puts!(slot 0, at 1, &[4, 5, 6]),
     Step::Shows(Shown::StagedChecksum(0, 0x0304_0506)),
-    Step::Puts(0, 0, &[7]),
+    puts!(slot 0, at 0, &[7]),
     Step::Shows(Shown::StagedChecksum(0, 0x0a04_0506)),
-    Step::Puts(0, 0, &[7]),
+    puts!(slot 0, at 0, &[7]),
     Step::Shows(Shown::StagedChecksum(0, 0x0a04_0506)),
-    Step::Puts(0, 0, &[255; 7]),
+    puts!(slot 0, at 0, &[255; 7]),
     Step::Shows(Shown::StagedChecksum(0, 0xffff_feff)),
-    Step::Puts(0, 0, &[0; 7]),
+    puts!(slot 0, at 0, &[0; 7]),
     Step::Shows(Shown::StagedChecksum(0, 0)),
-    Step::Puts(0, 4, &[1, 2, 3]),
+    puts!(slot 0, at 4, &[1, 2, 3]),
     Step::Shows(Shown::StagedChecksum(0, 0x0102_0300)),
-    Step::Takes(Asked::Extend(0, 9), 0, 63),
+    takes!(Asked::Extend(0, 9) => ticks 0, free 63),
     Step::Shows(Shown::StagedChecksum(0, 0x0102_0300)),
-    Step::Puts(0, 7, &[4, 5]),
+    puts!(slot 0, at 7, &[4, 5]),
     Step::Shows(Shown::StagedChecksum(0, 0x0602_0304)),
-    Step::Takes(Asked::Install(0, b"a"), 1, 62),
+    takes!(Asked::Install(0, b"a") => ticks 1, free 62),
     Step::Shows(Shown::StagedChecksum(0, 0)),
     Step::Shows(Shown::Checksum(b"a", Some(0x0602_0304))),
-    Step::Takes(Asked::Extend(1, 5), 1, 61),
-    Step::Puts(1, 0, &[1, 2, 3, 4, 5]),
-    Step::Takes(Asked::Install(1, b"b"), 1, 60),
+    takes!(Asked::Extend(1, 5) => ticks 1, free 61),
+    puts!(slot 1, at 0, &[1, 2, 3, 4, 5]),
+    takes!(Asked::Install(1, b"b") => ticks 1, free 60),
     Step::Shows(Shown::Checksum(b"b", Some(0x0602_0304))),
-    Step::Performs(Action::AppendFile, b"a", b"b", 0x30, 1, 60),
+    performs!(AppendFile, b"a", b"b" => status 0x30, ticks 1, free 60),
     Step::Shows(Shown::Checksum(b"a", Some(0x0a08_0507))),
-    Step::Performs(Action::AppendFile, b"b", b"a", 0x30, 1, 60),
+    performs!(AppendFile, b"b", b"a" => status 0x30, ticks 1, free 60),
     Step::Shows(Shown::Checksum(b"b", Some(0x0d0c_0b09))),
-    Step::Performs(Action::ReplaceFile, b"a", b"b", 0x40, 3, 60),
+    performs!(ReplaceFile, b"a", b"b" => status 0x40, ticks 3, free 60),
     Step::Shows(Shown::Checksum(b"a", Some(0x0d0c_0b09))),
     // What a file had is staged no more, once another one took its place.
-    Step::Takes(Asked::Extend(0, 4), 1, 59),
-    Step::Puts(0, 0, &[1]),
-    Step::Takes(Asked::Install(0, b"b"), 1, 60),
+    takes!(Asked::Extend(0, 4) => ticks 1, free 59),
+    puts!(slot 0, at 0, &[1]),
+    takes!(Asked::Install(0, b"b") => ticks 1, free 60),
     Step::Shows(Shown::Checksum(b"b", Some(0x0100_0000))),
-    Step::Takes(Asked::Extend(0, 2), 1, 59),
-    Step::Puts(0, 1, &[9]),
+    takes!(Asked::Extend(0, 2) => ticks 1, free 59),
+    puts!(slot 0, at 1, &[9]),
     Step::Shows(Shown::StagedChecksum(0, 0x0009_0000)),
-    Step::Takes(Asked::Unstage(0), 1, 60),
+    takes!(Asked::Unstage(0) => ticks 1, free 60),
     Step::Shows(Shown::StagedChecksum(0, 0)),
 ];
 
@@ -241,14 +235,14 @@ fn scripts(rt: HostRuntime) -> Result<(), Memory> {
 
 /// Over a store with the protected path `sys/boot`.
 const PROTECTS: &[Step<'static>] = &[
-    Step::Performs(Action::CreateDirectory, b"sys", b"", 0x50, 1, 63),
-    Step::Performs(Action::RenameFile, b"sys", b"s", 0x23, 0, 63),
-    Step::Performs(Action::RemoveDirectory, b"sys", b"", 0x60, 1, 64),
-    Step::Performs(Action::CreateDirectory, b"sys", b"", 0x50, 1, 63),
-    Step::Performs(Action::CreateFile, b"sys/boot", b"", 0x00, 1, 62),
-    Step::Performs(Action::DeleteFile, b"sys/boot", b"", 0x12, 0, 62),
-    Step::Performs(Action::DenyFile, b"sys/boot/z", b"", 0x72, 0, 62),
-    Step::Performs(Action::ReplaceFile, b"sys/boot", b"sys/boot", 0x43, 0, 62),
+    performs!(CreateDirectory, b"sys" => status 0x50, ticks 1, free 63),
+    performs!(RenameFile, b"sys", b"s" => status 0x23, ticks 0, free 63),
+    performs!(RemoveDirectory, b"sys" => status 0x60, ticks 1, free 64),
+    performs!(CreateDirectory, b"sys" => status 0x50, ticks 1, free 63),
+    performs!(CreateFile, b"sys/boot" => status 0x00, ticks 1, free 62),
+    performs!(DeleteFile, b"sys/boot" => status 0x12, ticks 0, free 62),
+    performs!(DenyFile, b"sys/boot/z" => status 0x72, ticks 0, free 62),
+    performs!(ReplaceFile, b"sys/boot", b"sys/boot" => status 0x43, ticks 0, free 62),
 ];
 
 #[test]

@@ -1,16 +1,17 @@
-use Rattle.std.proofs.Common.{◌≡◌, ℕ, ◌+◌, ◌-◌, ◌≤◌, suc, max, Bool, true, false, Some, length, refl, sym, ap, ◌∙◌, subst, arith}
+use Rattle.std.proofs.Common.{◌≡◌, ℕ, ◌+◌, ◌≤◌, max, List, length, refl, sym, ap, ◌∙◌, subst, arith}
+use Rattle.cfdp_arena.specs.Arena.{Blocks}
+use Rattle.cfdp_paths.specs.Paths.{Path}
+use Rattle.cfdp_tree.specs.declared.orders.Orders.{Orders}
 use Rattle.cfdp_order.specs.declared.links.Order.{Order}
 use Rattle.cfdp_order.specs.Orders.{nodes, left_of, right_of, IsOrder}
 use Rattle.cfdp_order.proofs.TreeLaws.{no_nodes}
-use Rattle.cfdp_tree.specs.code.Beside.{is_entry_beside, entries_beside}
+use Rattle.cfdp_tree.specs.code.Beside.{entries_beside}
 use Rattle.cfdp_tree.specs.code.Nodes.{nodes_in}
-use Rattle.cfdp_tree.specs.code.Orders.{in_order}
-use Rattle.cfdp_tree.specs.code.Tree.{path_of_node}
-use Rattle.cfdp_tree.specs.code.Walk.{walks, walks_at, most_names_in, StandAt}
-use Rattle.cfdp_tree.proofs.OfWalks.OtherLaws.{longest_with, longest_without, grown, passed, left_out}
-use Rattle.cfdp_tree.proofs.OfWalks.WalkLaws.{filled, read_parts, top_inside}
+use Rattle.cfdp_tree.specs.code.Walk.{walks_at, most_names_in, StandAt}
+use Rattle.cfdp_tree.proofs.OfWalks.OtherLaws.{longest_apart, longest_few}
+use Rattle.cfdp_tree.proofs.OfWalks.WalkLaws.{filled, read_around, top_inside}
 use Rattle.cfdp_tree.proofs.beside.+deepest_beside.Goals as goal
-use Rattle.cfdp_tree.proofs.beside.+deepest_beside.Goals.{then-before-here+then-leaves, else-before-here, else-before-here-via-then-before-here+else-leaves, else-before-here-via-else-before-here}
+use Rattle.cfdp_tree.proofs.beside.+deepest_beside.Goals.{then-is_empty-2, else-is_empty-2}
 
 nothing : (n : ℕ) → n ≡ max n 0
 nothing n = grind arith
@@ -29,29 +30,22 @@ index-requires t c =
     c.requires.order (filled c.is_empty.result c.args.order.height c.if-is_empty.false c.is_empty.ensures.1) c.requires.deep in
     omega (arith, c.from.ensures, top.0, c.args.orders.now.links.ok.0)
 
-pub index-entries-requires : goal.index-entries-requires
-index-entries-requires t c =
-    let top = top_inside c.args.arena.now c.requires.tree c.args.orders.now c.requires.ordered c.free-free.ensures.capacity.1 c.args.order
-    (length c.args.others.now.directory.now + 1)
-    c.requires.order (filled c.is_empty.result c.args.order.height c.if-is_empty.false c.is_empty.ensures.1) c.requires.deep in
-    omega (arith, c.from-2.ensures, top.1, c.args.orders.now.directories.ok.0)
-
 pub deepest_beside-before-requires : goal.deepest_beside-before-requires
 deepest_beside-before-requires t c =
-    let p = read_parts c.args.arena.now c.requires.tree c.args.orders.now c.requires.ordered c.free-free.ensures.capacity.1 c.args.order
+    let p = read_around c.args.arena.now c.requires.tree c.args.orders.now c.requires.ordered c.free-free.ensures.capacity.1 c.args.order
     (length c.args.others.now.directory.now + 1)
     c.requires.order (filled c.is_empty.result c.args.order.height c.if-is_empty.false c.is_empty.ensures.1) c.requires.deep
-    c.from.result c.from-2.result c.from.ensures c.from-2.ensures c.index.result.now c.index-entries.result.now c.index.ensures c.index-entries.ensures in (
-      omega (arith, c.decreases, p.low_before, ap (λ (o : Order). o.height) c.left.ensures),
+    c.from.result c.from.ensures c.index.result.now c.index.ensures in (
+      omega (arith, c.decreases, p.low_before, ap (λ (o : Order). o.height) c.left-left.ensures),
       (
         c.requires.tree,
         (
           c.requires.ordered,
           (
-            subst (λ (o : Order). IsOrder c.args.orders.now.links.items o) (sym c.left.ensures) p.is_before,
+            subst (λ (o : Order). IsOrder c.args.orders.now.links.items o) (sym c.left-left.ensures) p.is_before,
             (
               subst (λ (o : Order). StandAt (nodes_in c.args.arena.now) (length c.args.others.now.directory.now + 1) (nodes c.args.orders.now.links.items o))
-                  (sym c.left.ensures) p.deep_before,
+                  (sym c.left-left.ensures) p.deep_before,
               c.requires.most,
             ),
           ),
@@ -59,100 +53,118 @@ deepest_beside-before-requires t c =
       ),
     )
 
-pub deepest_in-requires-clause-order : goal.deepest_in-requires-clause-order
-deepest_in-requires-clause-order t c =
-    let p = read_parts c.args.arena.now c.requires.tree c.args.orders.now c.requires.ordered c.free-free.ensures.capacity.1 c.args.order
+pub deepest_at-sofar-requires-clause-deep : goal.deepest_at-sofar-requires-clause-deep
+deepest_at-sofar-requires-clause-deep t c =
+    let p = read_around c.args.arena.now c.requires.tree c.args.orders.now c.requires.ordered c.free-free.ensures.capacity.1 c.args.order
     (length c.args.others.now.directory.now + 1)
     c.requires.order (filled c.is_empty.result c.args.order.height c.if-is_empty.false c.is_empty.ensures.1) c.requires.deep
-    c.from.result c.from-2.result c.from.ensures c.from-2.ensures c.index.result.now c.index-entries.result.now c.index.ensures c.index-entries.ensures in
-    p.is_below
+    c.from.result c.from.ensures c.index.result.now c.index.ensures in
+    p.top
 
-pub deepest_in-requires-clause-deep : goal.deepest_in-requires-clause-deep
-deepest_in-requires-clause-deep t c =
-    let p = read_parts c.args.arena.now c.requires.tree c.args.orders.now c.requires.ordered c.free-free.ensures.capacity.1 c.args.order
-    (length c.args.others.now.directory.now + 1)
-    c.requires.order (filled c.is_empty.result c.args.order.height c.if-is_empty.false c.is_empty.ensures.1) c.requires.deep
-    c.from.result c.from-2.result c.from.ensures c.from-2.ensures c.index.result.now c.index-entries.result.now c.index.ensures c.index-entries.ensures in
-    subst (λ n. StandAt (nodes_in c.args.arena.now) (n + 1 + 1) (nodes c.args.orders.now.links.items c.index-entries.result.now))
-    (sym c.depth-depth.ensures.depth) p.deep_below
-
-pub leaves-requires : goal.leaves-requires
-leaves-requires t c =
-    let p = read_parts c.args.arena.now c.requires.tree c.args.orders.now c.requires.ordered c.free-free.ensures.capacity.1 c.args.order
-    (length c.args.others.now.directory.now + 1)
-    c.requires.order (filled c.is_empty.result c.args.order.height c.if-is_empty.false c.is_empty.ensures.1) c.requires.deep
-    c.from.result c.from-2.result c.from.ensures c.from-2.ensures c.index.result.now c.index-entries.result.now c.index.ensures c.index-entries.ensures in
-    record { node = p.top.node; named = c.requires.tree.named c.args.order.root p.top.node }
-
--- the longest path so far is short
 pub deepest_beside-requires : goal.deepest_beside-requires
 deepest_beside-requires t c =
-    let p = read_parts c.args.arena.now c.requires.tree c.args.orders.now c.requires.ordered c.free-free.ensures.capacity.1 c.args.order
+    let p = read_around c.args.arena.now c.requires.tree c.args.orders.now c.requires.ordered c.free-free.ensures.capacity.1 c.args.order
     (length c.args.others.now.directory.now + 1)
     c.requires.order (filled c.is_empty.result c.args.order.height c.if-is_empty.false c.is_empty.ensures.1) c.requires.deep
-    c.from.result c.from-2.result c.from.ensures c.from-2.ensures c.index.result.now c.index-entries.result.now c.index.ensures c.index-entries.ensures in
-    let here : c.max-here.result ≤ 8 = grind (arith, c.max-here.ensures, c.depth-depth.ensures.depth, p.few, c.deepest_in.ensures.within) in
-    let short : c.if-before-here.sofar ≤ 8 = elim c.if-before-here.branch [
-      | then-before-here+then-leaves w ↦ omega (arith, w.sofar-is, here)
-      | else-before-here w ↦ omega (arith, w.sofar-is, c.deepest_beside-before.ensures.within)
-    ] in (
-      omega (arith, c.decreases, p.low_after, ap (λ (o : Order). o.height) c.right.ensures),
+    c.from.result c.from.ensures c.index.result.now c.index.ensures in (
+      omega (arith, c.decreases, p.low_after, ap (λ (o : Order). o.height) c.right-right.ensures),
       (
         c.requires.tree,
         (
           c.requires.ordered,
           (
-            subst (λ (o : Order). IsOrder c.args.orders.now.links.items o) (sym c.right.ensures) p.is_after,
+            subst (λ (o : Order). IsOrder c.args.orders.now.links.items o) (sym c.right-right.ensures) p.is_after,
             (
               subst (λ (o : Order). StandAt (nodes_in c.args.arena.now) (length c.args.others.now.directory.now + 1) (nodes c.args.orders.now.links.items o))
-                  (sym c.right.ensures) p.deep_after,
-              short,
+                  (sym c.right-right.ensures) p.deep_after,
+              c.deepest_at-sofar.ensures.within,
             ),
           ),
         ),
       ),
     )
 
-one_less : (depth : ℕ) → depth ≤ 8 → 9 - depth ≡ suc (9 - (depth + 1))
-one_less depth few = omega (arith, few)
+-- the whole of what is before a node, at it and after it
+full : (most before left rest whole : ℕ) → before ≡ max most left → before ≡ 8 → whole ≡ max left rest → whole ≤ 8 → before ≡ max most whole
+full most before left rest whole b all w few = grind (arith, b, all, w, few)
+
+joined : (most before sofar result left one right whole : ℕ) → before ≡ max most left → sofar ≡ max before one → result ≡ max sofar right →
+    whole ≡ max left (max one right) → result ≡ max most whole
+joined most before sofar result left one right whole b s r w = grind (arith, b, s, r, w)
+
+-- the longest path at and below the entries in an order
+abbrev Longest : Blocks → Orders → Path → List Path → ℕ → Order → ℕ
+Longest now orders dir others depth order = most_names_in now (walks_at orders depth (entries_beside dir others now (nodes orders.links.items order)))
+
+-- the longest so far and that of a part, which is empty or is not
+none_at : (now : Blocks) (orders : Orders) (dir : Path) (others : List Path) (depth most : ℕ) (part other : Order) (value : ℕ) → value ≡ most → part ≡ other
+    → part.height ≡ 0 → value ≡ max most (Longest now orders dir others depth other)
+none_at now orders dir others depth most part other value is same empty =
+    let none : Longest now orders dir others depth other ≡ 0 =
+    ap (λ xs. most_names_in now (walks_at orders depth (entries_beside dir others now xs)))
+    (no_nodes orders.links.items other (sym (ap (λ (o : Order). o.height) same) ∙ empty)) in
+    is ∙ nothing most ∙ ap (max most) (sym none)
+
+some_at : (now : Blocks) (orders : Orders) (dir : Path) (others : List Path) (depth most : ℕ) (part other : Order) (value result : ℕ) → value ≡ result
+    → result ≡ max most (Longest now orders dir others depth part) → part ≡ other → value ≡ max most (Longest now orders dir others depth other)
+some_at now orders dir others depth most part other value result is told same =
+    is ∙ told ∙ ap (λ (o : Order). max most (Longest now orders dir others depth o)) same
+
+pub returns-then-before-eq-MOST_NAMES-clause-value : goal.returns-then-before-eq-MOST_NAMES-clause-value
+returns-then-before-eq-MOST_NAMES-clause-value t c =
+    let now = nodes_in c.args.arena.now in let orders = c.args.orders.now in let dir = c.args.others.now.directory.now in
+    let others = c.args.others.now.paths.now in let links = orders.links.items in let depth = length dir + 1 in
+    let p = read_around c.args.arena.now c.requires.tree orders c.requires.ordered c.free-free.ensures.capacity.1 c.args.order
+    (length c.args.others.now.directory.now + 1)
+    c.requires.order (filled c.is_empty.result c.args.order.height c.if-is_empty.false c.is_empty.ensures.1) c.requires.deep
+    c.from.result c.from.ensures c.index.result.now c.index.ensures in
+    let before : c.if-is_empty-2.before ≡ max c.args.most (Longest now orders dir others depth (left_of c.index.result.now)) =
+    elim c.if-is_empty-2.branch [
+      | then-is_empty-2 w ↦ none_at now orders dir others depth c.args.most c.left-left.result _ c.if-is_empty-2.before w.before-is c.left-left.ensures
+          (c.is_empty-2.ensures.0 w.if-is_empty-2.true)
+      | else-is_empty-2 w ↦ some_at now orders dir others depth c.args.most c.left-left.result _ c.if-is_empty-2.before
+          w.deepest_beside-before.result w.before-is w.deepest_beside-before.ensures.value c.left-left.ensures
+    ] in
+    let whole = longest_apart now orders dir others depth (nodes links (left_of c.index.result.now)) c.args.order.root
+    (nodes links (right_of c.index.result.now)) (nodes links c.args.order) p.listed in
+    full _ _ _ _ _ before c.if-before-eq-MOST_NAMES.true whole (longest_few now orders dir others depth (nodes links c.args.order))
+
+pub returns-then-is_empty-3-clause-value : goal.returns-then-is_empty-3-clause-value
+returns-then-is_empty-3-clause-value t c =
+    let now = nodes_in c.args.arena.now in let orders = c.args.orders.now in let dir = c.args.others.now.directory.now in
+    let others = c.args.others.now.paths.now in let links = orders.links.items in let depth = length dir + 1 in
+    let p = read_around c.args.arena.now c.requires.tree orders c.requires.ordered c.free-free.ensures.capacity.1 c.args.order
+    (length c.args.others.now.directory.now + 1)
+    c.requires.order (filled c.is_empty.result c.args.order.height c.if-is_empty.false c.is_empty.ensures.1) c.requires.deep
+    c.from.result c.from.ensures c.index.result.now c.index.ensures in
+    let before : c.if-is_empty-2.before ≡ max c.args.most (Longest now orders dir others depth (left_of c.index.result.now)) =
+    elim c.if-is_empty-2.branch [
+      | then-is_empty-2 w ↦ none_at now orders dir others depth c.args.most c.left-left.result _ c.if-is_empty-2.before w.before-is c.left-left.ensures
+          (c.is_empty-2.ensures.0 w.if-is_empty-2.true)
+      | else-is_empty-2 w ↦ some_at now orders dir others depth c.args.most c.left-left.result _ c.if-is_empty-2.before
+          w.deepest_beside-before.result w.before-is w.deepest_beside-before.ensures.value c.left-left.ensures
+    ] in
+    let whole = longest_apart now orders dir others depth (nodes links (left_of c.index.result.now)) c.args.order.root
+    (nodes links (right_of c.index.result.now)) (nodes links c.args.order) p.listed in
+    joined _ _ _ _ _ _ _ _ before c.deepest_at-sofar.ensures.value (none_at now orders dir others depth c.deepest_at-sofar.result c.right-right.result _
+    c.deepest_at-sofar.result refl c.right-right.ensures (c.is_empty-3.ensures.0 c.if-is_empty-3.true)) whole
 
 pub returns-clause-value : goal.returns-clause-value
 returns-clause-value t c =
     let now = nodes_in c.args.arena.now in let orders = c.args.orders.now in let dir = c.args.others.now.directory.now in
-    let others = c.args.others.now.paths.now in let links = orders.links.items in let depth = length dir + 1 in let root = c.args.order.root in
-    let around = c.index.result.now in
-    let p = read_parts c.args.arena.now c.requires.tree orders c.requires.ordered c.free-free.ensures.capacity.1 c.args.order
+    let others = c.args.others.now.paths.now in let links = orders.links.items in let depth = length dir + 1 in
+    let p = read_around c.args.arena.now c.requires.tree orders c.requires.ordered c.free-free.ensures.capacity.1 c.args.order
     (length c.args.others.now.directory.now + 1)
     c.requires.order (filled c.is_empty.result c.args.order.height c.if-is_empty.false c.is_empty.ensures.1) c.requires.deep
-    c.from.result c.from-2.result c.from.ensures c.from-2.ensures c.index.result.now c.index-entries.result.now c.index.ensures c.index-entries.ensures in
-    let left = nodes links (left_of around) in let right = nodes links (right_of around) in let whole = nodes links c.args.order in
-    let below = most_names_in now (walks orders (9 - (depth + 1)) (in_order orders (Some root))) in
-    let before : c.deepest_beside-before.result ≡ max c.args.most (most_names_in now (walks_at orders depth (entries_beside dir others now left))) =
-    c.deepest_beside-before.ensures.value
-    ∙ ap (λ (o : Order). max c.args.most (most_names_in now (walks_at orders depth (entries_beside dir others now (nodes links o))))) c.left.ensures in
-    let last : c.deepest_beside.result
-    ≡ max c.if-before-here.sofar (most_names_in now (walks_at orders depth (entries_beside dir others now right))) =
-    c.deepest_beside.ensures.value
-    ∙ ap (λ (o : Order). max c.if-before-here.sofar (most_names_in now (walks_at orders depth (entries_beside dir others now (nodes links o)))))
-    c.right.ensures in
-    let more = one_less depth p.few in
-    let here : c.max-here.result ≡ max (length (path_of_node now root)) below =
-    c.max-here.ensures ∙ (λ k. max ((ap (λ n. n + 1) c.depth-depth.ensures.depth ∙ sym p.top.names) k) ((c.deepest_in.ensures.value
-    ∙ ap (λ n. most_names_in now (walks_at orders (n + 1 + 1) (nodes links c.index-entries.result.now))) c.depth-depth.ensures.depth
-    ∙ ap (λ xs. most_names_in now (walks_at orders (depth + 1) xs)) p.below_listed) k)) in
-    let with_root = longest_with now orders dir others (9 - depth) (9 - (depth + 1)) left root right whole more p.listed in
-    let without_root = longest_without now orders dir others (9 - depth) (9 - (depth + 1)) left root right whole more p.listed in
-    last ∙ elim c.if-before-here.branch [
-      | then-before-here+then-leaves w ↦ grown _ _ _ _ _ _ _ _ _ before here w.if-before-here.true w.sofar-is
-          (with_root (sym w.leaves.ensures ∙ w.if-leaves.true))
-      | else-before-here w ↦ elim w.else-before-here.branch [
-        | else-before-here-via-then-before-here+else-leaves w' ↦ left_out _ _ _ _ _ _ before w.sofar-is (without_root (sym w'.leaves.ensures
-            ∙ w'.if-leaves.false))
-        | else-before-here-via-else-before-here w' ↦ by_root (is_entry_beside dir others now root) (λ is. passed _ _ _ _ _ _ _ _ _ before here
-            w'.if-before-here.false w.sofar-is (with_root is)) (λ is. left_out _ _ _ _ _ _ before w.sofar-is (without_root is))
-      ]
-    ]
-  where
-    by_root : {A : Type 0} (b : Bool) → (b ≡ true → A) → (b ≡ false → A) → A
-    by_root true kept left = kept refl
-    by_root false kept left = left refl
+    c.from.result c.from.ensures c.index.result.now c.index.ensures in
+    let before : c.if-is_empty-2.before ≡ max c.args.most (Longest now orders dir others depth (left_of c.index.result.now)) =
+    elim c.if-is_empty-2.branch [
+      | then-is_empty-2 w ↦ none_at now orders dir others depth c.args.most c.left-left.result _ c.if-is_empty-2.before w.before-is c.left-left.ensures
+          (c.is_empty-2.ensures.0 w.if-is_empty-2.true)
+      | else-is_empty-2 w ↦ some_at now orders dir others depth c.args.most c.left-left.result _ c.if-is_empty-2.before
+          w.deepest_beside-before.result w.before-is w.deepest_beside-before.ensures.value c.left-left.ensures
+    ] in
+    let whole = longest_apart now orders dir others depth (nodes links (left_of c.index.result.now)) c.args.order.root
+    (nodes links (right_of c.index.result.now)) (nodes links c.args.order) p.listed in
+    joined _ _ _ _ _ _ _ _ before c.deepest_at-sofar.ensures.value (some_at now orders dir others depth c.deepest_at-sofar.result c.right-right.result _
+    c.deepest_beside.result c.deepest_beside.result refl c.deepest_beside.ensures.value c.right-right.ensures) whole

@@ -5,7 +5,7 @@ use Rattle.cfdp_tree.specs.declared.orders.Orders.{Orders}
 use Rattle.cfdp_order.specs.Orders.{nodes, left_of, right_of, IsOrder}
 use Rattle.cfdp_tree.specs.code.Nodes.{nodes_in}
 use Rattle.cfdp_tree.specs.code.Walk.{walks_at, most_names_in, StandAt}
-use Rattle.cfdp_tree.proofs.OfWalks.WalkLaws.{filled, read_parts, top_inside, falls_below, no_walk}
+use Rattle.cfdp_tree.proofs.OfWalks.WalkLaws.{filled, read_parts, top_inside, falls_below, no_walk, names_few}
 use Rattle.cfdp_tree.proofs.walk.+deepest_in.Goals as goal
 use Rattle.cfdp_tree.proofs.walk.+deepest_in.Goals.{then-is_empty-2, else-is_empty-2, then-is_empty-3, else-is_empty-3, then-is_empty-4, else-is_empty-4}
 
@@ -100,6 +100,53 @@ none_at : (now : Blocks) (orders : Orders) (depth : ℕ) (part other : Order) (v
     Told now orders depth other value
 none_at now orders depth part other value zero same empty = none_told now orders depth other value zero (sym (ap (λ (o : Order). o.height) same) ∙ empty)
 
+-- nothing is longer than 8 names
+full : (depth below before after here whole : ℕ) → here ≡ max depth below → here ≡ 8 → whole ≡ max (max (max depth below) before) after → whole ≤ 8
+    → here ≡ whole
+full depth below before after here whole h all w few = grind (arith, h, all, w, few)
+
+full_left : (depth below before after here sofar whole : ℕ) → here ≡ max depth below → sofar ≡ max here before → sofar ≡ 8
+    → whole ≡ max (max (max depth below) before) after → whole ≤ 8 → sofar ≡ whole
+full_left depth below before after here sofar whole h s all w few = grind (arith, h, s, all, w, few)
+
+joined : (depth below before after here sofar result whole : ℕ) → here ≡ max depth below → sofar ≡ max here before → result ≡ max sofar after
+    → whole ≡ max (max (max depth below) before) after → result ≡ whole
+joined depth below before after here sofar result whole h s r w = grind (arith, h, s, r, w)
+
+pub returns-then-here-eq-MOST_NAMES-clause-value : goal.returns-then-here-eq-MOST_NAMES-clause-value
+returns-then-here-eq-MOST_NAMES-clause-value t c =
+    let now = nodes_in c.args.arena.now in let orders = c.args.orders.now in let depth = c.args.depth in
+    let p = read_parts c.args.arena.now c.requires.tree c.args.orders.now c.requires.ordered c.free-free.ensures.capacity.1 c.args.order c.args.depth
+    c.requires.order (filled c.is_empty.result c.args.order.height c.if-is_empty.false c.is_empty.ensures.1) c.requires.deep
+    c.from.result c.from-2.result c.from.ensures c.from-2.ensures c.index.result.now c.index-2.result.now c.index.ensures c.index-2.ensures in
+    let below : Told now orders (depth + 1) c.index-2.result.now c.if-is_empty-2.below = elim c.if-is_empty-2.branch [
+      | then-is_empty-2 w ↦ none_told now orders (depth + 1) c.index-2.result.now c.if-is_empty-2.below w.below-is (c.is_empty-2.ensures.0 w.if-is_empty-2.true)
+      | else-is_empty-2 w ↦ some_told now orders (depth + 1) c.index-2.result.now c.index-2.result.now c.if-is_empty-2.below w.deepest_in-below.result
+          w.below-is refl (w.deepest_in-below.ensures.value, w.deepest_in-below.ensures.within)
+    ] in
+    full _ _ _ _ _ _ (c.max-here.ensures ∙ ap (max depth) below.0) c.if-here-eq-MOST_NAMES.true p.longest_is
+    (names_few now (walks_at orders depth (nodes orders.links.items c.args.order)))
+
+pub returns-then-sofar-eq-MOST_NAMES-clause-value : goal.returns-then-sofar-eq-MOST_NAMES-clause-value
+returns-then-sofar-eq-MOST_NAMES-clause-value t c =
+    let now = nodes_in c.args.arena.now in let orders = c.args.orders.now in let depth = c.args.depth in
+    let p = read_parts c.args.arena.now c.requires.tree c.args.orders.now c.requires.ordered c.free-free.ensures.capacity.1 c.args.order c.args.depth
+    c.requires.order (filled c.is_empty.result c.args.order.height c.if-is_empty.false c.is_empty.ensures.1) c.requires.deep
+    c.from.result c.from-2.result c.from.ensures c.from-2.ensures c.index.result.now c.index-2.result.now c.index.ensures c.index-2.ensures in
+    let below : Told now orders (depth + 1) c.index-2.result.now c.if-is_empty-2.below = elim c.if-is_empty-2.branch [
+      | then-is_empty-2 w ↦ none_told now orders (depth + 1) c.index-2.result.now c.if-is_empty-2.below w.below-is (c.is_empty-2.ensures.0 w.if-is_empty-2.true)
+      | else-is_empty-2 w ↦ some_told now orders (depth + 1) c.index-2.result.now c.index-2.result.now c.if-is_empty-2.below w.deepest_in-below.result
+          w.below-is refl (w.deepest_in-below.ensures.value, w.deepest_in-below.ensures.within)
+    ] in
+    let before : Told now orders depth (left_of c.index.result.now) c.if-is_empty-3.before = elim c.if-is_empty-3.branch [
+      | then-is_empty-3 w ↦ none_at now orders depth c.left-left.result (left_of c.index.result.now) c.if-is_empty-3.before w.before-is c.left-left.ensures
+          (c.is_empty-3.ensures.0 w.if-is_empty-3.true)
+      | else-is_empty-3 w ↦ some_told now orders depth c.left-left.result (left_of c.index.result.now) c.if-is_empty-3.before w.deepest_in-before.result
+          w.before-is c.left-left.ensures (w.deepest_in-before.ensures.value, w.deepest_in-before.ensures.within)
+    ] in
+    full_left _ _ _ _ _ _ _ (c.max-here.ensures ∙ ap (max depth) below.0) (c.max-sofar.ensures ∙ ap (max c.max-here.result) before.0)
+    c.if-sofar-eq-MOST_NAMES.true p.longest_is (names_few now (walks_at orders depth (nodes orders.links.items c.args.order)))
+
 pub returns-clause-value : goal.returns-clause-value
 returns-clause-value t c =
     let now = nodes_in c.args.arena.now in let orders = c.args.orders.now in let depth = c.args.depth in
@@ -126,9 +173,8 @@ returns-clause-value t c =
             w.deepest_in-after.ensures.within,
           )
     ] in
-    let most : c.max-3.result ≡ max (max (max depth c.if-is_empty-2.below) c.if-is_empty-3.before) c.if-is_empty-4.after =
-    grind (arith, c.max-3.ensures, c.max-2.ensures, c.max.ensures) in
-    most ∙ (λ k. max (max (max depth (below.0 k)) (before.0 k)) (after.0 k)) ∙ sym p.longest_is
+    joined _ _ _ _ _ _ _ _ (c.max-here.ensures ∙ ap (max depth) below.0) (c.max-sofar.ensures ∙ ap (max c.max-here.result) before.0)
+    (c.max.ensures ∙ ap (max c.max-sofar.result) after.0) p.longest_is
 
 pub returns-clause-within : goal.returns-clause-within
 returns-clause-within t c =
@@ -151,4 +197,4 @@ returns-clause-within t c =
       | else-is_empty-4 w ↦
           omega (arith, w.after-is, w.deepest_in-after.ensures.within)
     ] in
-    grind (arith, c.max-3.ensures, c.max-2.ensures, c.max.ensures, p.few, before, below, after)
+    grind (arith, c.max.ensures, c.max-sofar.ensures, c.max-here.ensures, p.few, before, below, after)

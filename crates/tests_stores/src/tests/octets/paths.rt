@@ -121,32 +121,48 @@ fn names_too_long(rt: HostRuntime) {
     all_hold(&rt, rt.alloc(), &AROUND_A_LONG_NAME);
 }
 
-/// Two paths, and whether the first is at or below the second, below it, and a child of it.
-type Beside = (&'static [u8], &'static [u8], bool, bool, bool);
+/// What a path is to another one.
+#[derive(Clone, Copy)]
+enum Relation {
+    Child,
+    /// Below it, and no child.
+    Below,
+    Same,
+    NotBelow,
+}
+
+impl Relation {
+    /// Whether such a path is at or below the other one, below it, and a child of it.
+    fn told(self) -> (bool, bool, bool) {
+        match self {
+            Relation::Child => (true, true, true),
+            Relation::Below => (true, true, false),
+            Relation::Same => (true, false, false),
+            Relation::NotBelow => (false, false, false),
+        }
+    }
+}
+
+/// Two paths, and what the first is to the second.
+type Beside = (&'static [u8], &'static [u8], Relation);
 
 static BESIDE: [(&str, Beside); 7] = [
     (
         "an ancestor that is not the parent",
-        (b"d/x/y", b"d", true, true, false),
+        (b"d/x/y", b"d", Relation::Below),
     ),
-    (
-        "a parent of two names",
-        (b"d/x/y", b"d/x", true, true, true),
-    ),
-    (
-        "the same three names",
-        (b"d/x/y", b"d/x/y", true, false, false),
-    ),
-    ("a parent of one name", (b"d/x", b"d", true, true, true)),
-    ("the same two names", (b"d/x", b"d/x", true, false, false)),
-    ("a child", (b"d", b"d/x", false, false, false)),
+    ("a parent of two names", (b"d/x/y", b"d/x", Relation::Child)),
+    ("the same three names", (b"d/x/y", b"d/x/y", Relation::Same)),
+    ("a parent of one name", (b"d/x", b"d", Relation::Child)),
+    ("the same two names", (b"d/x", b"d/x", Relation::Same)),
+    ("a child", (b"d", b"d/x", Relation::NotBelow)),
     (
         "a name that is a beginning of the other",
-        (b"dx", b"d", false, false, false),
+        (b"dx", b"d", Relation::NotBelow),
     ),
 ];
 
-/// How the first path compares with the second.
+/// Whether the first path is at or below the second, below it, and a child of it.
 fn beside(path: &Path, other: &Path) -> (bool, bool, bool) {
     (
         path.is_at_or_below(other),
@@ -159,7 +175,7 @@ impl Row for Beside {
     fn holds(&self, alloc: Global) -> Result<bool, Memory> {
         let path = parsed(alloc, self.0)?;
         let other = parsed(alloc, self.1)?;
-        Ok(beside(&path, &other) == (self.2, self.3, self.4))
+        Ok(beside(&path, &other) == self.2.told())
     }
 }
 

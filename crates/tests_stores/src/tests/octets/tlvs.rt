@@ -83,154 +83,154 @@ static REQUESTS: [(&str, Asked); 12] = [
 ];
 
 // A response TLV, and its status, names and message.
-type Told = (
-    &'static [u8],
-    Status,
-    &'static [u8],
-    Option<&'static [u8]>,
-    &'static [u8],
-);
+struct Told {
+    octets: &'static [u8],
+    status: Status,
+    first: &'static [u8],
+    second: Option<&'static [u8]>,
+    message: &'static [u8],
+}
 
 static RESPONSES: [(&str, Told); 14] = [
     (
         "a file was created",
-        (
-            b"\x01\x04\x00\x01a\x00",
-            Status::Successful(Action::CreateFile),
-            b"a",
-            None,
-            b"",
-        ),
+        Told {
+            octets: b"\x01\x04\x00\x01a\x00",
+            status: Status::Successful(Action::CreateFile),
+            first: b"a",
+            second: None,
+            message: b"",
+        },
     ),
     (
         "create file was not allowed",
-        (
-            b"\x01\x04\x01\x01a\x00",
-            Status::NotAllowed(Action::CreateFile),
-            b"a",
-            None,
-            b"",
-        ),
+        Told {
+            octets: b"\x01\x04\x01\x01a\x00",
+            status: Status::NotAllowed(Action::CreateFile),
+            first: b"a",
+            second: None,
+            message: b"",
+        },
     ),
     (
         "create file was not performed",
-        (
-            b"\x01\x04\x0f\x01a\x00",
-            Status::NotPerformed(Action::CreateFile),
-            b"a",
-            None,
-            b"",
-        ),
+        Told {
+            octets: b"\x01\x04\x0f\x01a\x00",
+            status: Status::NotPerformed(Action::CreateFile),
+            first: b"a",
+            second: None,
+            message: b"",
+        },
     ),
     (
         "a file was deleted",
-        (
-            b"\x01\x04\x10\x01a\x00",
-            Status::Successful(Action::DeleteFile),
-            b"a",
-            None,
-            b"",
-        ),
+        Told {
+            octets: b"\x01\x04\x10\x01a\x00",
+            status: Status::Successful(Action::DeleteFile),
+            first: b"a",
+            second: None,
+            message: b"",
+        },
     ),
     (
         "delete file was not performed",
-        (
-            b"\x01\x04\x1f\x01a\x00",
-            Status::NotPerformed(Action::DeleteFile),
-            b"a",
-            None,
-            b"",
-        ),
+        Told {
+            octets: b"\x01\x04\x1f\x01a\x00",
+            status: Status::NotPerformed(Action::DeleteFile),
+            first: b"a",
+            second: None,
+            message: b"",
+        },
     ),
     (
         "a directory was created",
-        (
-            b"\x01\x04\x50\x01d\x00",
-            Status::Successful(Action::CreateDirectory),
-            b"d",
-            None,
-            b"",
-        ),
+        Told {
+            octets: b"\x01\x04\x50\x01d\x00",
+            status: Status::Successful(Action::CreateDirectory),
+            first: b"d",
+            second: None,
+            message: b"",
+        },
     ),
     (
         "a file was created in a directory",
-        (
-            b"\x01\x06\x00\x03d/x\x00",
-            Status::Successful(Action::CreateFile),
-            b"d/x",
-            None,
-            b"",
-        ),
+        Told {
+            octets: b"\x01\x06\x00\x03d/x\x00",
+            status: Status::Successful(Action::CreateFile),
+            first: b"d/x",
+            second: None,
+            message: b"",
+        },
     ),
     (
         "remove directory was not allowed",
-        (
-            b"\x01\x04\x62\x01d\x00",
-            Status::NotAllowed(Action::RemoveDirectory),
-            b"d",
-            None,
-            b"",
-        ),
+        Told {
+            octets: b"\x01\x04\x62\x01d\x00",
+            status: Status::NotAllowed(Action::RemoveDirectory),
+            first: b"d",
+            second: None,
+            message: b"",
+        },
     ),
     (
         "a file in a directory was renamed",
-        (
-            b"\x01\x08\x20\x03d/x\x01b\x00",
-            Status::Successful(Action::RenameFile),
-            b"d/x",
-            Some(b"b"),
-            b"",
-        ),
+        Told {
+            octets: b"\x01\x08\x20\x03d/x\x01b\x00",
+            status: Status::Successful(Action::RenameFile),
+            first: b"d/x",
+            second: Some(b"b"),
+            message: b"",
+        },
     ),
     (
         "rename file was not performed",
-        (
-            b"\x01\x06\x2f\x01a\x01b\x00",
-            Status::NotPerformed(Action::RenameFile),
-            b"a",
-            Some(b"b"),
-            b"",
-        ),
+        Told {
+            octets: b"\x01\x06\x2f\x01a\x01b\x00",
+            status: Status::NotPerformed(Action::RenameFile),
+            first: b"a",
+            second: Some(b"b"),
+            message: b"",
+        },
     ),
     (
         "the second file of a replace does not exist",
-        (
-            b"\x01\x06\x42\x01b\x01c\x00",
-            Status::ReplaceSecondAbsent,
-            b"b",
-            Some(b"c"),
-            b"",
-        ),
+        Told {
+            octets: b"\x01\x06\x42\x01b\x01c\x00",
+            status: Status::ReplaceSecondAbsent,
+            first: b"b",
+            second: Some(b"c"),
+            message: b"",
+        },
     ),
     (
         "a directory was denied",
-        (
-            b"\x01\x04\x80\x01d\x00",
-            Status::Successful(Action::DenyDirectory),
-            b"d",
-            None,
-            b"",
-        ),
+        Told {
+            octets: b"\x01\x04\x80\x01d\x00",
+            status: Status::Successful(Action::DenyDirectory),
+            first: b"d",
+            second: None,
+            message: b"",
+        },
     ),
     (
         "an append, with a message",
-        (
-            b"\x01\x07\x30\x01b\x01b\x01m",
-            Status::Successful(Action::AppendFile),
-            b"b",
-            Some(b"b"),
-            b"m",
-        ),
+        Told {
+            octets: b"\x01\x07\x30\x01b\x01b\x01m",
+            status: Status::Successful(Action::AppendFile),
+            first: b"b",
+            second: Some(b"b"),
+            message: b"m",
+        },
     ),
     (
         "a / in front",
-        (
-            b"\x01\x05\x00\x02/a\x00",
-            Status::Successful(Action::CreateFile),
-            b"/a",
-            None,
-            b"",
-        ),
+        Told {
+            octets: b"\x01\x05\x00\x02/a\x00",
+            status: Status::Successful(Action::CreateFile),
+            first: b"/a",
+            second: None,
+            message: b"",
+        },
     ),
 ];
 
@@ -302,28 +302,19 @@ fn written_response(
     }
 }
 
-// Whether a response has this status, these names and this message.
-fn tells(
-    response: &FilestoreResponse,
-    status: Status,
-    first: &[u8],
-    second: Option<&[u8]>,
-    message: &[u8],
-) -> bool {
-    response.status() == status
-        && response.first() == first
-        && response.second() == second
-        && response.message() == message
+// Whether a response has the status, the names and the message of a row.
+fn tells(response: &FilestoreResponse, told: &Told) -> bool {
+    response.status() == told.status
+        && response.first() == told.first
+        && response.second() == told.second
+        && response.message() == told.message
 }
 
 impl Row for Told {
     fn holds(&self, alloc: Global) -> Result<bool, AllocError> {
-        let response = response_in(alloc, self.0)?;
+        let response = response_in(alloc, self.octets)?;
         let out = written_response(alloc, b"x", &response)?;
-        Ok(
-            tells(&response, self.1, self.2, self.3, self.4)
-                && out.strip_prefix(b"x") == Some(self.0),
-        )
+        Ok(tells(&response, self) && out.strip_prefix(b"x") == Some(self.octets))
     }
 }
 
