@@ -222,7 +222,7 @@ impl Filestore for ListStore {
 
     fn unstage(&mut self, slot: u8) -> u32 {
         let alloc = *self.staged.allocator();
-        let dropped = staging::take_list(&mut self.staged, usize::from(slot), alloc);
+        let dropped = staging::take_list(alloc, &mut self.staged, usize::from(slot));
         let given = blocks_of(dropped.len() as u64);
         self.used -= given;
         given
@@ -232,7 +232,7 @@ impl Filestore for ListStore {
         let alloc = *self.staged.allocator();
         let slot = usize::from(slot);
         if self.entries.get(path).is_some() {
-            let octets = staging::take_list(&mut self.staged, slot, alloc);
+            let octets = staging::take_list(alloc, &mut self.staged, slot);
             let old = self.entries.exchange(path, Content::File(octets));
             let given = blocks_of(old.octets().len() as u64);
             self.used -= given;
@@ -240,7 +240,7 @@ impl Filestore for ListStore {
         }
         let empty = Content::File(Vec::new(alloc));
         self.entries.insert(path.copy(alloc)?, empty)?;
-        let octets = staging::take_list(&mut self.staged, slot, alloc);
+        let octets = staging::take_list(alloc, &mut self.staged, slot);
         self.entries.set(path, Content::File(octets));
         self.used += 1;
         Ok(1)

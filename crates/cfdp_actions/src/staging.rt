@@ -43,7 +43,7 @@ fn overwrite_list(list: &mut [u8], at: usize, octets: &[u8])
 }
 
 /// Takes a list out of its slot, which is then empty.
-pub fn take_list(staged: &mut Vec<Vec<u8>>, slot: usize, alloc: Global) -> Vec<u8>
+pub fn take_list(alloc: Global, staged: &mut Vec<Vec<u8>>, slot: usize) -> Vec<u8>
     requires { slot < vec_len staged.old }
     ensures list { result.items ≡ slice_index_or (vector_octets staged.old.items) slot [] }
     ensures emptied { vector_octets staged.new.items ≡ slice_set (vector_octets staged.old.items) slot [] }

@@ -1,11 +1,12 @@
 //! What C passes: a slot, and a mark that says whether an engine is in it.
 ghost use Rattle.std.specs.Prelude.{◌≡◌, ◌==◌, Some, None, IsTrue, IsNone, MatchOption, is_some};
+ghost use Rattle.cfdp_c.specs.declared.handle.TheConstants.{MARK};
 
 use crate::slot::Slot;
 use cfdp_entity::Entity;
 use std::alloc::Global;
 
-/// The mark of a handle that has an engine. Zeros, and most other bits, are not this.
+/// The mark of a handle that has an engine: the letters `CFDP`. Zeros, and most other bits, are not this.
 const MARK: u32 = 0x4346_4450;
 
 /// A C `struct cfdp_engine`.
@@ -13,7 +14,7 @@ const MARK: u32 = 0x4346_4450;
 pub struct Handle {
     mark: u32,
     pub(crate) slot: Slot,
-    ghost ok: { (mark == 1128678480) ≡ is_some slot.engine },
+    ghost ok: { (mark == MARK) ≡ is_some slot.engine },
 }
 
 impl Handle {

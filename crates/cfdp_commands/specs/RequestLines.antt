@@ -13,6 +13,7 @@
 use Rattle.std.specs.Prelude.{ℕ, ◌==◌, nat_lt, if◌then◌else◌, List, [], ◌∷◌, ◌++◌, length, Result, Ok, Err, codes}
 use Rattle.hex.specs.Hex.{encode_lower}
 use Rattle.cfdp_status.specs.declared.status.Status.{Status}
+use Rattle.cfdp_tlv.specs.Types.{filestore_request_type, filestore_response_type}
 use Rattle.cfdp_tlv.specs.Field.{tlv, tlv_at}
 use Rattle.cfdp_tlv.specs.Grammar.{request_at, response_octets}
 use Rattle.cfdp_tlv.specs.Values.{RequestFields, ResponseFields}
@@ -38,7 +39,8 @@ answerable value (Err fault) = Err (dropped_for fault)
 -- of a TLV's type and value, and what is after it
 abbrev pub request_alone : ℕ → List ℕ → List ℕ → Result RequestFields Dropped
 request_alone kind value (octet ∷ octets) = Err Trailing
-request_alone kind value [] = if kind == 0 then answerable value (request_at value) else Err NotARequest
+request_alone kind value [] =
+    if kind == filestore_request_type then answerable value (request_at value) else Err NotARequest
 
 -- the whole line is one TLV, of type 00
 abbrev pub request_of_tlv : Result (ℕ × List ℕ × List ℕ) TlvFault → Result RequestFields Dropped
@@ -61,4 +63,5 @@ abbrev pub response_to : RequestFields → Status → ResponseFields
 response_to request status = record { status = status; first = request.first; second = request.second; message = [] }
 
 abbrev pub response_line : RequestFields → Status → List ℕ
-response_line request status = encode_lower (tlv 1 (response_octets (response_to request status))) ++ 10 ∷ []
+response_line request status =
+    encode_lower (tlv filestore_response_type (response_octets (response_to request status))) ++ 10 ∷ []

@@ -1,6 +1,7 @@
 //! The filestore request that a line of `plain` brings, and the line that answers it (CCSDS 727.0-B-5 §5.4).
 ghost use Rattle.std.specs.Prelude.{◌≡◌, ℕ, ◌+◌, ◌≤◌, ◌++◌, length, Ok, Err, IfOk, OnOk, OnErr, Some};
 ghost use Rattle.cfdp_status.specs.Codes.{action_of};
+ghost use Rattle.cfdp_tlv.specs.Types.{filestore_response_type};
 ghost use Rattle.cfdp_tlv.specs.Field.{tlv};
 ghost use Rattle.cfdp_tlv.specs.Grammar.{names_as_lv, request_at, response_octets};
 ghost use Rattle.cfdp_commands.specs.RequestLines.{answerable, request_on, response_line, response_to};
@@ -94,7 +95,8 @@ fn response_tlv(
 ) -> Result<Vec<u8>, AllocError>
     requires action { action_of status ≡ request.action }
     requires short { length (names_as_lv request.first request.second) ≤ 253 }
-    ensures { IfOk result (λ octets. octets.items ≡ tlv 1 (response_octets (response_to request status))) }
+    ensures { IfOk result (λ octets. octets.items ≡ tlv filestore_response_type
+        (response_octets (response_to request status))) }
 {
     let mut octets = Vec::new(alloc);
     match write_response(&request.into_response(status), &mut octets) {

@@ -10,6 +10,10 @@ use Rattle.cfdp_pdus.specs.code.Counting.{count_read}
 abbrev pub counted : {A : Type 0} → ℕ → Result (List A) PduFault → Result ℕ PduFault
 counted n read = read >>= λ items. Ok (n + length items)
 
+pub count_first : {A : Type 0} (read : Result (List A) PduFault) → counted 0 read ≡ count_read read
+count_first (Ok items) = ap (λ (n : ℕ). Ok n) (omega arith)
+count_first (Err fault) = refl
+
 pub count_none : {A : Type 0} (n : ℕ) (read : Result (List A) PduFault) → read ≡ Ok [] → counted n read ≡ Ok n
 count_none n read none = ap (counted n) none ∙ ap (λ (k : ℕ). Ok k) (omega arith)
 

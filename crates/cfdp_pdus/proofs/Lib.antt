@@ -1,6 +1,7 @@
 pub mod Steps
 pub mod Splits
 pub mod CountSteps
+pub mod FieldLoop
 pub mod RequestLoop
 pub mod WholeLoop
 pub mod OutcomeLoop

@@ -1,5 +1,5 @@
 -- The TLV fields of octets, one step at a time.
-use Rattle.std.proofs.Common.{◌≡◌, Option, ℕ, true, false, eqb, zero, suc, ◌+◌, ◌≤◌, List, [], ◌∷◌, ◌++◌, length, Some, None, Result, Ok, Err, refl, sym, ap, ◌∙◌, arith}
+use Rattle.std.proofs.Common.{◌≡◌, Option, ℕ, true, false, eqb, zero, suc, ◌+◌, ◌≤◌, ◌<◌, List, [], ◌∷◌, ◌++◌, length, Some, None, Result, Ok, Err, refl, sym, ap, ◌∙◌, subst, arith}
 use Rattle.std.proofs.lemmas.List.{length-append, nil_from_length}
 use Rattle.std.proofs.lemmas.Bool.{eqb-true}
 use Rattle.cfdp_tlv.specs.Field.{tlv, tlv_at}
@@ -58,3 +58,23 @@ not_nil (octet ∷ octets) e nil = cc
 
 pub nil_is : (octets : List ℕ) → true ≡ eqb (length octets) 0 → octets ≡ []
 nil_is octets e = nil_from_length octets (eqb-true _ _ (sym e))
+
+-- an item less is left
+pub fewer : {A : Type 0} (all rest : List A) (x : A) → all ≡ x ∷ rest → length rest < length all
+fewer {A = A} all rest x e = subst (λ (xs : List A). length rest < length xs) (sym e) (omega arith)
+
+-- there are no more fields than octets
+front_len : (read : Result (ℕ × List ℕ × List ℕ) TlvFault) (next : List ℕ → List (Option Field)) (n : ℕ) →
+    ((octets : List ℕ) → length (next octets) ≤ n) → length (front_field read next) ≤ n + 1
+front_len (Ok field) next n few = omega (arith, few field.2)
+front_len (Err fault) next n few = omega arith
+
+some_fields_len : (n : ℕ) (octets : List ℕ) → length (some_fields_at n octets) ≤ n
+unfolding some_fields_at
+some_fields_len zero octets = omega arith
+some_fields_len (suc n) [] = omega arith
+some_fields_len (suc n) (octet ∷ octets) = omega (arith, front_len (tlv_at (octet ∷ octets)) (some_fields_at n) n (some_fields_len n))
+
+pub fields_len : (octets : List ℕ) → length (fields_at octets) ≤ length octets
+unfolding fields_at
+fields_len octets = some_fields_len (length octets) octets

@@ -1,6 +1,6 @@
 -- Lengths of what is written, and that there is room for it.
-use Rattle.std.proofs.Common.{◌≡◌, ℕ, zero, suc, ◌+◌, ◌*◌, ◌≤◌, ◌<◌, List, [], ◌∷◌, ◌++◌, length, take, get_or, Bool, true, ◌&&◌, Some, ap, ◌∙◌, arith}
-use Rattle.std.specs.List.{flat_map, list_all}
+use Rattle.std.proofs.Common.{◌≡◌, ℕ, zero, suc, ◌+◌, ◌*◌, ◌≤◌, ◌<◌, List, [], ◌∷◌, ◌++◌, length, take, get_or, Bool, Some, ap, arith}
+use Rattle.std.specs.List.{flat_map}
 use Rattle.std.proofs.lemmas.List.{length-append}
 use Rattle.byteorder.specs.Endian.{big_bytes}
 use Rattle.byteorder.specs.Numbers.{length-bytes_high_first}
@@ -9,13 +9,6 @@ use Rattle.cfdp_pdus.specs.Values.{FileDataFields, FinishedFields}
 use Rattle.cfdp_pdus.specs.declared.eof.Eof.{Eof}
 use Rattle.cfdp_pdus.specs.Bits.{fss}
 use Rattle.cfdp_pdus.specs.Canonical.{fault_location, finished_field, response_field, pdu_octets, names_octets, eof_field, eof_location, file_data_field}
-use Rattle.cfdp_pdus.proofs.OutcomeSteps.{and_true}
-
--- where all pass a test, each does
-pub passes_at : {X : Type 0} (p : X → Bool) (xs : List X) (i : ℕ) (d : X) → list_all p xs ≡ true → i < length xs → p (get_or xs i d) ≡ true
-passes_at p [] i d all lt = absurd (omega arith)
-passes_at p (x ∷ xs) zero d all lt = (and_true (p x) (list_all p xs) all).0
-passes_at p (x ∷ xs) (suc i) d all lt = passes_at p xs i d (and_true (p x) (list_all p xs) all).1 (omega arith)
 
 -- what is before a part, and the part, are no longer than the whole
 pub part_fits : {X : Type 0} (f : X → List ℕ) (xs : List X) (i : ℕ) (d : X) → i < length xs → length (flat_map f (take i xs))
@@ -35,9 +28,6 @@ unfolding finished_field
 finished_len header finished = omega (arith, length-append (flat_map response_field finished.responses) (fault_location header.id_len finished.fault))
 
 -- the same of the item at an index
-pub item_passes : {X : Type 0} (p : X → Bool) (xs : List X) (i : ℕ) (x : X) → x ≡ get_or xs i x → list_all p xs ≡ true → i < length xs → p x ≡ true
-item_passes p xs i x is all lt = ap p is ∙ passes_at p xs i x all lt
-
 pub item_fits : {X : Type 0} (f : X → List ℕ) (xs : List X) (i : ℕ) (x : X) → x ≡ get_or xs i x → i < length xs → length (flat_map f (take i xs))
     + length (f x) ≤ length (flat_map f xs)
 item_fits {X = X} f xs i x is lt =

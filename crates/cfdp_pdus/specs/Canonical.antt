@@ -11,6 +11,7 @@
 use Rattle.std.specs.Prelude.{◌≤◌, ◌<◌, ℕ, ◌+◌, ◌-◌, ◌*◌, ◌^◌, ◌==◌, ◌&&◌, nat_le, if◌then◌else◌, Bool, not, List, [], ◌∷◌, ◌++◌, length, Option, Some, None, IfSome}
 use Rattle.std.specs.List.{flat_map, list_all}
 use Rattle.byteorder.specs.Endian.{big_bytes}
+use Rattle.cfdp_tlv.specs.Types.{filestore_request_type, filestore_response_type, entity_id_type}
 use Rattle.cfdp_tlv.specs.Field.{lv, tlv}
 use Rattle.cfdp_tlv.specs.Values.{RequestFields, ResponseFields, IsRequest}
 use Rattle.cfdp_tlv.specs.Grammar.{request_octets, response_octets}
@@ -55,7 +56,7 @@ pdu_octets file_data header field = header_octets file_data header (length field
 -- ---- Metadata
 
 abbrev pub request_field : RequestFields → List ℕ
-request_field request = tlv 0 (request_octets request)
+request_field request = tlv filestore_request_type (request_octets request)
 
 unfoldable pub metadata_field : Bool → MetadataFields → List ℕ
 metadata_field large metadata =
@@ -95,7 +96,7 @@ file_data_fits large file_data = nat_le (length (file_data_field large file_data
 
 -- the entity at which the transaction was ended
 abbrev pub location : ℕ → ℕ → List ℕ
-location id_len entity = tlv 6 (big_bytes id_len entity)
+location id_len entity = tlv entity_id_type (big_bytes id_len entity)
 
 -- the source entity, where the condition is not 'no error'
 abbrev pub eof_location : Header → Eof → List ℕ
@@ -113,7 +114,7 @@ pub record IsSizedEof (large : Bool) (eof : Eof) : Type 0 where
 -- ---- Finished
 
 abbrev pub response_field : ResponseFields → List ℕ
-response_field response = tlv 1 (response_octets response)
+response_field response = tlv filestore_response_type (response_octets response)
 
 abbrev pub fault_location : ℕ → Option ℕ → List ℕ
 fault_location id_len None = []

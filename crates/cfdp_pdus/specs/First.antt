@@ -8,6 +8,7 @@
 --   pdu_at octets                 the PDU that the octets spell, or the first fault
 use Rattle.std.specs.Prelude.{ℕ, zero, suc, ◌+◌, ◌*◌, ◌/◌, ◌%◌, ◌==◌, ◌&&◌, nat_lt, nat_le, if◌then◌else◌, Bool, true, false, not, List, [], ◌∷◌, length, drop, Option, Some, None, Result, Ok, Err}
 use Rattle.byteorder.specs.Endian.{big_number}
+use Rattle.cfdp_tlv.specs.Types.{filestore_request_type, filestore_response_type, entity_id_type}
 use Rattle.cfdp_tlv.specs.Field.{lv_at, tlv_at}
 use Rattle.cfdp_tlv.specs.Values.{RequestFields, ResponseFields}
 use Rattle.cfdp_tlv.specs.Grammar.{request_at, response_at}
@@ -56,7 +57,7 @@ unfoldable pub requests_of : List (Option Field) → Result (List RequestFields)
 requests_of [] = Ok []
 requests_of (None ∷ fields) = Err BadTlv
 requests_of (Some field ∷ fields) =
-    if field.0 == 0
+    if field.0 == filestore_request_type
     then (asked_at field.1 >>= λ request. requests_of fields >>= λ requests. Ok (request ∷ requests))
     else requests_of fields
 
@@ -76,9 +77,9 @@ unfoldable pub outcome_fields : List (Option Field) → Result (List ResponseFie
 outcome_fields [] = Ok ([], None)
 outcome_fields (None ∷ fields) = Err BadTlv
 outcome_fields (Some field ∷ fields) =
-    if field.0 == 1
+    if field.0 == filestore_response_type
     then (told_at field.1 >>= λ response. outcome_fields fields >>= λ others. Ok (response ∷ others.0, others.1))
-    else if field.0 == 6
+    else if field.0 == entity_id_type
     then (entity_at field.1 >>= λ entity. outcome_fields fields >>= λ others. Ok
     (others.0, or_else others.1 (Some entity)))
     else outcome_fields fields

@@ -15,6 +15,7 @@
 --   SpellsPdu octets pdu                 the octets spell the PDU
 use Rattle.std.specs.Prelude.{◌≡◌, ◌≤◌, ◌<◌, ◌⊎◌, ℕ, ◌+◌, ◌*◌, ◌/◌, ◌%◌, ◌==◌, if◌then◌else◌, Bool, true, false, not, List, [], ◌∷◌, ◌++◌, length, Option, Some, None}
 use Rattle.byteorder.specs.Endian.{big_number}
+use Rattle.cfdp_tlv.specs.Types.{filestore_request_type, filestore_response_type, entity_id_type}
 use Rattle.cfdp_tlv.specs.Field.{lv, tlv}
 use Rattle.cfdp_tlv.specs.Values.{RequestFields, ResponseFields}
 use Rattle.cfdp_tlv.specs.Grammar.{SpellsRequest, SpellsResponse}
@@ -93,7 +94,7 @@ pub record SpellsMetadata (large : Bool) (octets : List ℕ) (metadata : Metadat
   pub closure : metadata.closure ≡ flag 6 flags
   pub checksum_type : metadata.checksum_type ≡ flags % 16
   pub size : IsNumber size_octets (fss large) metadata.size
-  pub requests : EachAsks (values_of 0 options) metadata.requests
+  pub requests : EachAsks (values_of filestore_request_type options) metadata.requests
 
 -- continuation state and segment metadata, where the header says that they are there
 abbrev pub IsSegment : Bool → List ℕ → Type 0
@@ -125,9 +126,9 @@ pub record SpellsFinished (octets : List ℕ) (finished : FinishedFields) : Type
   pub condition : finished.condition ≡ flags / 16
   pub incomplete : finished.incomplete ≡ flag 2 flags
   pub file_status : finished.file_status ≡ flags % 4
-  pub responses : EachTells (values_of 1 fields) finished.responses
-  pub entities : AreEntities (values_of 6 fields)
-  pub fault : finished.fault ≡ last_entity (values_of 6 fields)
+  pub responses : EachTells (values_of filestore_response_type fields) finished.responses
+  pub entities : AreEntities (values_of entity_id_type fields)
+  pub fault : finished.fault ≡ last_entity (values_of entity_id_type fields)
 
 abbrev pub IsOther : ℕ → Type 0
 IsOther code = (code ≡ ack_code) ⊎ (code ≡ nak_code) ⊎ (code ≡ prompt_code) ⊎ (code ≡ keep_alive_code)

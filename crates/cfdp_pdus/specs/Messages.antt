@@ -8,6 +8,7 @@
 --                                   Metadata PDU
 --   options_said ..                 the options that the grammar finds in the Metadata PDU that the octets spell
 use Rattle.std.specs.Prelude.{ℕ, ◌+◌, Bool, true, false, List, [], ◌∷◌, length, drop, Option, Some, None, Result, Ok, Err}
+use Rattle.cfdp_tlv.specs.Types.{message_to_user_type}
 use Rattle.cfdp_tlv.specs.Field.{lv}
 use Rattle.cfdp_pdus.specs.declared.fault.PduFault.{PduFault}
 use Rattle.cfdp_pdus.specs.declared.header.Header.{Header}
@@ -26,7 +27,7 @@ whole_fields (None ∷ fields) = []
 whole_fields (Some field ∷ fields) = field ∷ whole_fields fields
 
 unfoldable pub messages_among : List ℕ → List (List ℕ)
-messages_among octets = values_of 2 (whole_fields (fields_at octets))
+messages_among octets = values_of message_to_user_type (whole_fields (fields_at octets))
 
 abbrev pub before_options : Bool → MetadataFields → ℕ
 before_options large metadata = 2 + fss large + length (lv metadata.source_name) + length (lv metadata.destination_name)

@@ -7,18 +7,13 @@ ghost use Rattle.cfdp_pdus.specs.code.Counting.{count_read, responses_in_fields,
 ghost use Rattle.cfdp_pdus.specs.declared.fault.PduFault.TheVariants.{Memory};
 
 use crate::PduFault;
+use crate::tlv_fields::TlvFields;
 use byteorder::{BigEndian, ByteOrder};
 use cfdp_tlv::{
-    FILESTORE_REQUEST, FILESTORE_RESPONSE, FilestoreRequest, FilestoreResponse, MAX_ANSWERABLE_LEN,
-    RequestParts, ResponseParts, read_lv, read_tlv, request_parts, response_parts,
+    ENTITY_ID, FILESTORE_REQUEST, FILESTORE_RESPONSE, FilestoreRequest, FilestoreResponse,
+    MAX_ANSWERABLE_LEN, RequestParts, ResponseParts, read_lv, request_parts, response_parts,
 };
 use std::alloc::{AllocError, Global};
-
-/// The type of a message to user TLV.
-pub const MESSAGE_TO_USER: u8 = 2;
-
-/// The type of an entity ID TLV.
-pub const ENTITY_ID: u8 = 6;
 
 /// The longest entity ID, in octets.
 const MAX_ID_LEN: usize = 8;
@@ -50,16 +45,14 @@ pub fn count_requests(octets: &[u8]) -> Result<usize, PduFault>
     ensures { result ≡ count_read (requests_of (fields_at octets.now)) }
 {
     let mut count = 0usize;
-    let mut rest = octets;
-    'fields: while !rest.is_empty() {
-        let Ok(field) = read_tlv(rest) else {
+    for read in TlvFields::among(octets) {
+        let Ok(field) = read else {
             return Err(PduFault::BadTlv);
         };
         if field.kind == FILESTORE_REQUEST {
             read_request_parts(field.value)?;
             count += 1;
         }
-        rest = field.rest;
     }
     Ok(count)
 }
@@ -74,14 +67,12 @@ fn copy_requests(
     ensures { IfOk result (λ requests. requests_of (fields_at octets.now) ≡ Ok requests.items) }
 {
     let mut requests = Vec::with_capacity(alloc, count)?;
-    let mut rest = octets;
-    'fields: while !rest.is_empty() {
-        let field = read_tlv(rest).unwrap();
+    for read in TlvFields::among(octets) {
+        let field = read.unwrap();
         if field.kind == FILESTORE_REQUEST {
             let request = read_request_parts(field.value).unwrap();
             requests.push_reserved(request.copy(alloc)?);
         }
-        rest = field.rest;
     }
     Ok(requests)
 }
@@ -119,9 +110,8 @@ pub fn count_responses(octets: &[u8]) -> Result<(usize, Option<u64>), PduFault>
 {
     let mut count = 0usize;
     let mut fault = None;
-    let mut rest = octets;
-    'fields: while !rest.is_empty() {
-        let Ok(field) = read_tlv(rest) else {
+    for read in TlvFields::among(octets) {
+        let Ok(field) = read else {
             return Err(PduFault::BadTlv);
         };
         if field.kind == FILESTORE_RESPONSE {
@@ -131,7 +121,6 @@ pub fn count_responses(octets: &[u8]) -> Result<(usize, Option<u64>), PduFault>
             let entity = read_entity(field.value)?;
             fault = Some(entity);
         }
-        rest = field.rest;
     }
     Ok((count, fault))
 }
@@ -146,14 +135,12 @@ fn copy_responses(
     ensures { IfOk result (λ responses. responses_in_fields (fields_at octets.now) ≡ Ok responses.items) }
 {
     let mut responses = Vec::with_capacity(alloc, count)?;
-    let mut rest = octets;
-    'fields: while !rest.is_empty() {
-        let field = read_tlv(rest).unwrap();
+    for read in TlvFields::among(octets) {
+        let field = read.unwrap();
         if field.kind == FILESTORE_RESPONSE {
             let response = read_response_parts(field.value).unwrap();
             responses.push_reserved(response.copy(alloc)?);
         }
-        rest = field.rest;
     }
     Ok(responses)
 }
@@ -174,12 +161,10 @@ pub fn read_outcome(
 pub fn check_fields(octets: &[u8]) -> Result<(), PduFault>
     ensures { Answers (λ whole. whole) result (all_whole (fields_at octets.now)) }
 {
-    let mut rest = octets;
-    'fields: while !rest.is_empty() {
-        let Ok(field) = read_tlv(rest) else {
+    for read in TlvFields::among(octets) {
+        if read.is_err() {
             return Err(PduFault::BadTlv);
-        };
-        rest = field.rest;
+        }
     }
     Ok(())
 }

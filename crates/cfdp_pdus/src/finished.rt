@@ -15,8 +15,9 @@ use crate::directive::FINISHED;
 use crate::field::{count_responses, read_outcome};
 use crate::number::bit;
 use crate::put::{MAX_FIELD_LEN, fault_len, header_len, push_fault, push_header};
+use crate::tlv_values::{are_short, fields_len, push_fields};
 use crate::{Header, PduFault, WriteFault};
-use cfdp_tlv::{FilestoreResponse, MAX_VALUE_LEN, write_response};
+use cfdp_tlv::FilestoreResponse;
 use std::alloc::Global;
 use std::marker::Model;
 
@@ -106,39 +107,6 @@ pub fn check_finished(octets: &[u8]) -> Result<(), PduFault>
     };
     count_responses(rest)?;
     Ok(())
-}
-
-/// Whether each response's value has at most 255 octets.
-fn are_short(responses: &[FilestoreResponse]) -> bool
-    ensures { result ≡ list_all is_short_response responses.now }
-{
-    responses
-        .iter()
-        .all(|response| response.value_len() <= MAX_VALUE_LEN)
-}
-
-/// How many octets the responses take as TLV fields, or `usize::MAX` where that is too little.
-fn fields_len(responses: &[FilestoreResponse]) -> usize
-    ensures { result ≡ min (length (flat_map response_field responses.now)) usize.MAX }
-{
-    let mut len = 0usize;
-    for response in responses {
-        len = len.saturating_add(response.value_len().saturating_add(2));
-    }
-    len
-}
-
-/// Appends the responses as TLV fields. It cannot fail, since there is room for them.
-fn push_fields(out: &mut Vec<u8>, responses: &[FilestoreResponse])
-    requires short { list_all is_short_response responses.now ≡ true }
-    requires room { vec_len out.old + length (flat_map response_field responses.now) ≤ vec_capacity out.old }
-    ensures items { out.new.items ≡ out.old.items ++ flat_map response_field responses.now }
-    ensures len { vec_len out.new ≡ vec_len out.old + length (flat_map response_field responses.now) }
-    ensures capacity { vec_capacity out.old ≤ vec_capacity out.new }
-{
-    for response in responses {
-        write_response(response, out).unwrap();
-    }
 }
 
 /// How many octets the data field has, or `usize::MAX` where that is too little.

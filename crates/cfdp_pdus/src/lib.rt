@@ -31,6 +31,8 @@ mod number;
 mod pdu;
 mod put;
 mod read;
+mod tlv_fields;
+mod tlv_values;
 
 pub use buffer::{put_header, put_number, put_octets};
 pub use cfdp_checksum::modular_checksum;
@@ -43,5 +45,5 @@ pub use message::{Messages, read_messages};
 pub use metadata::{Metadata, write_metadata};
 pub use number::{bit, read_number, size_len};
 pub use pdu::Pdu;
-pub use put::{MAX_FIELD_LEN, header_len, push_header, push_number};
+pub use put::{MAX_FIELD_LEN, fault_len, header_len, push_header, push_number};
 pub use read::{read_for_receiver, read_pdu, read_piece};

@@ -2,6 +2,7 @@
 
 ghost use Rattle.std.specs.Prelude.{◌≡◌, [], ◌∷◌, length, option_map, slice_get, IfSome, IfNone};
 ghost use Rattle.std.specs.Iterator.{YieldsFirstRef, item_count};
+ghost use Rattle.cfdp_tlv.specs.Types.{message_to_user_type};
 ghost use Rattle.cfdp_tlv.specs.Reading.{Answers};
 ghost use Rattle.cfdp_pdus.specs.Grammar.{SpellsPdu, values_of};
 ghost use Rattle.cfdp_pdus.specs.Messages.{messages_among, messages_at, options_said};
@@ -12,10 +13,10 @@ ghost use Rattle.cfdp_pdus.specs.declared.pdu.Pdu.TheVariants.{Metadata as Metad
 
 use crate::PduFault;
 use crate::directive::METADATA;
-use crate::field::{MESSAGE_TO_USER, count_requests, read_name};
+use crate::field::{count_requests, read_name};
 use crate::header::read_start;
 use crate::number::{read_number, size_len};
-use cfdp_tlv::read_tlv;
+use cfdp_tlv::{MESSAGE_TO_USER, read_tlv};
 use std::marker::Model;
 
 /// The messages to user of a Metadata PDU (CCSDS 727.0-B-5 §5.4.3) that are still to come, in the order in which they
@@ -174,7 +175,7 @@ pub fn read_messages(octets: &[u8]) -> Messages<'_>
     // What the grammar calls its options of type 2.
     ensures spelled { (header : HeaderValue) (metadata : MetadataFields)
         (said : SpellsPdu octets.now (MetadataCame header metadata))
-        → result ≡ values_of 2 (options_said octets.now header metadata said) }
+        → result ≡ values_of message_to_user_type (options_said octets.now header metadata said) }
     ensures none { ((header : HeaderValue) (metadata : MetadataFields) →
         SpellsPdu octets.now (MetadataCame header metadata) → ⊥) → result ≡ [] }
 {

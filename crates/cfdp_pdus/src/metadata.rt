@@ -14,8 +14,9 @@ use crate::directive::METADATA;
 use crate::field::{read_name, read_requests};
 use crate::number::{bit, read_number, size_len};
 use crate::put::{MAX_FIELD_LEN, header_len, push_header, push_number};
+use crate::tlv_values::{are_short, fields_len, push_fields};
 use crate::{Header, PduFault, WriteFault};
-use cfdp_tlv::{FilestoreRequest, MAX_VALUE_LEN, push_lv, write_request};
+use cfdp_tlv::{FilestoreRequest, MAX_VALUE_LEN, push_lv};
 use std::alloc::Global;
 use std::marker::Model;
 
@@ -108,39 +109,6 @@ pub fn read_metadata(alloc: Global, large: bool, octets: &[u8]) -> Result<Metada
         destination_name: Vec::from_slice(alloc, destination)?,
         requests,
     })
-}
-
-/// Whether each request's value has at most 255 octets.
-fn are_short(requests: &[FilestoreRequest]) -> bool
-    ensures { result ≡ list_all is_short_request requests.now }
-{
-    requests
-        .iter()
-        .all(|request| request.value_len() <= MAX_VALUE_LEN)
-}
-
-/// How many octets the requests take as TLV fields, or `usize::MAX` where that is too little.
-fn fields_len(requests: &[FilestoreRequest]) -> usize
-    ensures { result ≡ min (length (flat_map request_field requests.now)) usize.MAX }
-{
-    let mut len = 0usize;
-    for request in requests {
-        len = len.saturating_add(request.value_len().saturating_add(2));
-    }
-    len
-}
-
-/// Appends the requests as TLV fields. It cannot fail, since there is room for them.
-fn push_fields(out: &mut Vec<u8>, requests: &[FilestoreRequest])
-    requires short { list_all is_short_request requests.now ≡ true }
-    requires room { vec_len out.old + length (flat_map request_field requests.now) ≤ vec_capacity out.old }
-    ensures items { out.new.items ≡ out.old.items ++ flat_map request_field requests.now }
-    ensures len { vec_len out.new ≡ vec_len out.old + length (flat_map request_field requests.now) }
-    ensures capacity { vec_capacity out.old ≤ vec_capacity out.new }
-{
-    for request in requests {
-        write_request(request, out).unwrap();
-    }
 }
 
 /// How many octets the data field has, or `usize::MAX` where that is too little.

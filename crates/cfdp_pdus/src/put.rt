@@ -8,8 +8,8 @@ ghost use Rattle.std.specs.Option.{ForSome};
 
 use crate::Header;
 use crate::buffer::put_header;
-use crate::field::ENTITY_ID;
 use byteorder::{BigEndian, ByteOrder};
+use cfdp_tlv::ENTITY_ID;
 
 /// The longest data field, in octets: its length is two octets.
 pub const MAX_FIELD_LEN: usize = 65_535;

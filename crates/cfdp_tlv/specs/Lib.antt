@@ -1,4 +1,5 @@
 pub mod Reading
+pub mod Types
 pub mod Field
 pub mod Values
 pub mod Grammar

@@ -6,11 +6,17 @@ ghost use Rattle.cfdp_tlv.specs.Field.{lv, tlv, lv_at, tlv_at};
 
 use crate::TlvFault;
 
-/// The type of a filestore request TLV.
+/// The type of a filestore request TLV (CCSDS 727.0-B-5 §5.4.1).
 pub const FILESTORE_REQUEST: u8 = 0;
 
-/// The type of a filestore response TLV.
+/// The type of a filestore response TLV (CCSDS 727.0-B-5 §5.4.2).
 pub const FILESTORE_RESPONSE: u8 = 1;
+
+/// The type of a message to user TLV (CCSDS 727.0-B-5 §5.4.3).
+pub const MESSAGE_TO_USER: u8 = 2;
+
+/// The type of an entity ID TLV, which has the fault location (CCSDS 727.0-B-5 §5.4.6).
+pub const ENTITY_ID: u8 = 6;
 
 /// The longest value of an LV or TLV field, in octets: its length is one octet.
 pub const MAX_VALUE_LEN: usize = 255;

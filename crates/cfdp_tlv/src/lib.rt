@@ -17,7 +17,10 @@ mod response;
 mod room;
 
 pub use fault::TlvFault;
-pub use field::{FILESTORE_REQUEST, FILESTORE_RESPONSE, MAX_VALUE_LEN, Tlv, read_lv, read_tlv};
+pub use field::{
+    ENTITY_ID, FILESTORE_REQUEST, FILESTORE_RESPONSE, MAX_VALUE_LEN, MESSAGE_TO_USER, Tlv, read_lv,
+    read_tlv,
+};
 pub use request::{
     FilestoreRequest, MAX_ANSWERABLE_LEN, RequestParts, read_request, request_parts, write_request,
 };

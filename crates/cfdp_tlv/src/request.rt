@@ -4,6 +4,7 @@ ghost use Rattle.std.specs.Prelude.{◌≡◌, ◌≤◌, ◌<◌, ◌+◌, ◌�
 ghost use Rattle.std.specs.Vec.{vec_capacity};
 ghost use Rattle.cfdp_tlv.specs.Reading.{Gives};
 ghost use Rattle.cfdp_tlv.specs.Field.{tlv};
+ghost use Rattle.cfdp_tlv.specs.Types.{filestore_request_type};
 ghost use Rattle.cfdp_status.specs.Codes.{has_second, action_of};
 ghost use Rattle.cfdp_tlv.specs.Values.{RequestFields, IsRequest};
 ghost use Rattle.cfdp_tlv.specs.Grammar.{SpellsRequest, request_at, request_octets};
@@ -237,7 +238,8 @@ pub fn read_request(alloc: Global, value: &[u8]) -> Result<FilestoreRequest, Tlv
 /// The faults are `TooLong`, where the value has more than 255 octets, and `Memory`.
 /// Cost: the octets that it appends, and one growth of the vector at most.
 pub fn write_request(request: &FilestoreRequest, out: &mut Vec<u8>) -> Result<(), TlvFault>
-    ensures ok { OnOk result (out.new.items ≡ out.old.items ++ tlv 0 (request_octets request.now)) }
+    ensures ok { OnOk result (out.new.items ≡ out.old.items
+        ++ tlv filestore_request_type (request_octets request.now)) }
     ensures too_long { IsErrOf result TooLong ↔ (255 < length (request_octets request.now)) }
     ensures faults { IfErr result (λ fault. (fault ≡ TooLong) ⊎ (fault ≡ Memory)) }
     ensures err { OnErr result (out.new.items ≡ out.old.items) }

@@ -4,6 +4,7 @@ ghost use Rattle.std.specs.Prelude.{◌≡◌, ◌≤◌, ◌<◌, ◌+◌, ◌�
 ghost use Rattle.std.specs.Vec.{vec_capacity};
 ghost use Rattle.cfdp_tlv.specs.Reading.{Gives};
 ghost use Rattle.cfdp_tlv.specs.Field.{tlv};
+ghost use Rattle.cfdp_tlv.specs.Types.{filestore_response_type};
 ghost use Rattle.cfdp_status.specs.Codes.{has_second, action_of};
 ghost use Rattle.cfdp_tlv.specs.Values.{ResponseFields, IsResponse};
 ghost use Rattle.cfdp_tlv.specs.code.Values.{second_of};
@@ -284,7 +285,8 @@ pub fn read_response(alloc: Global, value: &[u8]) -> Result<FilestoreResponse, T
 /// The faults are `TooLong`, where the value has more than 255 octets, and `Memory`.
 /// Cost: the octets that it appends, and one growth of the vector at most.
 pub fn write_response(response: &FilestoreResponse, out: &mut Vec<u8>) -> Result<(), TlvFault>
-    ensures ok { OnOk result (out.new.items ≡ out.old.items ++ tlv 1 (response_octets response.now)) }
+    ensures ok { OnOk result (out.new.items ≡ out.old.items
+        ++ tlv filestore_response_type (response_octets response.now)) }
     ensures too_long { IsErrOf result TooLong ↔ (255 < length (response_octets response.now)) }
     ensures faults { IfErr result (λ fault. (fault ≡ TooLong) ⊎ (fault ≡ Memory)) }
     ensures err { OnErr result (out.new.items ≡ out.old.items) }

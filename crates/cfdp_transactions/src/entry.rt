@@ -11,7 +11,7 @@ ghost use Rattle.cfdp_transactions.specs.code.TableEntries.{fresh_entry, entry_e
 
 use crate::Phase;
 use crate::event::transaction_of;
-use crate::item::Item;
+use crate::item::{Item, ItemDone};
 use crate::ranges::{MOST_GAPS, Range, Ranges};
 use arrayvec::ArrayVec;
 use cfdp_actions::Request;
@@ -303,29 +303,22 @@ impl Entry {
         }
     }
 
-    /// Its item `next` went well, and took this many ticks: the free blocks were `before` and are `after`.
-    pub(crate) fn advance(
-        &mut self,
-        next: u8,
-        last: bool,
-        install: bool,
-        before: u32,
-        after: u32,
-        ticks: u32,
-    )
-        requires next { next < 255 }
-        requires performed { install ≡ false → self.old.performed < 255 }
-        requires steps { self.old.steps_spent + (1 + ticks) ≤ self.old.steps_granted }
+    /// Its next item went well.
+    pub(crate) fn advance(&mut self, done: ItemDone)
+        requires next { done.next < 255 }
+        requires performed { done.install ≡ false → self.old.performed < 255 }
+        requires steps { self.old.steps_spent + (1 + done.ticks) ≤ self.old.steps_granted }
         requires least { negsuc 65535 ≤ℤ self.old.blocks_spent }
         requires most { self.old.blocks_spent ≤ℤ pos 65536 }
-        ensures { self.new ≡ entry_stepped self.old next last install before after ticks }
+        ensures { self.new ≡ entry_stepped self.old done.next done.last done.install done.before done.after
+            done.ticks }
     {
-        self.phase = phase_behind(next, last);
-        self.installed |= install;
+        self.phase = phase_behind(done.next, done.last);
+        self.installed |= done.install;
         self.ranges = Ranges::new();
-        self.performed = performed_with(self.performed, install);
-        self.blocks_spent = self.blocks_spent + i64::from(before) - i64::from(after);
-        self.steps.spend(ticks + 1);
+        self.performed = performed_with(self.performed, done.install);
+        self.blocks_spent = self.blocks_spent + i64::from(done.before) - i64::from(done.after);
+        self.steps.spend(done.ticks + 1);
     }
 
     /// Its octets from `start` to `end` were staged, for which `taken` blocks were taken.

@@ -15,12 +15,9 @@ ghost use Rattle.cfdp_transactions.specs.Writable.{IsWritable, finished_octets};
 use crate::outcome::Outcome;
 use crate::taken_outcome::status_of;
 use cfdp_pdus::directive::FINISHED;
-use cfdp_pdus::{header_len, put_header, put_number, put_octets};
+use cfdp_pdus::{fault_len, header_len, put_header, put_number, put_octets};
 use cfdp_status::Status;
-use cfdp_tlv::{FILESTORE_RESPONSE, FilestoreRequest};
-
-/// The type of an entity ID TLV, which has the fault location (§5.4.6).
-const ENTITY_ID: u8 = 6;
+use cfdp_tlv::{ENTITY_ID, FILESTORE_RESPONSE, FilestoreRequest};
 
 /// How many octets a Finished PDU has at most: a header of 28, 2 before the responses, 64 responses of 257, and a fault
 /// location of 10.
@@ -121,17 +118,6 @@ fn put_fault(out: &mut [u8], at: usize, fault: Option<u64>, id_len: u8) -> usize
             put_number(out, at + 2, entity, len);
             at + 2 + len
         }
-    }
-}
-
-/// How many octets a fault location has, where there is one.
-fn fault_len(fault: Option<u64>, id_len: u8) -> usize
-    ensures value { result ≡ length (fault_location id_len fault) }
-    ensures bound { result ≤ id_len + 2 }
-{
-    match fault {
-        None => 0,
-        Some(_) => usize::from(id_len) + 2,
     }
 }
 

@@ -28,6 +28,23 @@ impl<'a> Item<'a> {
     }
 }
 
+/// An item that went well.
+#[derive(Clone, Copy)]
+pub(crate) struct ItemDone {
+    /// Its number, from 0.
+    pub(crate) next: u8,
+    /// Whether no item is after it.
+    pub(crate) last: bool,
+    /// Whether it is the install.
+    pub(crate) install: bool,
+    /// How many blocks were free before it.
+    pub(crate) before: u32,
+    /// How many blocks were free after it.
+    pub(crate) after: u32,
+    /// How many ticks it took.
+    pub(crate) ticks: u32,
+}
+
 /// Performs an item of the transaction that stages in the slot, one that succeeds: the reply, and the ticks that it
 /// took. What is protected was looked at when the transaction was admitted, and is here for the contract alone.
 ///

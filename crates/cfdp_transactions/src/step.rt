@@ -9,7 +9,7 @@ ghost use Rattle.cfdp_transactions.specs.Books.{IsAnswered};
 ghost use Rattle.cfdp_transactions.specs.code.Books.{AnswersAt, IsBooked, IsSteady, Settles, world_of};
 
 use crate::books::Books;
-use crate::item::act;
+use crate::item::{ItemDone, act};
 use crate::{Phase, Reply};
 use cfdp_actions::Filestore;
 use cfdp_quota::Quota;
@@ -59,9 +59,15 @@ pub(crate) fn step<S: Filestore>(store: &mut S, books: &mut Books, place: usize)
     };
     let after = store.free();
     settle_quota(&mut books.quota, slot, before, after);
-    books
-        .table
-        .advance(place, next, last, install, before, after, ticks);
+    let done = ItemDone {
+        next,
+        last,
+        install,
+        before,
+        after,
+        ticks,
+    };
+    books.table.advance(place, done);
     if last {
         books.quota.close(slot);
         books.leases.release(transaction);

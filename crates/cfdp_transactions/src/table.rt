@@ -7,6 +7,7 @@ ghost use Rattle.cfdp_transactions.specs.code.TableChanges.{Becomes, CanAdvance,
 
 use crate::Phase;
 use crate::entry::Entry;
+use crate::item::ItemDone;
 use cfdp_paths::Memory;
 use cfdp_pdus::Eof;
 use cfdp_status::TransactionId;
@@ -158,25 +159,14 @@ impl Table {
     }
 
     /// The next item of the transaction at an index went well, as [`Entry::advance`] says.
-    pub(crate) fn advance(
-        &mut self,
-        place: usize,
-        next: u8,
-        last: bool,
-        install: bool,
-        before: u32,
-        after: u32,
-        ticks: u32,
-    )
+    pub(crate) fn advance(&mut self, place: usize, done: ItemDone)
         requires within { place < length self.old }
-        requires next { next < 255 }
-        requires fits { IfSome (slice_get self.old place) (λ r. CanAdvance r install ticks) }
-        ensures { Becomes self.old self.new place (λ r. entry_stepped r next last install before after ticks) }
+        requires next { done.next < 255 }
+        requires fits { IfSome (slice_get self.old place) (λ r. CanAdvance r done.install done.ticks) }
+        ensures { Becomes self.old self.new place (λ r. entry_stepped r done.next done.last done.install done.before
+            done.after done.ticks) }
     {
-        self.entries
-            .get_index_mut(place)
-            .unwrap()
-            .advance(next, last, install, before, after, ticks);
+        self.entries.get_index_mut(place).unwrap().advance(done);
     }
 
     /// Octets of the transaction at an index were staged, as [`Entry::store`] says.

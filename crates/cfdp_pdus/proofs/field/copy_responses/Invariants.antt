@@ -4,12 +4,9 @@ use Rattle.cfdp_pdus.specs.First.{fields_at}
 use Rattle.cfdp_pdus.proofs.CountSteps.{joined}
 use Rattle.cfdp_pdus.proofs.field.copy_responses.Given as goal
 
-abbrev pub invariant-fields : goal.invariant-fields
-invariant-fields l = record {
-  copied : joined l.responses.items (responses_in_fields (fields_at l.rest)) ≡ responses_in_fields (fields_at l.octets);
+abbrev pub invariant-loop-read : goal.invariant-loop-read
+invariant-loop-read l = record {
+  copied : joined l.responses.items (responses_in_fields l.read-iterator) ≡ responses_in_fields (fields_at l.octets);
   len : vec_len l.responses ≡ length l.responses.items;
   room : l.count ≤ vec_capacity l.responses;
 }
-
-abbrev pub decreases-fields : goal.decreases-fields
-decreases-fields l = length l.rest

@@ -1,50 +1,62 @@
-use Rattle.std.proofs.Common.{sym, ap, ◌∙◌, arith}
+use Rattle.std.proofs.Common.{◌∷◌, sym, ap, ◌∙◌, arith}
 use Rattle.std.proofs.lemmas.Bool.{ne_eqb}
 use Rattle.std.proofs.lemmas.Result.{err_from_is_err_and}
 use Rattle.cfdp_pdus.specs.code.Counting.{count_read}
+use Rattle.cfdp_pdus.specs.code.Fields.{whole}
 use Rattle.cfdp_pdus.specs.First.{fields_at, requests_of}
-use Rattle.cfdp_pdus.proofs.Splits.{not_nil, nil_is, shorter}
-use Rattle.cfdp_pdus.proofs.CountSteps.{counted, count_none, count_next}
+use Rattle.cfdp_pdus.proofs.Splits.{fields_len, fewer}
+use Rattle.cfdp_pdus.proofs.CountSteps.{counted, count_first, count_none, count_next}
 use Rattle.cfdp_pdus.proofs.RequestLoop.{asks, passes, refused, cut, none_left}
 use Rattle.cfdp_pdus.proofs.field.count_requests.Goals as goal
-use Rattle.cfdp_pdus.proofs.field.count_requests.Goals.{then-field-eq-FILESTORE_REQUEST+in_ok-read_request_parts, else-field-eq-FILESTORE_REQUEST}
+
+pub loop-read-init : goal.loop-read-init
+loop-read-init c =
+    let all = c.into_iter-read-iterator.ensures.into_iter_gives ∙ c.among-read-items.ensures in
+    record { found = rw all (count_first _); small = rw all (omega (arith, fields_len c.args.octets.now)) }
 
 pub returns-in_default : goal.returns-in_default
 returns-in_default c =
-    let here = cut c.fields.rest.now c.in_default.field-0 (not_nil c.fields.rest.now c.fields-test.ensures) c.in_default.ensures.exact in
-    sym (ap (counted c.fields.count) here) ∙ c.fields.invariant.found
+    let left = c.loop-read.read-iterator in
+    let read = c.in-Some.ensures.steps ∙ ap (λ r. whole r ∷ c.next.new.self) c.in_default.is in
+    sym (ap (counted c.loop-read.count) (cut left c.next.new.self read)) ∙ c.loop-read.invariant.found
 
 pub returns-in_err-read_request_parts : goal.returns-in_err-read_request_parts
 returns-in_err-read_request_parts c =
     let p = err_from_is_err_and c.from_residual.result c.from_residual.ensures.1 in
-    let here = refused c.fields.rest.now c.in-Ok.field.kind c.in-Ok.field.value.now c.in-Ok.field.rest.now c.in_err-read_request_parts.field-0.0
-    c.in-Ok.ensures.exact c.if-field-eq-FILESTORE_REQUEST.true (sym c.in_err-read_request_parts.ensures) in
-    rw (p.1, p.2) (sym (ap (counted c.fields.count) here) ∙ c.fields.invariant.found)
-
-pub fields-preserved : goal.fields-preserved
-fields-preserved c =
-    let rest = c.fields.rest.now in
+    let left = c.loop-read.read-iterator in
     let field = c.in-Ok.field in
-    let less = shorter rest (field.kind, field.value.now, field.rest.now) c.in-Ok.ensures.exact in
-    elim c.if-field-eq-FILESTORE_REQUEST.branch [
-      | then-field-eq-FILESTORE_REQUEST+in_ok-read_request_parts w ↦
-          let request = w.in_ok-read_request_parts.field-0 in
-          let here = asks rest field.kind field.value.now field.rest.now request c.in-Ok.ensures.exact w.if-field-eq-FILESTORE_REQUEST.true
-          (sym w.in_ok-read_request_parts.ensures) in
-          record {
-            found = rw w.count-is (count_next c.fields.count request (requests_of (fields_at rest)) (requests_of (fields_at field.rest.now))
-                (count_read (requests_of (fields_at c.args.octets.now))) here c.fields.invariant.found);
-            small = omega (arith, less, w.count-is, c.fields.invariant.small);
-          }
-      | else-field-eq-FILESTORE_REQUEST w ↦
-          let here = passes rest field.kind field.value.now field.rest.now c.in-Ok.ensures.exact (ne_eqb field.kind 0 w.if-field-eq-FILESTORE_REQUEST.false) in
-          record {
-            found = rw w.count-is (sym (ap (counted c.fields.count) here) ∙ c.fields.invariant.found);
-            small = omega (arith, less, w.count-is, c.fields.invariant.small);
-          }
-    ]
+    let read = c.in-Some.ensures.steps ∙ ap (λ r. whole r ∷ c.next.new.self) c.in-Ok.is in
+    let here = refused left c.next.new.self field.kind field.value.now c.in_err-read_request_parts.field-0.0 read
+    c.if-field-eq-FILESTORE_REQUEST.true (sym c.in_err-read_request_parts.ensures) in
+    rw (p.1, p.2) (sym (ap (counted c.loop-read.count) here) ∙ c.loop-read.invariant.found)
+
+pub loop-read-preserved-then-field-eq-FILESTORE_REQUEST : goal.loop-read-preserved-then-field-eq-FILESTORE_REQUEST
+loop-read-preserved-then-field-eq-FILESTORE_REQUEST c =
+    let left = c.loop-read.read-iterator in
+    let field = c.in-Ok.field in
+    let read = c.in-Some.ensures.steps ∙ ap (λ r. whole r ∷ c.next.new.self) c.in-Ok.is in
+    let request = c.in_ok-read_request_parts.field-0 in
+    let here = asks left c.next.new.self field.kind field.value.now request read c.if-field-eq-FILESTORE_REQUEST.true
+    (sym c.in_ok-read_request_parts.ensures) in
+    record {
+      found = count_next c.loop-read.count request (requests_of left) (requests_of c.next.new.self)
+          (count_read (requests_of (fields_at c.args.octets.now))) here c.loop-read.invariant.found;
+      small = omega (arith, fewer left c.next.new.self _ read, c.loop-read.invariant.small);
+    }
+
+pub loop-read-preserved : goal.loop-read-preserved
+loop-read-preserved c =
+    let left = c.loop-read.read-iterator in
+    let field = c.in-Ok.field in
+    let read = c.in-Some.ensures.steps ∙ ap (λ r. whole r ∷ c.next.new.self) c.in-Ok.is in
+    let here = passes left c.next.new.self field.kind field.value.now read (ne_eqb field.kind 0 c.if-field-eq-FILESTORE_REQUEST.false) in
+    record {
+      found = sym (ap (counted c.loop-read.count) here) ∙ c.loop-read.invariant.found;
+      small = omega (arith, fewer left c.next.new.self _ read, c.loop-read.invariant.small);
+    }
 
 pub returns : goal.returns
 returns c =
-    let here = none_left c.fields.rest.now (nil_is c.fields.rest.now c.fields-test.ensures) in
-    sym (count_none c.fields.count (requests_of (fields_at c.fields.rest.now)) here) ∙ c.fields.invariant.found
+    let left = c.loop-read.read-iterator in
+    let here = none_left left c.in-None.ensures.steps.0 in
+    sym (count_none c.loop-read.count (requests_of left) here) ∙ c.loop-read.invariant.found

@@ -4,11 +4,8 @@ use Rattle.cfdp_pdus.specs.First.{fields_at, requests_of}
 use Rattle.cfdp_pdus.proofs.CountSteps.{counted}
 use Rattle.cfdp_pdus.proofs.field.count_requests.Given as goal
 
-abbrev pub invariant-fields : goal.invariant-fields
-invariant-fields l = record {
-  found : counted l.count (requests_of (fields_at l.rest)) ≡ count_read (requests_of (fields_at l.octets));
-  small : l.count + length l.rest ≤ length l.octets;
+abbrev pub invariant-loop-read : goal.invariant-loop-read
+invariant-loop-read l = record {
+  found : counted l.count (requests_of l.read-iterator) ≡ count_read (requests_of (fields_at l.octets));
+  small : l.count + length l.read-iterator ≤ length l.octets;
 }
-
-abbrev pub decreases-fields : goal.decreases-fields
-decreases-fields l = length l.rest

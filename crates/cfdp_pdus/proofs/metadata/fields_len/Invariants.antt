@@ -1,7 +1,0 @@
-use Rattle.std.proofs.Common.{◌≡◌, length, take, min}
-use Rattle.std.specs.List.{flat_map}
-use Rattle.cfdp_pdus.specs.Canonical.{request_field}
-use Rattle.cfdp_pdus.proofs.metadata.fields_len.Given as goal
-
-abbrev pub invariant-loop-request : goal.invariant-loop-request
-invariant-loop-request l = l.len ≡ min (length (flat_map request_field (take l.request-index l.requests))) 18446744073709551615
