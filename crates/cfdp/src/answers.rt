@@ -16,7 +16,7 @@ pub struct Told<'a> {
 
 /// What became of an input.
 #[derive(Clone, Copy)]
-pub struct Became<'a> {
+pub struct InputResult<'a> {
     /// The transaction. `None`: octets that are no PDU, or a PDU that is not ours.
     pub id: Option<TransactionId>,
     /// The words after it.
@@ -25,11 +25,11 @@ pub struct Became<'a> {
 
 /// What a line says.
 #[derive(Clone, Copy)]
-pub enum Answer<'a> {
+pub enum AnswerLine<'a> {
     /// A PDU was sent: its octets in hexadecimal.
     Sent(&'a [u8]),
     Told(Told<'a>),
-    Became(Became<'a>),
+    Became(InputResult<'a>),
     /// It is none of these lines.
     Other,
 }
@@ -55,45 +55,45 @@ fn read_told(line: &[u8]) -> Option<Told<'_>> {
 }
 
 /// What a line says of what became of an input.
-fn read_became(line: &[u8]) -> Option<Became<'_>> {
+fn read_became(line: &[u8]) -> Option<InputResult<'_>> {
     let mut rest = line;
     let name = next_word(&mut rest)?;
     let words = skip_spaces(rest);
     if name == b"pdu".as_slice() {
-        return Some(Became { id: None, words });
+        return Some(InputResult { id: None, words });
     }
     let id = id_of(name)?;
-    Some(Became {
+    Some(InputResult {
         id: Some(id),
         words,
     })
 }
 
 /// What a line says.
-pub fn read_answer(line: &[u8]) -> Answer<'_> {
+pub fn read_answer(line: &[u8]) -> AnswerLine<'_> {
     if let Some(digits) = line.strip_prefix(b"send ") {
-        return Answer::Sent(digits);
+        return AnswerLine::Sent(digits);
     }
     if let Some(rest) = line.strip_prefix(b"tell ") {
         return match read_told(rest) {
-            Some(told) => Answer::Told(told),
-            None => Answer::Other,
+            Some(told) => AnswerLine::Told(told),
+            None => AnswerLine::Other,
         };
     }
     match read_became(line) {
-        Some(became) => Answer::Became(became),
-        None => Answer::Other,
+        Some(became) => AnswerLine::Became(became),
+        None => AnswerLine::Other,
     }
 }
 
 /// What became of the first input whose lines these are.
-pub fn first_became(text: &[u8]) -> Became<'_> {
+pub fn first_became(text: &[u8]) -> InputResult<'_> {
     for line in text.split(|octet| *octet == NEWLINE) {
-        if let Answer::Became(became) = read_answer(line) {
+        if let AnswerLine::Became(became) = read_answer(line) {
             return became;
         }
     }
-    Became {
+    InputResult {
         id: None,
         words: &[],
     }

@@ -1,10 +1,10 @@
 //! `cfdp compose`: the script of a plan.
 
+use crate::elapsed::{Elapsed, ProgressReport};
 use crate::end::End;
+use crate::path_text::push_path;
 use crate::plan::{EntitySection, Plan};
 use crate::show::print;
-use crate::shown::push_path;
-use crate::spent::{Progress, Spent};
 use crate::uploads::{plan_in, read_files, uploads_of};
 use cfdp_plans::{ScriptFault, push_config, push_list, push_protect, write_upload};
 use cfdp_streams::ToWrite;
@@ -17,7 +17,7 @@ use std::time::Instant;
 
 /// The command that a script is written for.
 #[derive(Clone, Copy)]
-pub enum Player {
+pub enum ScriptCommand {
     /// `cfdpsim replay`.
     Replay,
     /// `cfdp run`: PDUs come one second after the other.
@@ -27,13 +27,13 @@ pub enum Player {
 /// Appends the line of a protected path.
 fn push_protected(
     alloc: Global,
-    player: Player,
+    player: ScriptCommand,
     path: &[u8],
     text: &mut Vec<u8>,
 ) -> Result<(), End> {
     match player {
-        Player::Replay => push_protect(path, text)?,
-        Player::Run => {
+        ScriptCommand::Replay => push_protect(path, text)?,
+        ScriptCommand::Run => {
             let mut line = String::from_str(alloc, "protect ")?;
             push_path(alloc, path, &mut line)?;
             line.push('\n')?;
@@ -46,7 +46,7 @@ fn push_protected(
 /// Writes the first lines of a script.
 fn write_head<R: AllocGlobal + Print>(
     rt: &R,
-    player: Player,
+    player: ScriptCommand,
     entity: &EntitySection,
 ) -> Result<(), End> {
     let mut text = Vec::new(rt.alloc());
@@ -115,19 +115,19 @@ fn write_timed<R: AllocGlobal + Print>(rt: &R, upload: &Upload<'_>, now: u64) ->
 /// Writes the uploads of the plan with a name. Where that takes long, it says on standard error how far it is.
 fn write_uploads<R: AllocGlobal + Clock + Eprint + Print>(
     rt: &R,
-    player: Player,
+    player: ScriptCommand,
     name: &str,
     uploads: &[Upload<'_>],
 ) -> Result<(), End> {
     let mut now = 0;
-    let mut spent = Spent::new();
+    let mut spent = Elapsed::new();
     for (index, upload) in uploads.iter().enumerate() {
         let begun = Instant::now(rt);
         match player {
-            Player::Replay => write_untimed(rt, upload)?,
-            Player::Run => now = write_timed(rt, upload, now)?,
+            ScriptCommand::Replay => write_untimed(rt, upload)?,
+            ScriptCommand::Run => now = write_timed(rt, upload, now)?,
         }
-        let progress = Progress {
+        let progress = ProgressReport {
             done: index.saturating_add(1),
             count: uploads.len(),
             what: "transactions written",
@@ -140,7 +140,7 @@ fn write_uploads<R: AllocGlobal + Clock + Eprint + Print>(
 /// Writes the script of the plan with a name.
 fn write<R: AllocGlobal + Clock + Eprint + Print>(
     rt: &R,
-    player: Player,
+    player: ScriptCommand,
     name: &str,
     entity: &EntitySection,
     uploads: &[Upload<'_>],
@@ -156,7 +156,7 @@ fn write<R: AllocGlobal + Clock + Eprint + Print>(
 /// or a file of it cannot be read.
 pub fn run<R: AllocGlobal + Clock + Eprint + Files + Input + Print>(
     rt: &R,
-    player: Player,
+    player: ScriptCommand,
     path: &str,
 ) -> Result<(), End> {
     let alloc = rt.alloc();

@@ -67,7 +67,7 @@ fn draw(random: &mut Pcg32, odds: Odds, line: &[u8]) -> Draw {
 
 /// A script that is read.
 #[derive(Drop)]
-struct Script<'a> {
+struct DisturbScript<'a> {
     /// Its name in messages.
     name: &'a str,
     odds: Odds,
@@ -80,10 +80,10 @@ struct Script<'a> {
     text: Vec<u8>,
 }
 
-impl<'a> Script<'a> {
+impl<'a> DisturbScript<'a> {
     /// Before the first line.
-    fn new(alloc: Global, name: &'a str, odds: Odds, seed: u64) -> Script<'a> {
-        Script {
+    fn new(alloc: Global, name: &'a str, odds: Odds, seed: u64) -> DisturbScript<'a> {
+        DisturbScript {
             name,
             odds,
             random: Pcg32::new(seed, STREAM),
@@ -142,7 +142,7 @@ impl<'a> Script<'a> {
 fn take_all<R: AllocGlobal + Print, I: Read + Drop>(
     rt: &R,
     input: I,
-    script: &mut Script<'_>,
+    script: &mut DisturbScript<'_>,
 ) -> Result<(), End> {
     let alloc = rt.alloc();
     let mut input = input;
@@ -173,7 +173,7 @@ fn disturb<R: AllocGlobal + Print, I: Read + Drop>(
     odds: Odds,
     seed: u64,
 ) -> Result<(), End> {
-    let mut script = Script::new(rt.alloc(), name, odds, seed);
+    let mut script = DisturbScript::new(rt.alloc(), name, odds, seed);
     match take_all(rt, input, &mut script) {
         Ok(()) => script.finish(rt),
         Err(end) => {

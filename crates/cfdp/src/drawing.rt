@@ -1,26 +1,28 @@
 //! A picture of a script, collected a line at a time.
 
-use crate::answers::{Answer, Became, Told, first_became, first_word, is_among, read_answer};
+use crate::answers::{
+    AnswerLine, InputResult, Told, first_became, first_word, is_among, read_answer,
+};
 use crate::drawn_pdu::{DrawnPdu, NamedFile, look_at as look_at_pdu};
 use crate::drawn_state::{blocks_of, look_at as look_at_state};
-use crate::fitting::{Room, fitted};
+use crate::fitting::{TextWidth, fitted};
 use crate::notes::{is_bad_end, is_noted, push_became, push_cause, push_told};
-use cfdp_draw::{Blocks, Chart, Full, Kind, MOST_MOMENTS, Way};
+use cfdp_draw::{Blocks, Chart, Direction, Full, MOST_MOMENTS, MarkKind};
 use cfdp_lines::{NEWLINE, decode_words};
 use cfdp_receiver::Receiver;
-use cfdp_run::{Command, CommandFault, Progress, default_mib, read_command};
-use cfdp_run_script::Script;
+use cfdp_run::{CommandFault, HeadProgress, RunCommand, default_mib, read_command};
+use cfdp_run_script::RunScript;
 use cfdp_status::TransactionId;
 use std::alloc::{AllocError, Global};
 
 /// The room for the title of a picture, which is bold.
-const TITLE: Room = Room {
+const TITLE: TextWidth = TextWidth {
     width: 1_160,
     font: 18,
 };
 
 /// The room for the name of a file at the left of its lane.
-const FILE: Room = Room {
+const FILE: TextWidth = TextWidth {
     width: 136,
     font: 11,
 };
@@ -29,7 +31,7 @@ const FILE: Room = Room {
 const NOTE: u64 = 1_150;
 
 /// The room for why a run ended early, which is bold.
-const ENDING: Room = Room {
+const ENDING: TextWidth = TextWidth {
     width: 1_030,
     font: 13,
 };
@@ -84,16 +86,16 @@ pub struct Drawing {
 
 /// What a line hands to the receiving entity, if it is such a line.
 fn input_of(alloc: Global, line: &[u8]) -> Result<Option<Timed>, Full> {
-    match read_command(alloc, line, default_mib(), Progress::Playing) {
-        Ok(Some(Command::Receive { now, octets })) => Ok(Some(Timed {
+    match read_command(alloc, line, default_mib(), HeadProgress::Playing) {
+        Ok(Some(RunCommand::Receive { now, octets })) => Ok(Some(Timed {
             now,
             input: Input::Came(octets),
         })),
-        Ok(Some(Command::Cancel { now, id })) => Ok(Some(Timed {
+        Ok(Some(RunCommand::Cancel { now, id })) => Ok(Some(Timed {
             now,
             input: Input::Cancel(id),
         })),
-        Ok(Some(Command::Pass { now })) => Ok(Some(Timed {
+        Ok(Some(RunCommand::Pass { now })) => Ok(Some(Timed {
             now,
             input: Input::Passed,
         })),
@@ -103,30 +105,30 @@ fn input_of(alloc: Global, line: &[u8]) -> Result<Option<Timed>, Full> {
 }
 
 /// Whether a PDU was dropped.
-fn is_dropped(became: Became<'_>) -> bool {
+fn is_dropped(became: InputResult<'_>) -> bool {
     became.id.is_none() || is_among(first_word(became.words), &DROPPED)
 }
 
 /// The kind of a mark of octets that came, which are a PDU of this kind if they are one.
-fn kind_of(kind: Kind, became: Became<'_>) -> Kind {
+fn kind_of(kind: MarkKind, became: InputResult<'_>) -> MarkKind {
     if became.id.is_none() && first_word(became.words) == b"dropped".as_slice() {
-        Kind::NoPdu
+        MarkKind::NoPdu
     } else {
         kind
     }
 }
 
 /// Which way a PDU went that came.
-fn way_of(became: Became<'_>) -> Way {
+fn way_of(became: InputResult<'_>) -> Direction {
     if is_dropped(became) {
-        Way::Dropped
+        Direction::Dropped
     } else {
-        Way::Came
+        Direction::Came
     }
 }
 
 /// Whether the file of a Metadata PDU is that of its transaction from now on.
-fn is_named(became: Became<'_>) -> bool {
+fn is_named(became: InputResult<'_>) -> bool {
     is_among(first_word(became.words), &NAMED)
 }
 
@@ -139,13 +141,13 @@ fn digits_of(number: u64) -> u64 {
 }
 
 /// The room for the words of a note, after its time and its transaction.
-fn room_for_note(time: u64, id: Option<TransactionId>) -> Room {
+fn room_for_note(time: u64, id: Option<TransactionId>) -> TextWidth {
     let digits = match id {
         Some(id) => digits_of(id.source).saturating_add(digits_of(id.number)),
         None => 0,
     };
     let before = digits.saturating_add(digits_of(time)).saturating_add(8);
-    Room {
+    TextWidth {
         width: NOTE.saturating_sub(before.saturating_mul(7)),
         font: 11,
     }
@@ -153,7 +155,7 @@ fn room_for_note(time: u64, id: Option<TransactionId>) -> Room {
 
 impl Drawing {
     /// Before the first line of a script with a title.
-    pub fn new(alloc: Global, title: &str, script: &Script) -> Result<Drawing, AllocError> {
+    pub fn new(alloc: Global, title: &str, script: &RunScript) -> Result<Drawing, AllocError> {
         let title = fitted(alloc, title.as_bytes(), TITLE)?;
         let none = Blocks {
             used: 0,
@@ -171,7 +173,7 @@ impl Drawing {
     }
 
     /// The filestore is as it is now before the first input.
-    fn begin(&mut self, script: &Script) {
+    fn begin(&mut self, script: &RunScript) {
         let entity = script.entity();
         self.chart.size = entity.core().config().blocks();
         self.chart.first = blocks_of(entity);
@@ -187,7 +189,7 @@ impl Drawing {
         alloc: Global,
         line: &[u8],
         text: &[u8],
-        script: &Script,
+        script: &RunScript,
     ) -> Result<(), Full> {
         let Some(receiver) = script.receiver() else {
             self.begin(script);
@@ -240,7 +242,12 @@ impl Drawing {
     }
 
     /// A PDU came, or octets that are none.
-    fn came(&mut self, alloc: Global, octets: Vec<u8>, became: Became<'_>) -> Result<(), Full> {
+    fn came(
+        &mut self,
+        alloc: Global,
+        octets: Vec<u8>,
+        became: InputResult<'_>,
+    ) -> Result<(), Full> {
         let mut octets = octets;
         let DrawnPdu {
             id: _,
@@ -261,7 +268,7 @@ impl Drawing {
     fn name_file(
         &mut self,
         alloc: Global,
-        became: Became<'_>,
+        became: InputResult<'_>,
         file: NamedFile,
     ) -> Result<(), Full> {
         push_cause(alloc, became.words, &file.requests, &mut self.cause)?;
@@ -273,22 +280,22 @@ impl Drawing {
     fn cancel(&mut self, alloc: Global, id: TransactionId) -> Result<(), Full> {
         let words = Vec::from_slice(alloc, b"the user cancels the transaction")?;
         self.chart
-            .mark(alloc, Some(id), Kind::Cancel, Way::Came, words)?;
+            .mark(alloc, Some(id), MarkKind::Cancel, Direction::Came, words)?;
         Ok(())
     }
 
     /// Collects a line that an input wrote. Whether timers are served by it.
-    fn answer(&mut self, alloc: Global, serves: bool, answer: Answer<'_>) -> Result<(), Full> {
+    fn answer(&mut self, alloc: Global, serves: bool, answer: AnswerLine<'_>) -> Result<(), Full> {
         match answer {
-            Answer::Sent(digits) => self.sent(alloc, digits),
-            Answer::Told(told) => self.told(alloc, told),
-            Answer::Became(became) => {
+            AnswerLine::Sent(digits) => self.sent(alloc, digits),
+            AnswerLine::Told(told) => self.told(alloc, told),
+            AnswerLine::Became(became) => {
                 if serves {
                     self.timer(alloc, became)?;
                 }
                 self.became(alloc, became)
             }
-            Answer::Other => Ok(()),
+            AnswerLine::Other => Ok(()),
         }
     }
 
@@ -300,19 +307,19 @@ impl Drawing {
         }
         let pdu = look_at_pdu(alloc, &mut octets)?;
         self.chart
-            .mark(alloc, pdu.id, pdu.kind, Way::Sent, pdu.words)?;
+            .mark(alloc, pdu.id, pdu.kind, Direction::Sent, pdu.words)?;
         Ok(())
     }
 
     /// A timer was served, if the words say so.
-    fn timer(&mut self, alloc: Global, became: Became<'_>) -> Result<(), Full> {
+    fn timer(&mut self, alloc: Global, became: InputResult<'_>) -> Result<(), Full> {
         if !is_among(became.words, &SERVED) {
             return Ok(());
         }
         let mut words = Vec::from_slice(alloc, b"a timer: ")?;
         words.extend_from_slice(became.words)?;
         self.chart
-            .mark(alloc, became.id, Kind::Timer, Way::Came, words)?;
+            .mark(alloc, became.id, MarkKind::Timer, Direction::Came, words)?;
         Ok(())
     }
 
@@ -362,7 +369,7 @@ impl Drawing {
 
     /// What became of an input is noted, where it is refused, faulted or dropped: once where PDUs of a transaction are
     /// dropped for one reason, one after the other.
-    fn became(&mut self, alloc: Global, became: Became<'_>) -> Result<(), Full> {
+    fn became(&mut self, alloc: Global, became: InputResult<'_>) -> Result<(), Full> {
         if !is_noted(became.words) {
             return Ok(());
         }

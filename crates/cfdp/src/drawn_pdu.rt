@@ -2,7 +2,7 @@
 
 use crate::watch::push_fields;
 use cfdp_crc::unseal;
-use cfdp_draw::Kind;
+use cfdp_draw::MarkKind;
 use cfdp_pdus::{Metadata, Pdu, Start, read_pdu, read_start};
 use cfdp_status::TransactionId;
 use cfdp_tlv::FilestoreRequest;
@@ -23,7 +23,7 @@ pub struct NamedFile {
 pub struct DrawnPdu {
     /// Its transaction. `None`: the octets are no PDU.
     pub id: Option<TransactionId>,
-    pub kind: Kind,
+    pub kind: MarkKind,
     /// What it says.
     pub words: Vec<u8>,
     /// The file, of a Metadata PDU.
@@ -31,13 +31,13 @@ pub struct DrawnPdu {
 }
 
 /// The kind of a PDU.
-fn kind_of(start: &Start<'_>) -> Kind {
+fn kind_of(start: &Start<'_>) -> MarkKind {
     if start.file_data {
-        return Kind::FileData;
+        return MarkKind::FileData;
     }
     match start.field.first() {
-        Some(code) => Kind::of_directive(*code),
-        None => Kind::NoPdu,
+        Some(code) => MarkKind::of_directive(*code),
+        None => MarkKind::NoPdu,
     }
 }
 
@@ -85,7 +85,7 @@ fn look_at_plain(alloc: Global, octets: &[u8], words: Vec<u8>) -> Result<DrawnPd
         number: start.header.number,
     };
     let file = match kind {
-        Kind::Metadata => file_of(alloc, octets)?,
+        MarkKind::Metadata => file_of(alloc, octets)?,
         _ => None,
     };
     Ok(DrawnPdu {
@@ -100,7 +100,7 @@ fn look_at_plain(alloc: Global, octets: &[u8], words: Vec<u8>) -> Result<DrawnPd
 fn no_pdu(words: Vec<u8>) -> DrawnPdu {
     DrawnPdu {
         id: None,
-        kind: Kind::NoPdu,
+        kind: MarkKind::NoPdu,
         words,
         file: None,
     }

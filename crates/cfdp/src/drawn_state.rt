@@ -2,7 +2,7 @@
 
 use cfdp_actions::Filestore;
 use cfdp_directives::TransactionStatus;
-use cfdp_draw::{Blocks, Phase, Received, Seen};
+use cfdp_draw::{Blocks, DrawnPhase, Received, Seen};
 use cfdp_entity::Entity;
 use cfdp_receiver::Receiver;
 use cfdp_sessions::Stage;
@@ -21,10 +21,10 @@ pub fn blocks_of(entity: &Entity) -> Blocks {
 }
 
 /// How far a transaction of the core is. After a line it is neither performing items nor over.
-fn core_phase(phase: CorePhase) -> Option<Phase> {
+fn core_phase(phase: CorePhase) -> Option<DrawnPhase> {
     match phase {
-        CorePhase::Receiving => Some(Phase::Receiving),
-        CorePhase::Awaiting(_) => Some(Phase::Awaiting),
+        CorePhase::Receiving => Some(DrawnPhase::Receiving),
+        CorePhase::Awaiting(_) => Some(DrawnPhase::Awaiting),
         CorePhase::Executing(_) | CorePhase::Refused | CorePhase::Done | CorePhase::Ended(_) => {
             None
         }
@@ -65,7 +65,7 @@ fn look_at_known(alloc: Global, entity: &Entity, id: TransactionId) -> Result<Se
 }
 
 /// What there is to see of a transaction after its file was delivered, if it was: this many octets.
-fn look_at_end(alloc: Global, phase: Option<Phase>, delivered: Option<u64>) -> Seen {
+fn look_at_end(alloc: Global, phase: Option<DrawnPhase>, delivered: Option<u64>) -> Seen {
     let received = match delivered {
         Some(end) => Some(Received {
             end,
@@ -81,9 +81,9 @@ fn look_at_end(alloc: Global, phase: Option<Phase>, delivered: Option<u64>) -> S
 }
 
 /// How far a transaction without a session is.
-fn phase_without(status: TransactionStatus) -> Option<Phase> {
+fn phase_without(status: TransactionStatus) -> Option<DrawnPhase> {
     match status {
-        TransactionStatus::Terminated => Some(Phase::Closed),
+        TransactionStatus::Terminated => Some(DrawnPhase::Closed),
         _ => None,
     }
 }
@@ -101,12 +101,12 @@ pub fn look_at(
     };
     match session.stage {
         Stage::Held(eof) => Ok(Seen {
-            phase: Some(Phase::Held),
+            phase: Some(DrawnPhase::Held),
             received: None,
             size: eof.size,
         }),
         Stage::Known => look_at_known(alloc, receiver.entity(), id),
         Stage::Over(_) => Ok(look_at_end(alloc, None, delivered)),
-        Stage::Waiting => Ok(look_at_end(alloc, Some(Phase::Waiting), delivered)),
+        Stage::Waiting => Ok(look_at_end(alloc, Some(DrawnPhase::Waiting), delivered)),
     }
 }

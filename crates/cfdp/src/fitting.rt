@@ -20,7 +20,7 @@ const DOTS: &[u8] = b"..";
 
 /// The room for words in a line.
 #[derive(Clone, Copy)]
-pub struct Room {
+pub struct TextWidth {
     /// In pixels.
     pub width: u64,
     /// The size of the font, in pixels.
@@ -49,7 +49,7 @@ fn count_within(words: &[u8], room: u64) -> usize {
 }
 
 /// Words, or as many octets of them as there is room for, with two dots.
-pub fn fitted(alloc: Global, words: &[u8], room: Room) -> Result<Vec<u8>, AllocError> {
+pub fn fitted(alloc: Global, words: &[u8], room: TextWidth) -> Result<Vec<u8>, AllocError> {
     let units = room.width.saturating_mul(1_000) / room.font.max(1);
     if count_within(words, units) == words.len() {
         return Vec::from_slice(alloc, words);

@@ -2,7 +2,7 @@
 
 use crate::end::End;
 use crate::input;
-use crate::shown::push_path;
+use crate::path_text::push_path;
 use cfdp_actions::Filestore;
 use cfdp_entity::Entity;
 use cfdp_paths::{Path, PathFault};
@@ -21,7 +21,7 @@ const MOST_DIRECTORIES: usize = 65_537;
 
 /// Which names of a folder are read. A name that listings print is the name of which they print it.
 #[derive(Clone, Copy)]
-pub enum Names {
+pub enum FolderNames {
     /// All: another name is its own octets.
     Any,
     /// Only those that listings print, so that each name of a filestore is spelled in one way.
@@ -32,39 +32,39 @@ pub enum Names {
 /// the folder itself.
 #[derive(Drop)]
 struct FolderEntry {
-    place: String,
+    host_path: String,
     path: Vec<u8>,
 }
 
 /// How the program ends for something wrong in a folder.
-fn wrong(alloc: Global, place: &str, what: &str) -> End {
-    format!(in alloc; "{place}: {what}").map_or(End::Memory, End::File)
+fn wrong(alloc: Global, host_path: &str, what: &str) -> End {
+    format!(in alloc; "{host_path}: {what}").map_or(End::Memory, End::File)
 }
 
 /// How the program ends where something in a folder cannot be read.
-fn unread(alloc: Global, place: &str, error: &Error) -> End {
+fn unread(alloc: Global, host_path: &str, error: &Error) -> End {
     match error.kind() {
         ErrorKind::OutOfMemory => End::Memory,
-        ErrorKind::InvalidFilename => wrong(alloc, place, "a name in it is no UTF-8"),
-        _ => wrong(alloc, place, "cannot be read"),
+        ErrorKind::InvalidFilename => wrong(alloc, host_path, "a name in it is no UTF-8"),
+        _ => wrong(alloc, host_path, "cannot be read"),
     }
 }
 
 /// The names of what a directory has, in the order of their octets.
 fn names_in<R: AllocGlobal + Clone + Drop + Files>(
     rt: &R,
-    place: &str,
+    host_path: &str,
 ) -> Result<Vec<String>, End> {
     let alloc = rt.alloc();
     let mut names = Vec::new(alloc);
-    let entries = match fs::read_dir(rt, place) {
+    let entries = match fs::read_dir(rt, host_path) {
         Ok(entries) => entries,
-        Err(error) => return Err(unread(alloc, place, &error)),
+        Err(error) => return Err(unread(alloc, host_path, &error)),
     };
     for entry in entries {
         match entry {
             Ok(entry) => names.push(String::from_str(alloc, entry.file_name())?)?,
-            Err(error) => return Err(unread(alloc, place, &error)),
+            Err(error) => return Err(unread(alloc, host_path, &error)),
         }
     }
     names.sort()?;
@@ -91,17 +91,22 @@ fn unprinted(alloc: Global, name: &str) -> Result<Option<Vec<u8>>, AllocError> {
 }
 
 /// How the program ends where the name of something in a folder is not spelled as listings print it.
-fn misspelled(alloc: Global, place: &str, name: &str) -> Result<End, AllocError> {
+fn misspelled(alloc: Global, host_path: &str, name: &str) -> Result<End, AllocError> {
     let expected = printed(alloc, name.as_bytes())?;
     let what = format!(in alloc;
         "its name is not spelled as listings print it: expected {expected}"
     )?;
-    Ok(wrong(alloc, place, what.as_str()))
+    Ok(wrong(alloc, host_path, what.as_str()))
 }
 
 /// The octets of the name of something in a folder. One without any octet that listings escape is spelled as they print
 /// it, also where it is no name of a filestore.
-fn octets_of(alloc: Global, names: Names, place: &str, name: &str) -> Result<Vec<u8>, End> {
+fn octets_of(
+    alloc: Global,
+    names: FolderNames,
+    host_path: &str,
+    name: &str,
+) -> Result<Vec<u8>, End> {
     if printed(alloc, name.as_bytes())?.as_str() == name {
         return Ok(Vec::from_slice(alloc, name.as_bytes())?);
     }
@@ -109,26 +114,26 @@ fn octets_of(alloc: Global, names: Names, place: &str, name: &str) -> Result<Vec
         return Ok(octets);
     }
     match names {
-        Names::Any => Ok(Vec::from_slice(alloc, name.as_bytes())?),
-        Names::Printed => Err(misspelled(alloc, place, name)?),
+        FolderNames::Any => Ok(Vec::from_slice(alloc, name.as_bytes())?),
+        FolderNames::Printed => Err(misspelled(alloc, host_path, name)?),
     }
 }
 
 /// What a directory has by a name.
 fn beside(
     alloc: Global,
-    names: Names,
+    names: FolderNames,
     directory: &FolderEntry,
     name: &str,
 ) -> Result<FolderEntry, End> {
-    let above = directory.place.as_str();
-    let place = format!(in alloc; "{above}/{name}")?;
+    let above = directory.host_path.as_str();
+    let host_path = format!(in alloc; "{above}/{name}")?;
     let mut path = Vec::from_slice(alloc, &directory.path)?;
     if !path.is_empty() {
         path.push(b'/')?;
     }
-    path.extend_from_slice(&octets_of(alloc, names, place.as_str(), name)?)?;
-    Ok(FolderEntry { place, path })
+    path.extend_from_slice(&octets_of(alloc, names, host_path.as_str(), name)?)?;
+    Ok(FolderEntry { host_path, path })
 }
 
 /// The path of the filestore of something in a folder.
@@ -138,7 +143,7 @@ fn path_of(alloc: Global, found: &FolderEntry) -> Result<Path, End> {
         Err(PathFault::Memory) => Err(End::Memory),
         Err(fault) => {
             let what = format!(in alloc; "no path of the filestore: {fault}")?;
-            Err(wrong(alloc, found.place.as_str(), what.as_str()))
+            Err(wrong(alloc, found.host_path.as_str(), what.as_str()))
         }
     }
 }
@@ -157,11 +162,11 @@ fn was_put(
             let what = format!(in alloc;
                 "no room in the filestore: needs {blocks} blocks, and {free} are free"
             )?;
-            Err(wrong(alloc, found.place.as_str(), what.as_str()))
+            Err(wrong(alloc, found.host_path.as_str(), what.as_str()))
         }
         Err(_) => Err(wrong(
             alloc,
-            found.place.as_str(),
+            found.host_path.as_str(),
             "cannot be put into the filestore",
         )),
     }
@@ -181,8 +186,8 @@ fn put_file<R: AllocGlobal + Files + Input>(
     if u64::from(free) < blocks {
         return was_put(alloc, found, blocks, free, Err(NotPut::NoRoom));
     }
-    let octets = match input::read(rt, Some(found.place.as_str())) {
-        Err(End::Read) => return Err(wrong(alloc, found.place.as_str(), "cannot be read")),
+    let octets = match input::read(rt, Some(found.host_path.as_str())) {
+        Err(End::Read) => return Err(wrong(alloc, found.host_path.as_str(), "cannot be read")),
         read => read?,
     };
     was_put(alloc, found, blocks, free, entity.put_file(&path, &octets))
@@ -192,21 +197,21 @@ fn put_file<R: AllocGlobal + Files + Input>(
 fn put_all<R: AllocGlobal + Clone + Drop + Files + Input>(
     rt: &R,
     directory: &FolderEntry,
-    names: Names,
+    names: FolderNames,
     entity: &mut Entity,
 ) -> Result<Vec<FolderEntry>, End> {
     let alloc = rt.alloc();
     let mut directories = Vec::new(alloc);
-    for name in &names_in(rt, directory.place.as_str())? {
+    for name in &names_in(rt, directory.host_path.as_str())? {
         let found = beside(alloc, names, directory, name.as_str())?;
-        let metadata = match fs::symlink_metadata(rt, found.place.as_str()) {
+        let metadata = match fs::symlink_metadata(rt, found.host_path.as_str()) {
             Ok(metadata) => metadata,
-            Err(error) => return Err(unread(alloc, found.place.as_str(), &error)),
+            Err(error) => return Err(unread(alloc, found.host_path.as_str(), &error)),
         };
         if metadata.is_symlink() {
             return Err(wrong(
                 alloc,
-                found.place.as_str(),
+                found.host_path.as_str(),
                 "a link, and links are not followed",
             ));
         } else if metadata.is_file() {
@@ -219,7 +224,7 @@ fn put_all<R: AllocGlobal + Clone + Drop + Files + Input>(
         } else {
             return Err(wrong(
                 alloc,
-                found.place.as_str(),
+                found.host_path.as_str(),
                 "neither a file nor a directory",
             ));
         }
@@ -232,13 +237,13 @@ fn put_all<R: AllocGlobal + Clone + Drop + Files + Input>(
 pub fn put<R: AllocGlobal + Clone + Drop + Files + Input>(
     rt: &R,
     folder: &str,
-    names: Names,
+    names: FolderNames,
     entity: &mut Entity,
 ) -> Result<(), End> {
     let alloc = rt.alloc();
     let mut open = Vec::new(alloc);
     open.push(FolderEntry {
-        place: String::from_str(alloc, folder)?,
+        host_path: String::from_str(alloc, folder)?,
         path: Vec::new(alloc),
     })?;
     for _ in 0..MOST_DIRECTORIES {

@@ -6,7 +6,7 @@ use std::fmt;
 
 /// Where in the input a PDU begins.
 #[derive(Clone, Copy, Debug, PartialEq, Eq)]
-pub enum Place {
+pub enum Location {
     /// The line with this number, counted from 1.
     Line(u64),
     /// The octet at this offset.
@@ -15,27 +15,27 @@ pub enum Place {
     Frame(u64),
 }
 
-impl fmt::Display for Place {
+impl fmt::Display for Location {
     fn fmt<W: fmt::Write>(&self, f: &mut fmt::Formatter<W>) -> fmt::Result {
         match self {
-            Place::Line(number) => write!(f, "line {number}"),
-            Place::Offset(offset) => write!(f, "offset {offset}"),
-            Place::Frame(number) => write!(f, "frame {number}"),
+            Location::Line(number) => write!(f, "line {number}"),
+            Location::Offset(offset) => write!(f, "offset {offset}"),
+            Location::Frame(number) => write!(f, "frame {number}"),
         }
     }
 }
 
 /// The octets of a PDU, and where they begin.
 #[derive(Drop)]
-pub struct Found {
-    pub place: Place,
+pub struct FoundPdu {
+    pub location: Location,
     pub octets: Vec<u8>,
 }
 
 /// The PDUs of an input, and what is not shown of it.
 #[derive(Drop)]
-pub struct Contents {
-    pub all: Vec<Found>,
+pub struct InputPdus {
+    pub all: Vec<FoundPdu>,
     /// How many datagrams of a capture are cut.
     pub cut: u64,
     /// How many frames of a capture have a fragment of a datagram.
@@ -44,15 +44,15 @@ pub struct Contents {
     pub ends_within: Option<u64>,
 }
 
-impl Contents {
+impl InputPdus {
     /// Without any PDU.
-    pub fn new(alloc: Global) -> Contents {
-        Contents::of(Vec::new(alloc))
+    pub fn new(alloc: Global) -> InputPdus {
+        InputPdus::of(Vec::new(alloc))
     }
 
     /// With these PDUs, and nothing else.
-    pub fn of(all: Vec<Found>) -> Contents {
-        Contents {
+    pub fn of(all: Vec<FoundPdu>) -> InputPdus {
+        InputPdus {
             all,
             cut: 0,
             fragments: 0,

@@ -1,7 +1,7 @@
 //! PDUs in hexadecimal, one a line.
 
 use crate::end::End;
-use crate::found::{Found, Place};
+use crate::found::{FoundPdu, Location};
 use std::alloc::Global;
 
 /// Whether octets are a text of hexadecimal lines: all of them are printable or blank.
@@ -58,7 +58,7 @@ fn bad_line(alloc: Global, name: &str, number: u64) -> End {
 }
 
 /// The PDUs of a text with a name. Blank lines and those that begin with `#` are passed over.
-pub fn read(alloc: Global, name: &str, text: &[u8]) -> Result<Vec<Found>, End> {
+pub fn read(alloc: Global, name: &str, text: &[u8]) -> Result<Vec<FoundPdu>, End> {
     let mut all = Vec::new(alloc);
     let mut number = 0_u64;
     for line in text.split(|octet| *octet == b'\n') {
@@ -70,8 +70,8 @@ pub fn read(alloc: Global, name: &str, text: &[u8]) -> Result<Vec<Found>, End> {
             return Err(bad_line(alloc, name, number));
         };
         if !octets.is_empty() {
-            all.push(Found {
-                place: Place::Line(number),
+            all.push(FoundPdu {
+                location: Location::Line(number),
                 octets,
             })?;
         }

@@ -1,7 +1,7 @@
 //! The input of a command: a file, or standard input.
 
 use crate::end::End;
-use crate::found::Contents;
+use crate::found::InputPdus;
 use crate::{hexadecimal, octets, pcap};
 use std::alloc::Global;
 use std::fs;
@@ -50,14 +50,14 @@ pub fn read<R: AllocGlobal + Files + Input>(rt: &R, path: Option<&str>) -> Resul
 }
 
 /// The PDUs of an input with a name: of a capture, in hexadecimal, or as octets.
-pub fn find(alloc: Global, name: &str, input: &[u8]) -> Result<Contents, End> {
+pub fn find(alloc: Global, name: &str, input: &[u8]) -> Result<InputPdus, End> {
     if pcap::is_capture(input) {
         pcap::read(alloc, name, input)
     } else if hexadecimal::is_text(input) {
-        Ok(Contents::of(hexadecimal::read(alloc, name, input)?))
+        Ok(InputPdus::of(hexadecimal::read(alloc, name, input)?))
     } else if pcap::is_pcapng(input) {
         Err(End::file(alloc, name, PCAPNG))
     } else {
-        Ok(Contents::of(octets::read(alloc, input)?))
+        Ok(InputPdus::of(octets::read(alloc, input)?))
     }
 }

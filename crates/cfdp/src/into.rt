@@ -1,8 +1,8 @@
 //! A filestore that is written out, into a folder that is made for it.
 
+use crate::elapsed::{Elapsed, ProgressReport};
 use crate::end::End;
-use crate::shown::push_path;
-use crate::spent::{Progress, Spent};
+use crate::path_text::push_path;
 use cfdp_actions::{Entry, Filestore, Kind};
 use cfdp_entity::Entity;
 use cfdp_paths::Path;
@@ -105,11 +105,11 @@ pub fn write<R: AllocGlobal + Clock + Eprint + Files>(
 ) -> Result<(), End> {
     let entries = entity.core().store().listing(rt.alloc())?;
     let count = entries.len();
-    let mut spent = Spent::new();
+    let mut spent = Elapsed::new();
     for (index, entry) in entries.iter().enumerate() {
         let begun = Instant::now(rt);
         write_entry(rt, folder, entity, entry)?;
-        let progress = Progress {
+        let progress = ProgressReport {
             done: index.saturating_add(1),
             count,
             what: "written",

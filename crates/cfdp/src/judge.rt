@@ -1,7 +1,7 @@
 //! `cfdp judge`: whether the uploads of a plan are admitted.
 
 use crate::end::End;
-use crate::folder::Names;
+use crate::folder::FolderNames;
 use crate::plan::Plan;
 use crate::show::print;
 use crate::uploads::{plan_in, read_files, uploads_of};
@@ -246,7 +246,7 @@ fn begin<R: AllocGlobal + Clone + Drop + Files + Input>(
 ) -> Result<Entity, End> {
     let mut receiver = entity_of(rt.alloc(), asked)?;
     if let Some(folder) = on {
-        folder::put(rt, folder, Names::Any, &mut receiver)?;
+        folder::put(rt, folder, FolderNames::Any, &mut receiver)?;
     }
     Ok(receiver)
 }

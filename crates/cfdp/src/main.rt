@@ -28,6 +28,7 @@
 
 mod answers;
 mod capture;
+mod clock;
 mod commands;
 mod compose;
 mod disturb;
@@ -35,6 +36,7 @@ mod draw;
 mod drawing;
 mod drawn_pdu;
 mod drawn_state;
+mod elapsed;
 mod end;
 mod fitting;
 mod folder;
@@ -47,7 +49,7 @@ mod mirror;
 mod named;
 mod notes;
 mod octets;
-mod part;
+mod path_text;
 mod pcap;
 mod pieces;
 mod plan;
@@ -55,11 +57,9 @@ mod playing;
 mod receive;
 mod run;
 mod section;
+mod setting_lines;
 mod setup;
 mod show;
-mod shown;
-mod spent;
-mod ticks;
 mod uploads;
 mod watch;
 mod words;
@@ -69,7 +69,7 @@ use std::process::ExitCode;
 use std::rt::Runtime;
 use std::sync::Wait;
 use std::thread::Threads;
-use words::{Asked, parse};
+use words::{AskedCommand, parse};
 
 fn main(rt: HostRuntime) -> ExitCode {
     match obey(&rt) {
@@ -89,13 +89,13 @@ where
 {
     let words = words::read(rt)?;
     match parse(rt.alloc(), &words)? {
-        Asked::Help(text) => show::print(rt, text.as_bytes()),
-        Asked::Show(style, path) => show::run(rt, style, path),
-        Asked::Compose(player, path) => compose::run(rt, player, path),
-        Asked::Judge(path, on) => judge::run(rt, path, on),
-        Asked::Run(path, options) => run::run(rt, path, options),
-        Asked::Draw(path) => draw::run(rt, path),
-        Asked::Disturb(odds, seed, path) => disturb::run(rt, odds, seed, path),
-        Asked::Receive(options) => receive::run(rt, options),
+        AskedCommand::Help(text) => show::print(rt, text.as_bytes()),
+        AskedCommand::Show(style, path) => show::run(rt, style, path),
+        AskedCommand::Compose(player, path) => compose::run(rt, player, path),
+        AskedCommand::Judge(path, on) => judge::run(rt, path, on),
+        AskedCommand::Run(path, options) => run::run(rt, path, options),
+        AskedCommand::Draw(path) => draw::run(rt, path),
+        AskedCommand::Disturb(odds, seed, path) => disturb::run(rt, odds, seed, path),
+        AskedCommand::Receive(options) => receive::run(rt, options),
     }
 }

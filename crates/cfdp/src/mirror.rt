@@ -36,7 +36,7 @@ enum Difference {
 
 /// A part of the folder.
 #[derive(Clone, Copy, PartialEq, Eq)]
-enum Region {
+enum FolderPart {
     /// At and below the paths at which something of another kind was before.
     Turned,
     /// Everywhere else.
@@ -148,13 +148,13 @@ fn turned_paths(alloc: Global, these: &[Kept], others: &[Kept]) -> Result<Vec<Pa
 }
 
 /// Where a path is: at or below one of the turned paths, or elsewhere.
-fn region_of(path: &Path, turned: &[Path]) -> Region {
+fn region_of(path: &Path, turned: &[Path]) -> FolderPart {
     for other in turned {
         if path.is_at_or_below(other) {
-            return Region::Turned;
+            return FolderPart::Turned;
         }
     }
-    Region::Free
+    FolderPart::Free
 }
 
 /// Refuses a link at a location, where a directory was.
@@ -253,7 +253,7 @@ impl<'a> Mirror<'a> {
         rt: &R,
         now: &[Kept],
         turned: &[Path],
-        region: Region,
+        region: FolderPart,
     ) -> Result<(), End> {
         let gone = [Difference::Missing, Difference::Turned];
         let old = different(rt.alloc(), &self.all, now, &gone)?;
@@ -273,7 +273,7 @@ impl<'a> Mirror<'a> {
         rt: &R,
         now: &[Kept],
         turned: &[Path],
-        region: Region,
+        region: FolderPart,
     ) -> Result<(), End> {
         let new = [Difference::Missing, Difference::Turned];
         for differs in &different(rt.alloc(), now, &self.all, &new)? {
@@ -343,13 +343,13 @@ impl<'a> Mirror<'a> {
     /// first, and of files that take each other's names one is replaced before the other.
     fn change<R: AllocGlobal + Files>(&self, rt: &R, now: &[Kept]) -> Result<(), End> {
         let turned = turned_paths(rt.alloc(), now, &self.all)?;
-        self.put_new(rt, now, &turned, Region::Free)?;
+        self.put_new(rt, now, &turned, FolderPart::Free)?;
         self.replace_changed(rt, now)?;
         if !turned.is_empty() {
-            self.remove_old(rt, now, &turned, Region::Turned)?;
-            self.put_new(rt, now, &turned, Region::Turned)?;
+            self.remove_old(rt, now, &turned, FolderPart::Turned)?;
+            self.put_new(rt, now, &turned, FolderPart::Turned)?;
         }
-        self.remove_old(rt, now, &turned, Region::Free)
+        self.remove_old(rt, now, &turned, FolderPart::Free)
     }
 
     /// The filestore may have changed: the folder changes as it did. What is the same is not written.

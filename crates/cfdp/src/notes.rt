@@ -1,6 +1,6 @@
 //! What is noted in words in a picture: what is refused, faulted or dropped.
 
-use crate::answers::{Became, Told, first_word, is_among};
+use crate::answers::{InputResult, Told, first_word, is_among};
 use crate::hexadecimal::octet_of;
 use cfdp_lines::{next_word, number_of};
 use cfdp_status::{Status, TransactionId};
@@ -136,7 +136,11 @@ fn meaning_with<'a>(words: &[u8], cause: &'a [u8]) -> Option<&'a [u8]> {
 }
 
 /// Appends a note of what became of an input, with the cause of a request that would fail, if it is known.
-pub fn push_became(became: Became<'_>, cause: &[u8], out: &mut Vec<u8>) -> Result<(), AllocError> {
+pub fn push_became(
+    became: InputResult<'_>,
+    cause: &[u8],
+    out: &mut Vec<u8>,
+) -> Result<(), AllocError> {
     out.extend_from_slice(became.words)?;
     if let Some(code) = became.words.strip_prefix(b"faulted ") {
         return push_condition(code, out);

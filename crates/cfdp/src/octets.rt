@@ -1,7 +1,7 @@
 //! PDUs one after the other, as octets.
 
 use crate::end::End;
-use crate::found::{Found, Place};
+use crate::found::{FoundPdu, Location};
 use std::alloc::Global;
 
 /// How many octets the PDU at the front of octets has, by its header (CCSDS 727.0-B-5 §5.1); `None` where the header is
@@ -17,7 +17,7 @@ fn pdu_len(octets: &[u8]) -> Option<usize> {
 }
 
 /// The PDUs. What is left at the end, where a PDU is cut, is one too.
-pub fn read(alloc: Global, octets: &[u8]) -> Result<Vec<Found>, End> {
+pub fn read(alloc: Global, octets: &[u8]) -> Result<Vec<FoundPdu>, End> {
     let mut all = Vec::new(alloc);
     let mut offset = 0_usize;
     for _ in 0..octets.len() {
@@ -27,8 +27,8 @@ pub fn read(alloc: Global, octets: &[u8]) -> Result<Vec<Found>, End> {
         }
         let len = pdu_len(rest).unwrap_or(rest.len()).min(rest.len());
         let pdu = rest.get(..len).unwrap_or(&[]);
-        all.push(Found {
-            place: Place::Offset(offset as u64),
+        all.push(FoundPdu {
+            location: Location::Offset(offset as u64),
             octets: Vec::from_slice(alloc, pdu)?,
         })?;
         offset = offset.saturating_add(len);

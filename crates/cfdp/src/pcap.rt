@@ -1,7 +1,7 @@
 //! A capture in the pcap format.
 
 use crate::end::End;
-use crate::found::{Contents, Found, Place};
+use crate::found::{FoundPdu, InputPdus, Location};
 use std::alloc::Global;
 
 /// How many octets the header of a capture has.
@@ -54,7 +54,7 @@ fn number_at(order: OctetOrder, octets: &[u8], index: usize) -> Option<usize> {
 
 /// The link types that are read.
 #[derive(Clone, Copy)]
-enum Link {
+enum LinkType {
     /// Ethernet, with IPv4.
     Ethernet,
     /// IPv4.
@@ -63,13 +63,13 @@ enum Link {
     Own,
 }
 
-impl Link {
+impl LinkType {
     /// The link type with a number: 1 is Ethernet, 101 and 228 are IPv4, 147 to 162 are of a user's own.
-    fn of_number(number: usize) -> Option<Link> {
+    fn of_number(number: usize) -> Option<LinkType> {
         match number {
-            1 => Some(Link::Ethernet),
-            101 | 228 => Some(Link::Internet),
-            147..=162 => Some(Link::Own),
+            1 => Some(LinkType::Ethernet),
+            101 | 228 => Some(LinkType::Internet),
+            147..=162 => Some(LinkType::Own),
             _ => None,
         }
     }
@@ -128,11 +128,11 @@ fn in_packet(packet: &[u8]) -> Frame<'_> {
 }
 
 /// What a frame has.
-fn look_at(link: Link, frame: &[u8]) -> Frame<'_> {
+fn look_at(link: LinkType, frame: &[u8]) -> Frame<'_> {
     match link {
-        Link::Own => Frame::Pdu(frame),
-        Link::Internet => in_packet(frame),
-        Link::Ethernet => {
+        LinkType::Own => Frame::Pdu(frame),
+        LinkType::Internet => in_packet(frame),
+        LinkType::Ethernet => {
             if frame.get(12..14) != Some([0x08, 0x00].as_slice()) {
                 return Frame::Other;
             }
@@ -145,10 +145,10 @@ fn look_at(link: Link, frame: &[u8]) -> Frame<'_> {
 }
 
 /// Takes the frame with a number.
-fn take(alloc: Global, number: u64, frame: Frame<'_>, contents: &mut Contents) -> Result<(), End> {
+fn take(alloc: Global, number: u64, frame: Frame<'_>, contents: &mut InputPdus) -> Result<(), End> {
     match frame {
-        Frame::Pdu(pdu) => contents.all.push(Found {
-            place: Place::Frame(number),
+        Frame::Pdu(pdu) => contents.all.push(FoundPdu {
+            location: Location::Frame(number),
             octets: Vec::from_slice(alloc, pdu)?,
         })?,
         Frame::Cut => contents.cut = contents.cut.saturating_add(1),
@@ -166,19 +166,19 @@ fn frame_at(order: OctetOrder, octets: &[u8], index: usize) -> Option<&[u8]> {
 }
 
 /// The link type of a capture.
-fn link_of(alloc: Global, name: &str, order: OctetOrder, octets: &[u8]) -> Result<Link, End> {
+fn link_of(alloc: Global, name: &str, order: OctetOrder, octets: &[u8]) -> Result<LinkType, End> {
     let Some(number) = number_at(order, octets, 20) else {
         return Err(End::stream(alloc, name, "the capture ends within its header"));
     };
-    match Link::of_number(number) {
+    match LinkType::of_number(number) {
         Some(link) => Ok(link),
         None => Err(End::file(alloc, name, UNREAD_LINK)),
     }
 }
 
 /// The PDUs of a capture with a name. Frames without a UDP datagram over IPv4 are passed over.
-pub fn read(alloc: Global, name: &str, octets: &[u8]) -> Result<Contents, End> {
-    let mut contents = Contents::new(alloc);
+pub fn read(alloc: Global, name: &str, octets: &[u8]) -> Result<InputPdus, End> {
+    let mut contents = InputPdus::new(alloc);
     let Some(order) = order_of(octets) else {
         return Ok(contents);
     };

@@ -19,7 +19,7 @@ const AHEAD: usize = 16;
 
 /// What comes next of standard input.
 #[derive(Drop)]
-pub enum Piece {
+pub enum InputPiece {
     /// Octets, of which there are some.
     Octets(Vec<u8>),
     /// It ended.
@@ -35,25 +35,25 @@ pub enum Piece {
 /// The pieces of standard input.
 #[derive(Drop)]
 pub struct Pieces {
-    inbox: Receiver<Piece, Global>,
+    inbox: Receiver<InputPiece, Global>,
 }
 
 /// Reads the next piece into the room, and copies it.
-fn read_piece<I: Read>(alloc: Global, input: &mut I, room: &mut [u8]) -> Piece {
+fn read_piece<I: Read>(alloc: Global, input: &mut I, room: &mut [u8]) -> InputPiece {
     match input.read(room) {
-        Ok(0) => Piece::Ended,
+        Ok(0) => InputPiece::Ended,
         Ok(count) => {
             let octets = room.get(..count).unwrap_or(&[]);
-            Vec::from_slice(alloc, octets).map_or(Piece::Memory, Piece::Octets)
+            Vec::from_slice(alloc, octets).map_or(InputPiece::Memory, InputPiece::Octets)
         }
-        Err(error) if error.kind() == ErrorKind::OutOfMemory => Piece::Memory,
-        Err(_) => Piece::Unread,
+        Err(error) if error.kind() == ErrorKind::OutOfMemory => InputPiece::Memory,
+        Err(_) => InputPiece::Unread,
     }
 }
 
 /// Sends a piece. Returns whether more is wanted: there is more, and somebody waits for it.
-fn send<R: Wait>(rt: &R, outbox: &Sender<Piece, Global>, piece: Piece) -> bool {
-    let is_last = !matches!(&piece, Piece::Octets(_));
+fn send<R: Wait>(rt: &R, outbox: &Sender<InputPiece, Global>, piece: InputPiece) -> bool {
+    let is_last = !matches!(&piece, InputPiece::Octets(_));
     outbox.send(rt, piece).is_ok() && !is_last
 }
 
@@ -62,10 +62,10 @@ fn read_all<R: Wait, I: Read + Drop>(
     rt: &R,
     alloc: Global,
     mut input: I,
-    outbox: &Sender<Piece, Global>,
+    outbox: &Sender<InputPiece, Global>,
 ) {
     let Ok(mut room) = vec![in alloc; 0_u8; PIECE] else {
-        send(rt, outbox, Piece::Memory);
+        send(rt, outbox, InputPiece::Memory);
         return;
     };
     for _ in rt.forever() {
@@ -92,14 +92,14 @@ impl Pieces {
     }
 
     /// Waits for the next piece, or at most for these milliseconds, if they are given.
-    pub fn next<R: Clock + Wait>(&self, rt: &R, millis: Option<u64>) -> Piece {
+    pub fn next<R: Clock + Wait>(&self, rt: &R, millis: Option<u64>) -> InputPiece {
         let Some(millis) = millis else {
-            return self.inbox.recv(rt).unwrap_or(Piece::Unread);
+            return self.inbox.recv(rt).unwrap_or(InputPiece::Unread);
         };
         match self.inbox.recv_timeout(rt, Duration::from_millis(millis)) {
             Ok(piece) => piece,
-            Err(RecvTimeoutError::Timeout) => Piece::Late,
-            Err(RecvTimeoutError::Disconnected) => Piece::Unread,
+            Err(RecvTimeoutError::Timeout) => InputPiece::Late,
+            Err(RecvTimeoutError::Disconnected) => InputPiece::Unread,
         }
     }
 }

@@ -1,7 +1,7 @@
 //! What a plan says.
 
-use crate::part::Part;
 use crate::section::{PlanFault, Section};
+use crate::setting_lines::Part;
 use cfdp_plans::{RequestFault, read_request};
 use cfdp_tlv::FilestoreRequest;
 use std::alloc::Global;
@@ -23,7 +23,7 @@ pub struct EntitySection {
 
 /// The order in which the pieces of a file are sent.
 #[derive(Drop)]
-pub enum Order {
+pub enum PieceOrder {
     InOrder,
     Reversed,
     Swapped,
@@ -56,7 +56,7 @@ pub struct Transaction {
     pub closure: bool,
     pub file: Option<Source>,
     pub segment: usize,
-    pub order: Order,
+    pub order: PieceOrder,
     pub requests: Vec<FilestoreRequest>,
 }
 
@@ -128,16 +128,16 @@ fn read_source(alloc: Global, section: &Section<'_>) -> Result<Option<Source>, P
 }
 
 /// The order of the pieces.
-fn read_order(alloc: Global, section: &Section<'_>) -> Result<Order, PlanFault> {
+fn read_order(alloc: Global, section: &Section<'_>) -> Result<PieceOrder, PlanFault> {
     const WORDS: &str =
         "\"in-order\", \"reversed\", \"swapped\", or an array with the number of each piece, from 0";
     let Some(value) = section.get("order") else {
-        return Ok(Order::InOrder);
+        return Ok(PieceOrder::InOrder);
     };
     match value.as_str() {
-        Some("in-order") => return Ok(Order::InOrder),
-        Some("reversed") => return Ok(Order::Reversed),
-        Some("swapped") => return Ok(Order::Swapped),
+        Some("in-order") => return Ok(PieceOrder::InOrder),
+        Some("reversed") => return Ok(PieceOrder::Reversed),
+        Some("swapped") => return Ok(PieceOrder::Swapped),
         _ => {}
     }
     let Some(items) = value.as_array() else {
@@ -150,7 +150,7 @@ fn read_order(alloc: Global, section: &Section<'_>) -> Result<Order, PlanFault> 
             _ => return Err(section.expected("order", WORDS)),
         }
     }
-    Ok(Order::Listed(order))
+    Ok(PieceOrder::Listed(order))
 }
 
 /// A request of a transaction.

@@ -1,11 +1,11 @@
 //! A script of an input, carried out a line at a time.
 
+use crate::elapsed::Elapsed;
 use crate::end::End;
 use crate::named::Named;
-use crate::spent::Spent;
 use cfdp_lines::{INPUT_LIMIT, NEWLINE};
-use cfdp_run::{Stop, push_wrong};
-use cfdp_run_script::{Script, Session};
+use cfdp_run::{ScriptStop, push_wrong};
+use cfdp_run_script::{RunScript, ScriptSession};
 use cfdp_streams::{FromRead, ScriptIn};
 use cfdp_texts::push_labelled;
 use std::alloc::{AllocError, Global};
@@ -35,7 +35,7 @@ pub struct Playing<'a, R, I> {
     /// The name of the input in messages.
     name: &'a str,
     input: FromRead<I>,
-    session: Session,
+    session: ScriptSession,
     /// Octets that were read. Those from `start` to `end` are not taken yet.
     buffer: Vec<u8>,
     start: usize,
@@ -45,31 +45,36 @@ pub struct Playing<'a, R, I> {
     /// What was taken of the line that is being read.
     line: Vec<u8>,
     has_ended: bool,
-    spent: Spent,
+    spent: Elapsed,
 }
 
 /// How the program ends where a script stops at the line with a number; `None` at `end`.
-fn end_of(alloc: Global, name: &str, number: u64, stop: Stop) -> Result<Option<End>, AllocError> {
+fn end_of(
+    alloc: Global,
+    name: &str,
+    number: u64,
+    stop: ScriptStop,
+) -> Result<Option<End>, AllocError> {
     let mut said = String::from_str(alloc, name)?.into_bytes();
     push_labelled(b":", number, &mut said)?;
     said.extend_from_slice(b": ")?;
     match stop {
-        Stop::Ended => Ok(None),
-        Stop::Wrong(wrong) => {
+        ScriptStop::Ended => Ok(None),
+        ScriptStop::Wrong(wrong) => {
             push_wrong(wrong, &mut said)?;
             Ok(Some(End::Script(said)))
         }
-        Stop::Unmet(line) => {
+        ScriptStop::Unmet(line) => {
             said.extend_from_slice(b"expected ")?;
             said.extend_from_slice(&line)?;
             Ok(Some(End::Unmet(said)))
         }
-        Stop::Unread(file) => {
+        ScriptStop::Unread(file) => {
             said.extend_from_slice(&file)?;
             said.extend_from_slice(b": read failed")?;
             Ok(Some(End::Failed(said)))
         }
-        Stop::Memory => Ok(Some(End::Memory)),
+        ScriptStop::Memory => Ok(Some(End::Memory)),
     }
 }
 
@@ -77,11 +82,11 @@ fn end_of(alloc: Global, name: &str, number: u64, stop: Stop) -> Result<Option<E
 /// counted.
 fn hand_on<R: Files>(
     alloc: Global,
-    session: &mut Session,
+    session: &mut ScriptSession,
     files: &mut Named<'_, R>,
     octets: &[u8],
     text: &mut Vec<u8>,
-) -> Result<usize, Stop> {
+) -> Result<usize, ScriptStop> {
     if octets.is_empty() || session.number().checked_add(1).is_none() {
         return Ok(0);
     }
@@ -91,10 +96,10 @@ fn hand_on<R: Files>(
 /// Ends a session: a last line without a newline is carried out.
 fn end_session<R: Files>(
     alloc: Global,
-    session: &mut Session,
+    session: &mut ScriptSession,
     files: &mut Named<'_, R>,
     text: &mut Vec<u8>,
-) -> Result<(), Stop> {
+) -> Result<(), ScriptStop> {
     session.finish(alloc, files, text)
 }
 
@@ -106,19 +111,19 @@ impl<'a, R: AllocGlobal + Clock + Eprint + Files, I: Read + Drop> Playing<'a, R,
             rt,
             name,
             input: FromRead::new(input),
-            session: Session::new(alloc)?,
+            session: ScriptSession::new(alloc)?,
             buffer: vec![in alloc; 0_u8; PIECE]?,
             start: 0,
             end: 0,
             left: INPUT_LIMIT,
             line: Vec::new(alloc),
             has_ended: false,
-            spent: Spent::new(),
+            spent: Elapsed::new(),
         })
     }
 
     /// The script after the lines so far.
-    pub fn script(&self) -> &Script {
+    pub fn script(&self) -> &RunScript {
         self.session.script()
     }
 
@@ -144,7 +149,7 @@ impl<'a, R: AllocGlobal + Clock + Eprint + Files, I: Read + Drop> Playing<'a, R,
     }
 
     /// How the script goes on after this answer of the session.
-    fn came_of(&mut self, answer: Result<usize, Stop>) -> Result<Came, End> {
+    fn came_of(&mut self, answer: Result<usize, ScriptStop>) -> Result<Came, End> {
         let count = match answer {
             Ok(count) => count,
             Err(stop) => {

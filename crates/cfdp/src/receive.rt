@@ -1,12 +1,12 @@
 //! `cfdp receive`: a live receiving entity. PDUs come on standard input and go to standard output, one after the other;
 //! indications go to standard error, and a folder holds what the filestore holds.
 
+use crate::clock::MillisecondClock;
 use crate::end::End;
-use crate::folder::Names;
+use crate::folder::FolderNames;
 use crate::mirror::Mirror;
-use crate::pieces::{Piece, Pieces};
-use crate::setup::Setup;
-use crate::ticks::Ticks;
+use crate::pieces::{InputPiece, Pieces};
+use crate::setup::MibSetup;
 use crate::{folder, judge, mirror, setup};
 use cfdp_cutter::{CutFault, Cutter};
 use cfdp_live::{Live, Output};
@@ -31,7 +31,7 @@ pub struct LiveOptions<'a> {
 #[derive(Drop)]
 struct Station<'a, R> {
     rt: &'a R,
-    ticks: Ticks,
+    ticks: MillisecondClock,
     cutter: Cutter,
     /// How many octets came before the piece that is cut.
     taken: u64,
@@ -44,11 +44,11 @@ struct Station<'a, R> {
 fn live_of<R: AllocGlobal + Clone + Drop + Files + Input>(
     rt: &R,
     folder: &str,
-    setup: &Setup,
+    setup: &MibSetup,
 ) -> Result<Live, End> {
     let alloc = rt.alloc();
     let mut entity = judge::entity_of(alloc, &setup.entity)?;
-    folder::put(rt, folder, Names::Printed, &mut entity)?;
+    folder::put(rt, folder, FolderNames::Printed, &mut entity)?;
     match Receiver::new(alloc, setup.mib, entity) {
         Ok(receiver) => Ok(Live::new(alloc, receiver)?),
         Err(NotMade::Memory) => Err(End::Memory),
@@ -98,7 +98,7 @@ impl<'a, R: AllocGlobal + Clock + Eprint + Files + Print> Station<'a, R> {
         let mirror = Mirror::new(alloc, folder, live.receiver().entity())?;
         Ok(Station {
             rt,
-            ticks: Ticks::start(rt)?,
+            ticks: MillisecondClock::start(rt)?,
             cutter: Cutter::new(alloc),
             taken: 0,
             live,
@@ -182,16 +182,16 @@ impl<'a, R: AllocGlobal + Clock + Eprint + Files + Print> Station<'a, R> {
     }
 
     /// A piece of the input came, or did not come in time. Returns whether there may be more.
-    fn follow(&mut self, piece: Piece) -> Result<bool, End> {
+    fn follow(&mut self, piece: InputPiece) -> Result<bool, End> {
         match piece {
-            Piece::Octets(octets) => self.take(&octets)?,
-            Piece::Late => {}
-            Piece::Ended => {
+            InputPiece::Octets(octets) => self.take(&octets)?,
+            InputPiece::Late => {}
+            InputPiece::Ended => {
                 self.end()?;
                 return Ok(false);
             }
-            Piece::Unread => return Err(End::Read),
-            Piece::Memory => return Err(End::Memory),
+            InputPiece::Unread => return Err(End::Read),
+            InputPiece::Memory => return Err(End::Memory),
         }
         self.pass()?;
         Ok(true)

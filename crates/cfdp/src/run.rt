@@ -4,7 +4,7 @@ use crate::capture::Capture;
 use crate::end::End;
 use crate::into;
 use crate::playing::Playing;
-use crate::watch::Watch;
+use crate::watch::PduLog;
 use std::alloc::Global;
 use std::io::{ErrorKind, Read, Write};
 use std::rt::{Clock, Files};
@@ -36,7 +36,7 @@ fn write<R: Print>(rt: &R, text: &[u8]) -> Result<(), End> {
 fn play<R: AllocGlobal + Clock + Eprint + Files + Print, I: Read + Drop, F: Write + Drop>(
     rt: &R,
     playing: &mut Playing<'_, R, I>,
-    watch: &mut Watch<'_, F>,
+    watch: &mut PduLog<'_, F>,
 ) -> Result<(), End> {
     let mut text = Vec::new(rt.alloc());
     let mut watched = Vec::new(rt.alloc());
@@ -74,7 +74,7 @@ fn play_watched<R: AllocGlobal + Clock + Eprint + Files + Print, I: Read + Drop,
     rt: &R,
     playing: &mut Playing<'_, R, I>,
     into: Option<&str>,
-    watch: &mut Watch<'_, F>,
+    watch: &mut PduLog<'_, F>,
 ) -> Result<(), End> {
     play(rt, playing, watch)?;
     if let Some(capture) = watch.capture() {
@@ -92,7 +92,7 @@ fn play_named<R: AllocGlobal + Clock + Eprint + Files + Print, I: Read + Drop, F
     name: &str,
     input: I,
     into: Option<&str>,
-    watch: &mut Watch<'_, F>,
+    watch: &mut PduLog<'_, F>,
 ) -> Result<(), End> {
     let mut playing = Playing::new(rt, name, input)?;
     play_watched(rt, &mut playing, into, watch)
@@ -105,7 +105,7 @@ fn play_into<R: AllocGlobal + Clock + Eprint + Files + Print, I: Read + Drop>(
     input: I,
     options: Options<'_>,
 ) -> Result<(), End> {
-    let mut watch = Watch::new(options.tells, capture(rt, options.capture)?);
+    let mut watch = PduLog::new(options.tells, capture(rt, options.capture)?);
     play_named(rt, name, input, options.into, &mut watch)
 }
 

@@ -1,6 +1,6 @@
 //! A table of a plan or of a setup, and its values by their keys.
 
-use crate::part::{Owner, Part};
+use crate::setting_lines::{Owner, Part};
 use cfdp_plans::read_path;
 use std::alloc::{AllocError, AllocFailed, Global};
 use std::ops::RangeInclusive;

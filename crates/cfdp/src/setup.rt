@@ -31,7 +31,7 @@ const KEYS: [&str; 14] = [
 
 /// What is left to the management of a receiving entity whose clock has milliseconds.
 #[derive(Drop)]
-pub struct Setup {
+pub struct MibSetup {
     pub entity: EntitySection,
     pub mib: Mib,
 }
@@ -154,19 +154,19 @@ fn table_at<'a>(
 }
 
 /// The setup that a table has.
-fn read_setup(alloc: Global, setup: &Table) -> Result<Setup, PlanFault> {
+fn read_setup(alloc: Global, setup: &Table) -> Result<MibSetup, PlanFault> {
     check_top(alloc, setup)?;
     let empty = Table::new(alloc);
     let entity = table_at(alloc, setup, "entity", &empty)?;
     let mib = table_at(alloc, setup, "mib", &empty)?;
-    Ok(Setup {
+    Ok(MibSetup {
         entity: read_entity(&Section::entity(alloc, entity))?,
         mib: read_mib(&Section::mib(alloc, mib))?,
     })
 }
 
 /// The setup that a text has.
-fn setup_in(alloc: Global, text: &[u8]) -> Result<Setup, PlanFault> {
+fn setup_in(alloc: Global, text: &[u8]) -> Result<MibSetup, PlanFault> {
     let table = read_table(alloc, text)?;
     read_setup(alloc, &table)
 }
@@ -180,7 +180,7 @@ fn text_of<R: AllocGlobal + Files + Input>(rt: &R, path: &str) -> Result<Vec<u8>
 }
 
 /// The setup in a file, or without one that of an empty file.
-pub fn read<R: AllocGlobal + Files + Input>(rt: &R, path: Option<&str>) -> Result<Setup, End> {
+pub fn read<R: AllocGlobal + Files + Input>(rt: &R, path: Option<&str>) -> Result<MibSetup, End> {
     let alloc = rt.alloc();
     let (name, text) = match path {
         None => ("", Vec::new(alloc)),

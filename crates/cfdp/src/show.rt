@@ -1,9 +1,9 @@
 //! `cfdp show`: what PDUs say.
 
+use crate::elapsed::{Elapsed, ProgressReport};
 use crate::end::End;
-use crate::found::{Found, Place};
+use crate::found::{FoundPdu, Location};
 use crate::input;
-use crate::spent::{Progress, Spent};
 use cfdp_words::{Style, show};
 use std::alloc::Global;
 use std::io;
@@ -21,16 +21,18 @@ pub fn print<R: Print>(rt: &R, octets: &[u8]) -> Result<(), End> {
 }
 
 /// The lines of a PDU: for people where it begins and what it says, else both in one JSON value.
-fn block(alloc: Global, style: Style, found: &mut Found) -> Result<Vec<u8>, End> {
-    let place = found.place;
+fn block(alloc: Global, style: Style, found: &mut FoundPdu) -> Result<Vec<u8>, End> {
+    let location = found.location;
     let said = show(alloc, style, &mut found.octets)?;
-    let mut text = match (style, place) {
-        (Style::Text, _) => format!(in alloc; "{place}: ")?,
-        (Style::Json, Place::Line(number)) => format!(in alloc; "{{\"line\":{number},\"pdu\":")?,
-        (Style::Json, Place::Offset(offset)) => format!(in alloc;
+    let mut text = match (style, location) {
+        (Style::Text, _) => format!(in alloc; "{location}: ")?,
+        (Style::Json, Location::Line(number)) => format!(in alloc; "{{\"line\":{number},\"pdu\":")?,
+        (Style::Json, Location::Offset(offset)) => format!(in alloc;
             "{{\"offset\":{offset},\"pdu\":"
         )?,
-        (Style::Json, Place::Frame(number)) => format!(in alloc; "{{\"frame\":{number},\"pdu\":")?,
+        (Style::Json, Location::Frame(number)) => format!(in alloc;
+            "{{\"frame\":{number},\"pdu\":"
+        )?,
     }
     .into_bytes();
     match style {
@@ -48,14 +50,14 @@ fn show_all<R: AllocGlobal + Clock + Eprint + Print>(
     rt: &R,
     style: Style,
     name: &str,
-    all: &mut [Found],
+    all: &mut [FoundPdu],
 ) -> Result<(), End> {
     let count = all.len();
-    let mut spent = Spent::new();
+    let mut spent = Elapsed::new();
     for (index, found) in all.iter_mut().enumerate() {
         let begun = Instant::now(rt);
         print(rt, &block(rt.alloc(), style, found)?)?;
-        let progress = Progress {
+        let progress = ProgressReport {
             done: index.saturating_add(1),
             count,
             what: "PDUs shown",

@@ -2,9 +2,9 @@
 
 use crate::end::End;
 use crate::input;
-use crate::part::{Owner, Part, line_of};
-use crate::plan::{Heading, Order, Plan, Source, Transaction, read_plan};
+use crate::plan::{Heading, PieceOrder, Plan, Source, Transaction, read_plan};
 use crate::section::PlanFault;
+use crate::setting_lines::{Owner, Part, line_of};
 use cfdp_pdus::checksum_type::MODULAR_CHECKSUM;
 use cfdp_pdus::{Header, Metadata};
 use cfdp_uploads::{Upload, UploadFault, in_order, piece_count, reversed, shortest_len, swapped};
@@ -30,7 +30,7 @@ fn wrong_at(alloc: Global, path: &str, text: &[u8], part: &Part, what: &str) -> 
 /// The indices of the pieces of a file of a size, in the order in which they are sent.
 fn indices(
     alloc: Global,
-    order: Order,
+    order: PieceOrder,
     size: usize,
     segment: usize,
 ) -> Result<Vec<usize>, AllocError> {
@@ -40,10 +40,10 @@ fn indices(
         piece_count(size, segment)
     };
     match order {
-        Order::InOrder => in_order(alloc, count),
-        Order::Reversed => reversed(alloc, count),
-        Order::Swapped => swapped(alloc, count),
-        Order::Listed(indices) => Ok(indices),
+        PieceOrder::InOrder => in_order(alloc, count),
+        PieceOrder::Reversed => reversed(alloc, count),
+        PieceOrder::Swapped => swapped(alloc, count),
+        PieceOrder::Listed(indices) => Ok(indices),
     }
 }
 

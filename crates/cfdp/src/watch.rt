@@ -3,7 +3,7 @@
 use crate::capture::{Capture, Direction};
 use crate::end::End;
 use cfdp_lines::{LineFault, NEWLINE, decode_words};
-use cfdp_run::{Command, CommandFault, Progress, default_mib, read_command};
+use cfdp_run::{CommandFault, HeadProgress, RunCommand, default_mib, read_command};
 use cfdp_words::{Style, show};
 use std::alloc::{AllocError, Global};
 use std::io::Write;
@@ -22,7 +22,7 @@ const NOT_TOLD: [&[u8]; 8] = [
 
 /// Whether PDUs are reported in words, and where they are captured.
 #[derive(Drop)]
-pub struct Watch<'a, F> {
+pub struct PduLog<'a, F> {
     tells: bool,
     capture: Option<Capture<'a, F>>,
     /// The greatest time so far.
@@ -80,10 +80,10 @@ fn push_words(
     out.extend_from_slice(b"\n")
 }
 
-impl<'a, F: Write + Drop> Watch<'a, F> {
+impl<'a, F: Write + Drop> PduLog<'a, F> {
     /// With a capture, if there is one.
-    pub fn new(tells: bool, capture: Option<Capture<'a, F>>) -> Watch<'a, F> {
-        Watch {
+    pub fn new(tells: bool, capture: Option<Capture<'a, F>>) -> PduLog<'a, F> {
+        PduLog {
             tells,
             capture,
             latest: 0,
@@ -119,13 +119,13 @@ impl<'a, F: Write + Drop> Watch<'a, F> {
 
     /// A line is carried out, which may be an input.
     fn input(&mut self, alloc: Global, line: &[u8], out: &mut Vec<u8>) -> Result<(), End> {
-        match read_command(alloc, line, default_mib(), Progress::Playing) {
-            Ok(Some(Command::Receive { now, octets })) => {
+        match read_command(alloc, line, default_mib(), HeadProgress::Playing) {
+            Ok(Some(RunCommand::Receive { now, octets })) => {
                 self.latest = self.latest.max(now);
                 let mut octets = octets;
                 self.pdu(alloc, Direction::Came, &mut octets, out)
             }
-            Ok(Some(Command::Cancel { now, id: _ } | Command::Pass { now })) => {
+            Ok(Some(RunCommand::Cancel { now, id: _ } | RunCommand::Pass { now })) => {
                 self.latest = self.latest.max(now);
                 Ok(())
             }

@@ -1,7 +1,7 @@
 //! The words of the command line.
 
 use crate::commands::program;
-use crate::compose::Player;
+use crate::compose::ScriptCommand;
 use crate::disturb::Odds;
 use crate::end::End;
 use crate::receive::LiveOptions;
@@ -15,13 +15,13 @@ use std::{env, io};
 
 /// What the words ask for.
 #[derive(Drop)]
-pub enum Asked<'a> {
+pub enum AskedCommand<'a> {
     /// To print this help, or the version.
     Help(String),
     /// To show the PDUs of this file, or of standard input without one.
     Show(Style, Option<&'a str>),
     /// To write the script of the plan in this file, for this command.
-    Compose(Player, &'a str),
+    Compose(ScriptCommand, &'a str),
     /// To judge the plan in this file, on what this folder has, if there is one.
     Judge(&'a str, Option<&'a str>),
     /// To play the script in this file, or of standard input without one.
@@ -46,7 +46,7 @@ pub fn read<R: AllocGlobal + Env>(rt: &R) -> Result<Vec<String>, End> {
 }
 
 /// What these words ask for, of which the first is the program's own name.
-pub fn parse<'a>(alloc: Global, words: &'a [String]) -> Result<Asked<'a>, End> {
+pub fn parse<'a>(alloc: Global, words: &'a [String]) -> Result<AskedCommand<'a>, End> {
     match matches(alloc, words) {
         Ok(matches) => match asked_by(&matches) {
             Some(asked) => Ok(asked),
@@ -63,29 +63,29 @@ fn matches<'a>(alloc: Global, words: &'a [String]) -> Result<ArgMatches<'a>, Err
 }
 
 /// What is said where the words are no command: help, or why not.
-fn refused<'a>(alloc: Global, error: &Error) -> Result<Asked<'a>, End> {
+fn refused<'a>(alloc: Global, error: &Error) -> Result<AskedCommand<'a>, End> {
     match error.kind() {
         ErrorKind::OutOfMemory => Err(End::Memory),
         ErrorKind::DisplayHelp | ErrorKind::DisplayVersion => {
-            Ok(Asked::Help(format!(in alloc; "{error}")?))
+            Ok(AskedCommand::Help(format!(in alloc; "{error}")?))
         }
         _ => Err(End::Words(format!(in alloc; "{error}")?)),
     }
 }
 
 /// What `compose` is asked for.
-fn compose<'a>(found: &ArgMatches<'a>) -> Option<Asked<'a>> {
+fn compose<'a>(found: &ArgMatches<'a>) -> Option<AskedCommand<'a>> {
     let plan = found.get_str("PLAN")?;
     let player = if found.get_flag("timed") {
-        Player::Run
+        ScriptCommand::Run
     } else {
-        Player::Replay
+        ScriptCommand::Replay
     };
-    Some(Asked::Compose(player, plan))
+    Some(AskedCommand::Compose(player, plan))
 }
 
 /// What `disturb` is asked for.
-fn disturb<'a>(found: &ArgMatches<'a>) -> Asked<'a> {
+fn disturb<'a>(found: &ArgMatches<'a>) -> AskedCommand<'a> {
     let percent = |name: &str| found.get_one(name).unwrap_or(0);
     let odds = Odds {
         loss: percent("loss"),
@@ -93,44 +93,44 @@ fn disturb<'a>(found: &ArgMatches<'a>) -> Asked<'a> {
         swap: percent("swap"),
     };
     let seed = found.get_one("seed").unwrap_or(1);
-    Asked::Disturb(odds, seed, found.get_str("FILE"))
+    AskedCommand::Disturb(odds, seed, found.get_str("FILE"))
 }
 
 /// What `run` is asked for.
-fn run<'a>(found: &ArgMatches<'a>) -> Asked<'a> {
+fn run<'a>(found: &ArgMatches<'a>) -> AskedCommand<'a> {
     let options = Options {
         tells: found.get_flag("tell"),
         into: found.get_str("into"),
         capture: found.get_str("pcap"),
     };
-    Asked::Run(found.get_str("FILE"), options)
+    AskedCommand::Run(found.get_str("FILE"), options)
 }
 
 /// What `receive` is asked for.
-fn receive<'a>(found: &ArgMatches<'a>) -> Option<Asked<'a>> {
+fn receive<'a>(found: &ArgMatches<'a>) -> Option<AskedCommand<'a>> {
     let into = found.get_str("into")?;
     let mib = found.get_str("mib");
-    Some(Asked::Receive(LiveOptions { into, mib }))
+    Some(AskedCommand::Receive(LiveOptions { into, mib }))
 }
 
 /// What `judge` is asked for.
-fn judge<'a>(found: &ArgMatches<'a>) -> Option<Asked<'a>> {
+fn judge<'a>(found: &ArgMatches<'a>) -> Option<AskedCommand<'a>> {
     let plan = found.get_str("PLAN")?;
-    Some(Asked::Judge(plan, found.get_str("on")))
+    Some(AskedCommand::Judge(plan, found.get_str("on")))
 }
 
 /// What `show` is asked for.
-fn show<'a>(found: &ArgMatches<'a>) -> Asked<'a> {
+fn show<'a>(found: &ArgMatches<'a>) -> AskedCommand<'a> {
     let style = if found.get_flag("json") {
         Style::Json
     } else {
         Style::Text
     };
-    Asked::Show(style, found.get_str("FILE"))
+    AskedCommand::Show(style, found.get_str("FILE"))
 }
 
 /// What the words ask for in which these matches were found: a command, with the words that it requires.
-fn asked_by<'a>(matches: &ArgMatches<'a>) -> Option<Asked<'a>> {
+fn asked_by<'a>(matches: &ArgMatches<'a>) -> Option<AskedCommand<'a>> {
     if let Some(found) = matches.subcommand_matches("compose") {
         return compose(found);
     }
@@ -141,7 +141,7 @@ fn asked_by<'a>(matches: &ArgMatches<'a>) -> Option<Asked<'a>> {
         return Some(run(found));
     }
     if let Some(found) = matches.subcommand_matches("draw") {
-        return Some(Asked::Draw(found.get_str("FILE")));
+        return Some(AskedCommand::Draw(found.get_str("FILE")));
     }
     if let Some(found) = matches.subcommand_matches("receive") {
         return receive(found);

@@ -2,7 +2,7 @@ pub mod PresentLaws
 pub mod RowLaws
 pub mod WeighedLaws
 pub mod ShownLaws
-pub mod SurveyLaws
+pub mod BlocksLaws
 pub mod BesideLaws
 pub mod StagedLaws
 pub mod StoreLaws

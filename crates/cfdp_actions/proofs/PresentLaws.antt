@@ -13,17 +13,17 @@ use Rattle.cfdp_paths.specs.Paths.{Path, path_cmp, same_path}
 use Rattle.cfdp_actions.specs.Prefixes.{same_paths}
 use Rattle.cfdp_actions.specs.code.Prefixes.{present}
 
-few_present : (places : List (Option Path)) → length (present places) ≤ length places
+few_present : (slots : List (Option Path)) → length (present slots) ≤ length slots
 few_present [] = omega arith
-few_present (None ∷ places) = let rest = few_present places in omega (arith, rest)
-few_present (Some path ∷ places) = let rest = few_present places in omega (arith, rest)
+few_present (None ∷ slots) = let rest = few_present slots in omega (arith, rest)
+few_present (Some path ∷ slots) = let rest = few_present slots in omega (arith, rest)
 
-pub present_at : (places : List (Option Path)) (k : ℕ) (d : Option Path) → length (present places) ≡ length places → k < length places
-    → slice_index_or places k d ≡ slice_get (present places) k
+pub present_at : (slots : List (Option Path)) (k : ℕ) (d : Option Path) → length (present slots) ≡ length slots → k < length slots
+    → slice_index_or slots k d ≡ slice_get (present slots) k
 present_at [] k d e h = absurd (omega arith)
-present_at (None ∷ places) k d e h = absurd (omega (arith, few_present places, e))
-present_at (Some path ∷ places) zero d e h = refl
-present_at (Some path ∷ places) (suc k) d e h = present_at places k d (omega (arith, e)) (omega (arith, h))
+present_at (None ∷ slots) k d e h = absurd (omega (arith, few_present slots, e))
+present_at (Some path ∷ slots) zero d e h = refl
+present_at (Some path ∷ slots) (suc k) d e h = present_at slots k d (omega (arith, e)) (omega (arith, h))
 
 pub present_after : (paths : List Path) (k : ℕ) → length paths ≤ k → None ≡ slice_get paths k
 present_after [] k h = refl

@@ -31,7 +31,7 @@ use Rattle.cfdp_actions.specs.Store.{Store, free_blocks, with_changes}
 use Rattle.cfdp_actions.specs.Listed.{vector_octets}
 use Rattle.cfdp_actions.specs.code.Listed.{Entries, shown_entries, entry_found, blocks_in, nodes_of, listed_store, IsListed}
 use Rattle.cfdp_actions.proofs.ShownLaws.{file_there}
-use Rattle.cfdp_actions.proofs.SurveyLaws.{blocks_of-bound, lists_blocks}
+use Rattle.cfdp_actions.proofs.BlocksLaws.{blocks_of-bound, lists_blocks}
 use Rattle.cfdp_actions.proofs.WeighedLaws.{weights-put, weights-without, weights-relocated-le, weights-relocated}
 use Rattle.cfdp_actions.proofs.Moves.{after-append}
 use Rattle.cfdp_actions.proofs.Order.{same_path-symm}

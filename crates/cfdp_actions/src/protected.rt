@@ -72,10 +72,10 @@ impl Protected {
     }
 
     /// The protected path with this index, from 0, in the order in which they were added.
-    pub fn get(&self, place: usize) -> Option<&Path>
-        ensures { option_copied result ≡ slice_get self.now place }
+    pub fn get(&self, index: usize) -> Option<&Path>
+        ensures { option_copied result ≡ slice_get self.now index }
     {
-        self.prefixes.as_slice().get(place)?.as_ref()
+        self.prefixes.as_slice().get(index)?.as_ref()
     }
 
     /// Whether the path is at or below a prefix.

@@ -11,7 +11,7 @@ use Rattle.cfdp_tree.specs.declared.listing.Found.{Found}
 use Rattle.cfdp_tree.specs.Found.{found_of, octets_read, with_octets}
 use Rattle.cfdp_tree.proofs.OfRuns.CopiedLaws.{none_copied}
 use Rattle.cfdp_c.specs.Answers.{answer_code}
-use Rattle.cfdp_c.specs.declared.answer.Answer.TheVariants.{Done, Nothing}
+use Rattle.cfdp_c.specs.declared.answer.CallAnswer.TheVariants.{Done, Nothing}
 use Rattle.cfdp_c.specs.Stored.{CopiesFile, node_fields}
 
 pub directory_told : (node : Option Node) (found : Found) → Some found ≡ option_map found_of node → found.kind ≡ kind.Directory →

@@ -12,10 +12,10 @@ use Rattle.cfdp_transactions.specs.declared.putting.NotPut.{NotPut}
 use Rattle.cfdp_transactions.specs.declared.putting.NotPut.TheVariants as not_put
 use Rattle.cfdp_entity.specs.declared.fault.NotHeard.{NotHeard}
 use Rattle.cfdp_entity.specs.declared.fault.NotHeard.TheVariants as unheard
-use Rattle.cfdp_c.specs.declared.answer.Answer.{Answer}
-use Rattle.cfdp_c.specs.declared.answer.Answer.TheVariants as answer
+use Rattle.cfdp_c.specs.declared.answer.CallAnswer.{CallAnswer}
+use Rattle.cfdp_c.specs.declared.answer.CallAnswer.TheVariants as answer
 
-abbrev pub answer_code : Answer → ℕ
+abbrev pub answer_code : CallAnswer → ℕ
 answer_code answer.Done = 0
 answer_code answer.NoEngine = 1
 answer_code answer.HasEngine = 2
@@ -47,20 +47,20 @@ answer_code answer.RequestTooLong = 39
 answer_code answer.BadCrc = 40
 
 -- a journal is no part of the engine
-abbrev pub config_answer : ConfigFault → Answer
+abbrev pub config_answer : ConfigFault → CallAnswer
 config_answer config.BadBlocks = answer.BadBlocks
 config_answer config.BadCap = answer.BadCap
 config_answer config.BadChecks = answer.BadChecks
 config_answer config.BadJournal = answer.BadChecks
 
-abbrev pub put_answer : NotPut → Answer
+abbrev pub put_answer : NotPut → CallAnswer
 put_answer not_put.HasTransactions = answer.HasTransactions
 put_answer not_put.Exists = answer.Exists
 put_answer not_put.NoParent = answer.NoParent
 put_answer not_put.NoRoom = answer.FilestoreFull
 put_answer not_put.Memory = answer.Memory
 
-abbrev pub fault_answer : PduFault → Answer
+abbrev pub fault_answer : PduFault → CallAnswer
 fault_answer pdu.Truncated = answer.Truncated
 fault_answer pdu.BadVersion = answer.BadVersion
 fault_answer pdu.CrcNotSupported = answer.CrcNotSupported
@@ -70,6 +70,6 @@ fault_answer pdu.BadTlv = answer.BadTlv
 fault_answer pdu.RequestTooLong = answer.RequestTooLong
 fault_answer pdu.Memory = answer.Memory
 
-abbrev pub unheard_answer : NotHeard → Answer
+abbrev pub unheard_answer : NotHeard → CallAnswer
 unheard_answer (unheard.Fault fault) = fault_answer fault
 unheard_answer unheard.NotOurs = answer.NotOurs

@@ -9,7 +9,7 @@ use Rattle.std.specs.Prelude.{◌≡◌, ◌⊎◌, ℕ, ◌<◌, ◌++◌, drop
 use Rattle.cfdp_status.specs.declared.transaction.TransactionId.{TransactionId}
 use Rattle.cfdp_transactions.specs.declared.event.Event.{Event}
 use Rattle.cfdp_transactions.specs.declared.event.Event.TheVariants.{Take}
-use Rattle.cfdp_transactions.specs.Engine.{outcome_in}
+use Rattle.cfdp_transactions.specs.CoreFields.{outcome_in}
 use Rattle.cfdp_transactions.specs.Events.{about}
 use Rattle.cfdp_transactions.specs.Next.{next}
 use Rattle.cfdp_transactions.specs.World.{World}
@@ -18,7 +18,7 @@ use Rattle.cfdp_entity.specs.Sending.{sent}
 use Rattle.cfdp_entity.specs.declared.fault.NotHeard.{NotHeard}
 use Rattle.cfdp_c.specs.Answers.{answer_code, unheard_answer}
 use Rattle.cfdp_c.specs.Told.{told}
-use Rattle.cfdp_c.specs.declared.answer.Answer.TheVariants.{Done, NoEngine, Memory, TooShort}
+use Rattle.cfdp_c.specs.declared.answer.CallAnswer.TheVariants.{Done, NoEngine, Memory, TooShort}
 use Rattle.cfdp_c.specs.declared.reply.ReplyFields.{ReplyFields}
 
 abbrev pub transaction_named : ℕ → ℕ → TransactionId

@@ -1,12 +1,12 @@
 pub mod Answers
 pub mod Numbers
 pub mod Told
-pub mod Making
+pub mod Creation
 pub mod Calls
 pub mod Reads
 pub mod Stored
 pub mod Shown
-pub mod Announced
+pub mod Metadata
 pub mod Next
 pub mod Puts
 pub mod Mibs

@@ -12,25 +12,25 @@ use Rattle.cfdp_receiver.specs.declared.mib.MibFault.{MibFault}
 use Rattle.cfdp_receiver.specs.declared.mib.MibFault.TheVariants as fault
 use Rattle.cfdp_receiver.specs.declared.mib.NakMode.{NakMode}
 use Rattle.cfdp_receiver.specs.declared.mib.NakMode.TheVariants.{Deferred, Immediate}
-use Rattle.cfdp_receiver.specs.Machine.{mib_fault}
+use Rattle.cfdp_receiver.specs.StateMachine.{mib_fault}
 use Rattle.cfdp_transactions.specs.Entry.{Entry}
 use Rattle.cfdp_transactions.specs.World.{World}
-use Rattle.cfdp_c.specs.declared.answer.Answer.{Answer}
-use Rattle.cfdp_c.specs.declared.answer.Answer.TheVariants.{BadHandler, BadNakMode, BadInterval, BadLimit, BadLongestNak, HasTransactions}
+use Rattle.cfdp_c.specs.declared.answer.CallAnswer.{CallAnswer}
+use Rattle.cfdp_c.specs.declared.answer.CallAnswer.TheVariants.{BadHandler, BadNakMode, BadInterval, BadLimit, BadLongestNak, HasTransactions}
 use Rattle.cfdp_c.specs.declared.mib.MibFields.{MibFields}
 
-abbrev pub handler_in : ℕ → Result Handler Answer
+abbrev pub handler_in : ℕ → Result Handler CallAnswer
 handler_in number =
     if number == 1 then Ok Cancel else if number == 2 then Ok Ignore else if number == 3 then Ok Abandon
     else Err BadHandler
 
-abbrev pub nak_mode_in : ℕ → Result NakMode Answer
+abbrev pub nak_mode_in : ℕ → Result NakMode CallAnswer
 nak_mode_in number = if number == 1 then Ok Deferred else if number == 2 then Ok Immediate else Err BadNakMode
 
 abbrev pub interval_in : ℕ → Option ℕ
 interval_in ticks = if ticks == 0 then None else Some ticks
 
-abbrev pub on_ok : {X Y : Type 0} → Result X Answer → (X → Result Y Answer) → Result Y Answer
+abbrev pub on_ok : {X Y : Type 0} → Result X CallAnswer → (X → Result Y CallAnswer) → Result Y CallAnswer
 on_ok (Ok x) next = next x
 on_ok (Err answer) next = Err answer
 
@@ -47,10 +47,10 @@ mib_of_fields fields ack nak check inactivity nak_mode = record {
 }
 
 -- the number of octets fits the standard's longest PDU
-abbrev pub sized : MibFields → Mib → Result Mib Answer
+abbrev pub sized : MibFields → Mib → Result Mib CallAnswer
 sized fields mib = if nat_lt fields.longest_nak 65536 then Ok mib else Err BadLongestNak
 
-abbrev pub mib_in : MibFields → Result Mib Answer
+abbrev pub mib_in : MibFields → Result Mib CallAnswer
 mib_in fields =
     on_ok (handler_in fields.ack_handler) (λ ack.
     on_ok (handler_in fields.nak_handler) (λ nak.
@@ -59,19 +59,19 @@ mib_in fields =
     on_ok (nak_mode_in fields.nak_mode) (λ nak_mode. sized fields
     (mib_of_fields fields ack nak check inactivity nak_mode))))))
 
-abbrev pub mib_answer : MibFault → Answer
+abbrev pub mib_answer : MibFault → CallAnswer
 mib_answer fault.Interval = BadInterval
 mib_answer fault.Limit = BadLimit
 mib_answer fault.LongestNak = BadLongestNak
 
-abbrev pub without_fault : Mib → Option MibFault → Result Mib Answer
+abbrev pub without_fault : Mib → Option MibFault → Result Mib CallAnswer
 without_fault mib None = Ok mib
 without_fault mib (Some why) = Err (mib_answer why)
 
-abbrev pub without_entries : Mib → List Entry → Result Mib Answer
+abbrev pub without_entries : Mib → List Entry → Result Mib CallAnswer
 without_entries mib [] = Ok mib
 without_entries mib (entry ∷ entries) = Err HasTransactions
 
-abbrev pub opened : MibFields → World → Result Mib Answer
+abbrev pub opened : MibFields → World → Result Mib CallAnswer
 opened fields W =
     on_ok (mib_in fields) (λ mib. on_ok (without_fault mib (mib_fault mib)) (λ mib. without_entries mib W.table))

@@ -11,9 +11,9 @@ use Rattle.cfdp_actions.specs.Filestore.{Filestore, Node, node_at}
 use Rattle.cfdp_tree.specs.Next.{IsNext, IsLast}
 use Rattle.cfdp_transactions.specs.World.{World}
 use Rattle.cfdp_c.specs.Answers.{answer_code}
-use Rattle.cfdp_c.specs.Making.{path_in_fields}
+use Rattle.cfdp_c.specs.Creation.{path_in_fields}
 use Rattle.cfdp_c.specs.Stored.{node_fields}
-use Rattle.cfdp_c.specs.declared.answer.Answer.TheVariants.{Done, NoEngine, Nothing, BadPath}
+use Rattle.cfdp_c.specs.declared.answer.CallAnswer.TheVariants.{Done, NoEngine, Nothing, BadPath}
 use Rattle.cfdp_c.specs.declared.fields.EntryFields.{EntryFields}
 use Rattle.cfdp_c.specs.declared.fields.PathFields.{PathFields}
 

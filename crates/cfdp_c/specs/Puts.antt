@@ -10,9 +10,9 @@ use Rattle.cfdp_transactions.specs.Beginning.{with_node, put_fault}
 use Rattle.cfdp_transactions.specs.declared.putting.NotPut.{NotPut}
 use Rattle.cfdp_transactions.specs.World.{World}
 use Rattle.cfdp_c.specs.Answers.{answer_code, put_answer}
-use Rattle.cfdp_c.specs.Making.{path_in_fields}
+use Rattle.cfdp_c.specs.Creation.{path_in_fields}
 use Rattle.cfdp_c.specs.Numbers.{entry_file, entry_directory}
-use Rattle.cfdp_c.specs.declared.answer.Answer.TheVariants as answer
+use Rattle.cfdp_c.specs.declared.answer.CallAnswer.TheVariants as answer
 use Rattle.cfdp_c.specs.declared.fields.PathFields.{PathFields}
 
 abbrev pub node_in : ℕ → List ℕ → Option Node

@@ -9,7 +9,7 @@ use Rattle.cfdp_transactions.specs.declared.phase.Phase.{Phase}
 use Rattle.cfdp_transactions.specs.declared.phase.Phase.TheVariants as phase
 use Rattle.cfdp_transactions.specs.World.{World, free, spare_blocks}
 use Rattle.cfdp_c.specs.Answers.{answer_code}
-use Rattle.cfdp_c.specs.declared.answer.Answer.TheVariants.{Done, NoEngine, Nothing}
+use Rattle.cfdp_c.specs.declared.answer.CallAnswer.TheVariants.{Done, NoEngine, Nothing}
 use Rattle.cfdp_c.specs.declared.fields.BlocksFields.{BlocksFields}
 use Rattle.cfdp_c.specs.declared.fields.GapFields.{GapFields}
 use Rattle.cfdp_c.specs.declared.fields.GrantFields.{GrantFields}
@@ -42,8 +42,8 @@ abbrev pub gap_fields : ℕ × ℕ → GapFields
 gap_fields gap = record { start = gap.0; end = gap.1 }
 
 abbrev pub gap_of : Option (List (ℕ × ℕ)) → ℕ → Option (ℕ × ℕ)
-gap_of None place = None
-gap_of (Some all) place = slice_get all place
+gap_of None index = None
+gap_of (Some all) index = slice_get all index
 
 abbrev pub blocks_fields : World → Option BlocksFields
 blocks_fields W = Some (record { free = free W; spare = spare_blocks W })

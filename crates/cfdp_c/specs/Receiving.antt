@@ -18,7 +18,7 @@ use Rattle.cfdp_receiver.specs.declared.reading.Dropped.{Dropped}
 use Rattle.cfdp_receiver.specs.declared.reading.Dropped.TheVariants as dropped
 use Rattle.cfdp_receiver.specs.Due.{first_due, first_over}
 use Rattle.cfdp_receiver.specs.Heard.{IsDropped}
-use Rattle.cfdp_receiver.specs.Machine.{has_come, is_any_due}
+use Rattle.cfdp_receiver.specs.StateMachine.{has_come, is_any_due}
 use Rattle.cfdp_receiver.specs.Sent.{as_sent, crc_len, longest_sealed}
 use Rattle.cfdp_receiver.specs.State.{Input, State, Finish, begin}
 use Rattle.cfdp_reception.specs.Reception.{ReceptionFields, Turned, Hears, pdus_in}
@@ -27,8 +27,8 @@ use Rattle.cfdp_c.specs.Answers.{answer_code, fault_answer}
 use Rattle.cfdp_c.specs.Mibs.{opened}
 use Rattle.cfdp_c.specs.Reads.{Found}
 use Rattle.cfdp_c.specs.Reports.{report_of}
-use Rattle.cfdp_c.specs.declared.answer.Answer.{Answer}
-use Rattle.cfdp_c.specs.declared.answer.Answer.TheVariants.{Done, NoEngine, HasEngine, Memory, TooShort, Nothing, Truncated, BadVersion, LengthMismatch, BadCrc}
+use Rattle.cfdp_c.specs.declared.answer.CallAnswer.{CallAnswer}
+use Rattle.cfdp_c.specs.declared.answer.CallAnswer.TheVariants.{Done, NoEngine, HasEngine, Memory, TooShort, Nothing, Truncated, BadVersion, LengthMismatch, BadCrc}
 use Rattle.cfdp_c.specs.declared.mib.MibFields.{MibFields}
 use Rattle.cfdp_c.specs.declared.reports.ReportFields.{ReportFields}
 
@@ -52,7 +52,7 @@ abbrev pub ReportsHeard : ℕ → List ℕ → ReceptionFields → Option Recept
 ReportsHeard now octets S None report = ⊥
 ReportsHeard now octets S (Some T) report = Hears now octets S T × (report ≡ report_of T)
 
-abbrev pub dropped_answer : Dropped → Answer
+abbrev pub dropped_answer : Dropped → CallAnswer
 dropped_answer (dropped.Crc crc.Truncated) = Truncated
 dropped_answer (dropped.Crc crc.BadVersion) = BadVersion
 dropped_answer (dropped.Crc crc.LengthMismatch) = LengthMismatch
@@ -117,7 +117,7 @@ IsBegun mib W None = ⊥
 IsBegun mib W (Some S) = (S.machine.state ≡ begin mib W) × (S.answer ≡ None)
 
 -- out of memory the engine is freed with what was put into it
-abbrev pub ReceiverOpensOver : Result Mib Answer → World → Option World → Option ReceptionFields → ℕ → Type 0
+abbrev pub ReceiverOpensOver : Result Mib CallAnswer → World → Option World → Option ReceptionFields → ℕ → Type 0
 ReceiverOpensOver (Err why) W engine after answer = (engine ≡ Some W) × (after ≡ None) × (answer ≡ answer_code why)
 ReceiverOpensOver (Ok mib) W engine after answer =
     (engine ≡ None) × ((IsBegun mib W after × (answer ≡ answer_code Done)) ⊎

@@ -13,7 +13,7 @@ use Rattle.cfdp_receiver.specs.declared.answer.Indication.{Indication}
 use Rattle.cfdp_receiver.specs.declared.answer.Indication.TheVariants.{MetadataRecv, FileSegmentRecv, EofRecv, TransactionFinished, Fault, Abandoned}
 use Rattle.cfdp_receiver.specs.declared.answer.Word.{Word}
 use Rattle.cfdp_receiver.specs.declared.answer.Word.TheVariants as words
-use Rattle.cfdp_receiver.specs.Machine.{AnswerParts}
+use Rattle.cfdp_receiver.specs.StateMachine.{AnswerParts}
 use Rattle.cfdp_reception.specs.Reception.{ReceptionFields, pdus_in}
 use Rattle.cfdp_c.specs.Calls.{transaction_named}
 use Rattle.cfdp_c.specs.Numbers.{reply_none}

@@ -19,7 +19,7 @@ use Rattle.cfdp_status.specs.Transaction.{transaction_name}
 use Rattle.cfdp_status.specs.declared.status.Status.{Status}
 use Rattle.cfdp_status.specs.declared.transaction.TransactionId.{TransactionId}
 use Rattle.cfdp_pdus.specs.declared.fault.PduFault.TheVariants as fault
-use Rattle.cfdp_verifier.specs.declared.refusal.Place.TheVariants as place
+use Rattle.cfdp_verifier.specs.declared.refusal.Place.TheVariants as index
 use Rattle.cfdp_verifier.specs.declared.refusal.Refusal.{Refusal}
 use Rattle.cfdp_verifier.specs.declared.refusal.Refusal.TheVariants as refusal
 use Rattle.cfdp_transactions.specs.declared.reply.Reply.{Reply}
@@ -30,7 +30,7 @@ use Rattle.cfdp_c.specs.Answers.{answer_code}
 use Rattle.cfdp_c.specs.Calls.{transaction_named}
 use Rattle.cfdp_c.specs.Numbers.{reply_admitted, reply_refused, reply_stored, reply_dropped, reply_complete, reply_waiting, reply_faulted, reply_performed, reply_installed, reply_finished, reply_cancelled, reply_taken, reply_duplicate, reply_unknown, reply_idle, reply_not_for_us, reply_table_full, refusal_too_many_requests, refusal_bad_destination, refusal_bad_request_path, refusal_conflict, refusal_destination_not_allowed, refusal_would_fail, refusal_too_long, refusal_no_room}
 use Rattle.cfdp_c.specs.Told.{told}
-use Rattle.cfdp_c.specs.declared.answer.Answer.TheVariants.{Done, Memory, Nothing, TooShort, NotOurs, Truncated, BadVersion, CrcNotSupported, LengthMismatch, BadDirective, BadTlv, RequestTooLong}
+use Rattle.cfdp_c.specs.declared.answer.CallAnswer.TheVariants.{Done, Memory, Nothing, TooShort, NotOurs, Truncated, BadVersion, CrcNotSupported, LengthMismatch, BadDirective, BadTlv, RequestTooLong}
 use Rattle.cfdp_c.specs.declared.reply.ReplyFields.{ReplyFields}
 
 abbrev pub small : ℕ → Option ℕ
@@ -46,8 +46,8 @@ failure_in fields = option_and_then (λ request. option_map (λ status. refusal.
 abbrev pub refusals : ReplyFields → List (ℕ × Option Refusal)
 refusals fields =
     (refusal_too_many_requests, Some refusal.TooManyRequests)
-    ∷ (refusal_bad_destination, Some (refusal.BadPath place.Destination))
-    ∷ (refusal_bad_request_path, option_map (λ request. refusal.BadPath (place.Request request)) (small fields.request))
+    ∷ (refusal_bad_destination, Some (refusal.BadPath index.Destination))
+    ∷ (refusal_bad_request_path, option_map (λ request. refusal.BadPath (index.Request request)) (small fields.request))
     ∷ (refusal_conflict, Some (refusal.Conflict (transaction_named fields.other_source fields.other_number)))
     ∷ (refusal_destination_not_allowed, Some refusal.DestinationNotAllowed)
     ∷ (refusal_would_fail, failure_in fields)
@@ -140,7 +140,7 @@ Writes (Some text) out written before count answer =
     PutsText text out written count answer ⊎ ((written ≡ out) × (count ≡ before) × (answer ≡ answer_code Memory))
 
 abbrev pub IsTold : Reply → Type 0
-IsTold (reply.Refused (refusal.BadPath (place.Request request))) = request < 256
+IsTold (reply.Refused (refusal.BadPath (index.Request request))) = request < 256
 IsTold (reply.Refused (refusal.WouldFail request status)) = request < 256
 IsTold (reply.Faulted condition) = condition < 256
 IsTold reply.Memory = ⊥

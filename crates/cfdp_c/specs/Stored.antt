@@ -11,10 +11,10 @@ use Rattle.cfdp_checksum.specs.Checksum.{checksum}
 use Rattle.cfdp_tree.specs.Found.{fitting, with_octets}
 use Rattle.cfdp_transactions.specs.World.{World}
 use Rattle.cfdp_c.specs.Answers.{answer_code}
-use Rattle.cfdp_c.specs.Making.{path_in_fields}
+use Rattle.cfdp_c.specs.Creation.{path_in_fields}
 use Rattle.cfdp_c.specs.Numbers.{entry_file, entry_directory}
 use Rattle.cfdp_c.specs.Reads.{Found}
-use Rattle.cfdp_c.specs.declared.answer.Answer.TheVariants.{Done, NoEngine, Nothing, BadPath}
+use Rattle.cfdp_c.specs.declared.answer.CallAnswer.TheVariants.{Done, NoEngine, Nothing, BadPath}
 use Rattle.cfdp_c.specs.declared.fields.EntryFields.{EntryFields}
 use Rattle.cfdp_c.specs.declared.fields.PathFields.{PathFields}
 

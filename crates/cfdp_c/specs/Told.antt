@@ -6,7 +6,7 @@
 use Rattle.std.specs.Prelude.{ℕ}
 use Rattle.cfdp_status.specs.Codes.{octet_of}
 use Rattle.cfdp_status.specs.declared.transaction.TransactionId.{TransactionId}
-use Rattle.cfdp_verifier.specs.declared.refusal.Place.TheVariants as place
+use Rattle.cfdp_verifier.specs.declared.refusal.Place.TheVariants as index
 use Rattle.cfdp_verifier.specs.declared.refusal.Refusal.{Refusal}
 use Rattle.cfdp_verifier.specs.declared.refusal.Refusal.TheVariants as refusal
 use Rattle.cfdp_transactions.specs.declared.reply.Reply.{Reply}
@@ -33,9 +33,9 @@ bare id kind = record {
 abbrev pub refusal_fields : TransactionId → Refusal → ReplyFields
 refusal_fields id refusal.TooManyRequests =
     record (bare id reply_refused) { refusal = refusal_too_many_requests }
-refusal_fields id (refusal.BadPath place.Destination) =
+refusal_fields id (refusal.BadPath index.Destination) =
     record (bare id reply_refused) { refusal = refusal_bad_destination }
-refusal_fields id (refusal.BadPath (place.Request request)) =
+refusal_fields id (refusal.BadPath (index.Request request)) =
     record (bare id reply_refused) { refusal = refusal_bad_request_path; request = request }
 refusal_fields id (refusal.Conflict other) = record (bare id reply_refused) {
   refusal = refusal_conflict;

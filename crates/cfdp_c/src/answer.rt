@@ -9,7 +9,7 @@ use cfdp_transactions::{ConfigFault, NotPut};
 
 /// What a call returns. Unless its documentation says otherwise, any answer but `Done` leaves all state unchanged.
 #[derive(Clone, Copy, Debug, PartialEq, Eq)]
-pub(crate) enum Answer {
+pub(crate) enum CallAnswer {
     /// The call was done.
     Done,
     /// There is no engine, or no receiver: it was not yet made, or was freed.
@@ -70,92 +70,92 @@ pub(crate) enum Answer {
     BadCrc,
 }
 
-impl Answer {
+impl CallAnswer {
     /// Its number in C.
     pub(crate) fn code(self) -> u32
         ensures { result ≡ answer_code self }
     {
         match self {
-            Answer::Done => numbers::ANSWER_DONE,
-            Answer::NoEngine => numbers::ANSWER_NO_ENGINE,
-            Answer::HasEngine => numbers::ANSWER_HAS_ENGINE,
-            Answer::Memory => numbers::ANSWER_NO_MEMORY,
-            Answer::TooShort => numbers::ANSWER_TOO_SHORT,
-            Answer::Nothing => numbers::ANSWER_NOTHING,
-            Answer::BadBlocks => numbers::ANSWER_BAD_BLOCKS,
-            Answer::BadCap => numbers::ANSWER_BAD_CAP,
-            Answer::BadChecks => numbers::ANSWER_BAD_CHECKS,
-            Answer::BadPath => numbers::ANSWER_BAD_PATH,
-            Answer::HasTransactions => numbers::ANSWER_HAS_TRANSACTIONS,
-            Answer::Exists => numbers::ANSWER_EXISTS,
-            Answer::NoParent => numbers::ANSWER_NO_PARENT,
-            Answer::FilestoreFull => numbers::ANSWER_FILESTORE_FULL,
-            Answer::TooManyPrefixes => numbers::ANSWER_TOO_MANY_PREFIXES,
-            Answer::BadHandler => numbers::ANSWER_BAD_HANDLER,
-            Answer::BadNakMode => numbers::ANSWER_BAD_NAK_MODE,
-            Answer::BadInterval => numbers::ANSWER_BAD_INTERVAL,
-            Answer::BadLimit => numbers::ANSWER_BAD_LIMIT,
-            Answer::BadLongestNak => numbers::ANSWER_BAD_LONGEST_NAK,
-            Answer::NotOurs => numbers::ANSWER_NOT_OURS,
-            Answer::Truncated => numbers::ANSWER_TRUNCATED,
-            Answer::BadVersion => numbers::ANSWER_BAD_VERSION,
-            Answer::CrcNotSupported => numbers::ANSWER_CRC_NOT_SUPPORTED,
-            Answer::LengthMismatch => numbers::ANSWER_LENGTH_MISMATCH,
-            Answer::BadDirective => numbers::ANSWER_BAD_DIRECTIVE,
-            Answer::BadTlv => numbers::ANSWER_BAD_TLV,
-            Answer::RequestTooLong => numbers::ANSWER_REQUEST_TOO_LONG,
-            Answer::BadCrc => numbers::ANSWER_BAD_CRC,
+            CallAnswer::Done => numbers::ANSWER_DONE,
+            CallAnswer::NoEngine => numbers::ANSWER_NO_ENGINE,
+            CallAnswer::HasEngine => numbers::ANSWER_HAS_ENGINE,
+            CallAnswer::Memory => numbers::ANSWER_NO_MEMORY,
+            CallAnswer::TooShort => numbers::ANSWER_TOO_SHORT,
+            CallAnswer::Nothing => numbers::ANSWER_NOTHING,
+            CallAnswer::BadBlocks => numbers::ANSWER_BAD_BLOCKS,
+            CallAnswer::BadCap => numbers::ANSWER_BAD_CAP,
+            CallAnswer::BadChecks => numbers::ANSWER_BAD_CHECKS,
+            CallAnswer::BadPath => numbers::ANSWER_BAD_PATH,
+            CallAnswer::HasTransactions => numbers::ANSWER_HAS_TRANSACTIONS,
+            CallAnswer::Exists => numbers::ANSWER_EXISTS,
+            CallAnswer::NoParent => numbers::ANSWER_NO_PARENT,
+            CallAnswer::FilestoreFull => numbers::ANSWER_FILESTORE_FULL,
+            CallAnswer::TooManyPrefixes => numbers::ANSWER_TOO_MANY_PREFIXES,
+            CallAnswer::BadHandler => numbers::ANSWER_BAD_HANDLER,
+            CallAnswer::BadNakMode => numbers::ANSWER_BAD_NAK_MODE,
+            CallAnswer::BadInterval => numbers::ANSWER_BAD_INTERVAL,
+            CallAnswer::BadLimit => numbers::ANSWER_BAD_LIMIT,
+            CallAnswer::BadLongestNak => numbers::ANSWER_BAD_LONGEST_NAK,
+            CallAnswer::NotOurs => numbers::ANSWER_NOT_OURS,
+            CallAnswer::Truncated => numbers::ANSWER_TRUNCATED,
+            CallAnswer::BadVersion => numbers::ANSWER_BAD_VERSION,
+            CallAnswer::CrcNotSupported => numbers::ANSWER_CRC_NOT_SUPPORTED,
+            CallAnswer::LengthMismatch => numbers::ANSWER_LENGTH_MISMATCH,
+            CallAnswer::BadDirective => numbers::ANSWER_BAD_DIRECTIVE,
+            CallAnswer::BadTlv => numbers::ANSWER_BAD_TLV,
+            CallAnswer::RequestTooLong => numbers::ANSWER_REQUEST_TOO_LONG,
+            CallAnswer::BadCrc => numbers::ANSWER_BAD_CRC,
         }
     }
 
     /// What is returned for a number outside its limits. The calls from C have no journal, so its length is
     /// always within its limits.
-    pub(crate) fn of_config(fault: ConfigFault) -> Answer
+    pub(crate) fn of_config(fault: ConfigFault) -> CallAnswer
         ensures { result ≡ config_answer fault }
     {
         match fault {
-            ConfigFault::BadBlocks => Answer::BadBlocks,
-            ConfigFault::BadCap => Answer::BadCap,
-            ConfigFault::BadChecks | ConfigFault::BadJournal => Answer::BadChecks,
+            ConfigFault::BadBlocks => CallAnswer::BadBlocks,
+            ConfigFault::BadCap => CallAnswer::BadCap,
+            ConfigFault::BadChecks | ConfigFault::BadJournal => CallAnswer::BadChecks,
         }
     }
 
     /// What is returned if nothing was put into the filestore.
-    pub(crate) fn of_not_put(why: NotPut) -> Answer
+    pub(crate) fn of_not_put(why: NotPut) -> CallAnswer
         ensures { result ≡ put_answer why }
     {
         match why {
-            NotPut::HasTransactions => Answer::HasTransactions,
-            NotPut::Exists => Answer::Exists,
-            NotPut::NoParent => Answer::NoParent,
-            NotPut::NoRoom => Answer::FilestoreFull,
-            NotPut::Memory => Answer::Memory,
+            NotPut::HasTransactions => CallAnswer::HasTransactions,
+            NotPut::Exists => CallAnswer::Exists,
+            NotPut::NoParent => CallAnswer::NoParent,
+            NotPut::NoRoom => CallAnswer::FilestoreFull,
+            NotPut::Memory => CallAnswer::Memory,
         }
     }
 
     /// What is returned for a fault of reading.
-    pub(crate) fn of_fault(fault: PduFault) -> Answer
+    pub(crate) fn of_fault(fault: PduFault) -> CallAnswer
         ensures { result ≡ fault_answer fault }
     {
         match fault {
-            PduFault::Truncated => Answer::Truncated,
-            PduFault::BadVersion => Answer::BadVersion,
-            PduFault::CrcNotSupported => Answer::CrcNotSupported,
-            PduFault::LengthMismatch => Answer::LengthMismatch,
-            PduFault::BadDirective => Answer::BadDirective,
-            PduFault::BadTlv => Answer::BadTlv,
-            PduFault::RequestTooLong => Answer::RequestTooLong,
-            PduFault::Memory => Answer::Memory,
+            PduFault::Truncated => CallAnswer::Truncated,
+            PduFault::BadVersion => CallAnswer::BadVersion,
+            PduFault::CrcNotSupported => CallAnswer::CrcNotSupported,
+            PduFault::LengthMismatch => CallAnswer::LengthMismatch,
+            PduFault::BadDirective => CallAnswer::BadDirective,
+            PduFault::BadTlv => CallAnswer::BadTlv,
+            PduFault::RequestTooLong => CallAnswer::RequestTooLong,
+            PduFault::Memory => CallAnswer::Memory,
         }
     }
 
     /// What is returned for octets that got no reply.
-    pub(crate) fn of_unheard(why: NotHeard) -> Answer
+    pub(crate) fn of_unheard(why: NotHeard) -> CallAnswer
         ensures { result ≡ unheard_answer why }
     {
         match why {
-            NotHeard::Fault(fault) => Answer::of_fault(fault),
-            NotHeard::NotOurs => Answer::NotOurs,
+            NotHeard::Fault(fault) => CallAnswer::of_fault(fault),
+            NotHeard::NotOurs => CallAnswer::NotOurs,
         }
     }
 }

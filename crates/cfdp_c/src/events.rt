@@ -5,10 +5,10 @@ ghost use Rattle.cfdp_transactions.specs.Next.{next};
 ghost use Rattle.cfdp_transactions.specs.Writable.{longest_finished};
 ghost use Rattle.cfdp_entity.specs.Sending.{sent};
 ghost use Rattle.cfdp_c.specs.Answers.{answer_code};
-ghost use Rattle.cfdp_c.specs.declared.answer.Answer.TheVariants.{Memory as OutOfMemory};
+ghost use Rattle.cfdp_c.specs.declared.answer.CallAnswer.TheVariants.{Memory as OutOfMemory};
 ghost use Rattle.cfdp_c.specs.Calls.{DoesEvent, Receives, Takes, transaction_named};
 
-use crate::answer::Answer;
+use crate::answer::CallAnswer;
 use crate::handle::Handle;
 use crate::reply::ReplyFields;
 use cfdp_status::TransactionId;
@@ -26,14 +26,14 @@ pub extern "C" fn cfdp_receive(
     ensures { Receives octets.now engine.old.slot.engine engine.new.slot.engine reply.old reply.new result }
 {
     let Some(mut entity) = engine.take(alloc) else {
-        return Answer::NoEngine.code();
+        return CallAnswer::NoEngine.code();
     };
     let answer = match entity.receive(alloc, octets) {
         Ok((id, told)) => {
             *reply = ReplyFields::of(id, &told);
-            Answer::Done
+            CallAnswer::Done
         }
-        Err(why) => Answer::of_unheard(why),
+        Err(why) => CallAnswer::of_unheard(why),
     };
     engine.put(entity);
     answer.code()
@@ -53,12 +53,12 @@ pub extern "C" fn cfdp_step(
         result }
 {
     let Some(mut entity) = engine.take(alloc) else {
-        return Answer::NoEngine.code();
+        return CallAnswer::NoEngine.code();
     };
     let id = TransactionId { source, number };
     *reply = ReplyFields::of(id, &entity.step(id));
     engine.put(entity);
-    Answer::Done.code()
+    CallAnswer::Done.code()
 }
 
 /// A transaction is cancelled.
@@ -75,12 +75,12 @@ pub extern "C" fn cfdp_cancel(
         result }
 {
     let Some(mut entity) = engine.take(alloc) else {
-        return Answer::NoEngine.code();
+        return CallAnswer::NoEngine.code();
     };
     let id = TransactionId { source, number };
     *reply = ReplyFields::of(id, &entity.cancel(id));
     engine.put(entity);
-    Answer::Done.code()
+    CallAnswer::Done.code()
 }
 
 /// A transaction's check timer expired.
@@ -97,12 +97,12 @@ pub extern "C" fn cfdp_check(
         result }
 {
     let Some(mut entity) = engine.take(alloc) else {
-        return Answer::NoEngine.code();
+        return CallAnswer::NoEngine.code();
     };
     let id = TransactionId { source, number };
     *reply = ReplyFields::of(id, &entity.check(id));
     engine.put(entity);
-    Answer::Done.code()
+    CallAnswer::Done.code()
 }
 
 /// The outcome of a transaction is taken, and its Finished PDU written into `out`, where it is to be sent. Takes no
@@ -125,23 +125,23 @@ pub extern "C" fn cfdp_take(
         (sent (next W (Take (transaction_named source number))).1) ≤ longest_finished) }
 {
     let Some(mut entity) = engine.take(alloc) else {
-        return Answer::NoEngine.code();
+        return CallAnswer::NoEngine.code();
     };
     let id = TransactionId { source, number };
     let answer = match entity.take_finished(id, out) {
         Ok(Some(taken)) => {
             *reply = ReplyFields::taken(id, taken.condition);
             *count = taken.len;
-            Answer::Done
+            CallAnswer::Done
         }
         Ok(None) => {
             *reply = ReplyFields::of(id, &entity.apply(&Event::Take(id)));
             *count = 0;
-            Answer::Done
+            CallAnswer::Done
         }
         Err(short) => {
             *count = short.needed;
-            Answer::TooShort
+            CallAnswer::TooShort
         }
     };
     engine.put(entity);

@@ -2,7 +2,7 @@
 ghost use Rattle.std.specs.Prelude.{◌≡◌, ◌==◌, Some, None, IsTrue, IsNone, MatchOption, is_some};
 ghost use Rattle.cfdp_c.specs.declared.handle.TheConstants.{MARK};
 
-use crate::slot::Slot;
+use crate::slot::EngineSlot;
 use cfdp_entity::Entity;
 use std::alloc::Global;
 
@@ -13,7 +13,7 @@ const MARK: u32 = 0x4346_4450;
 #[repr(C)]
 pub struct Handle {
     mark: u32,
-    pub(crate) slot: Slot,
+    pub(crate) slot: EngineSlot,
     ghost ok: { (mark == MARK) ≡ is_some slot.engine },
 }
 
@@ -24,7 +24,7 @@ impl Handle {
     {
         Handle {
             mark: 0,
-            slot: Slot::empty(),
+            slot: EngineSlot::empty(),
         }
     }
 
@@ -50,7 +50,7 @@ impl Handle {
     {
         let full = Handle {
             mark: MARK,
-            slot: Slot::holding(engine),
+            slot: EngineSlot::holding(engine),
         };
         std::mem::replace(self, full).discard();
     }

@@ -8,12 +8,12 @@
 //! receiver with timers (`receiver_handle`, `receiving`, `reports`, `mib`).
 #![tactic(auto)]
 
-mod announced;
 mod answer;
+mod creation;
 mod events;
 mod fields;
 mod handle;
-mod making;
+mod metadata;
 mod mib;
 mod next;
 mod numbers;
@@ -31,9 +31,9 @@ mod slot;
 mod store;
 mod texts;
 
-pub use announced::{cfdp_destination_name, cfdp_metadata, cfdp_source_name};
+pub use creation::{cfdp_engine_octets, cfdp_free, cfdp_new};
 pub use events::{cfdp_cancel, cfdp_check, cfdp_receive, cfdp_step, cfdp_take};
-pub use making::{cfdp_engine_octets, cfdp_free, cfdp_new};
+pub use metadata::{cfdp_destination_name, cfdp_metadata, cfdp_source_name};
 pub use next::cfdp_next;
 pub use puts::cfdp_put;
 pub use reads::{

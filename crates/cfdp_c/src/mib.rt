@@ -2,7 +2,7 @@
 ghost use Rattle.std.specs.Prelude.{◌≡◌, Err, Ok};
 ghost use Rattle.cfdp_c.specs.Mibs.{handler_in, interval_in, mib_answer, mib_in, nak_mode_in};
 
-use crate::answer::Answer;
+use crate::answer::CallAnswer;
 use crate::numbers;
 use cfdp_receiver::{Handler, Mib, MibFault, NakMode, Retries, Watch};
 
@@ -41,25 +41,25 @@ pub struct MibFields {
 }
 
 /// The fault handler of a number.
-fn handler_of(number: u32) -> Result<Handler, Answer>
+fn handler_of(number: u32) -> Result<Handler, CallAnswer>
     ensures { result ≡ handler_in number }
 {
     match number {
         numbers::HANDLER_CANCEL => Ok(Handler::Cancel),
         numbers::HANDLER_IGNORE => Ok(Handler::Ignore),
         numbers::HANDLER_ABANDON => Ok(Handler::Abandon),
-        _ => Err(Answer::BadHandler),
+        _ => Err(CallAnswer::BadHandler),
     }
 }
 
 /// When lost segments are asked for, by its number.
-fn nak_mode_of(number: u32) -> Result<NakMode, Answer>
+fn nak_mode_of(number: u32) -> Result<NakMode, CallAnswer>
     ensures { result ≡ nak_mode_in number }
 {
     match number {
         numbers::NAK_DEFERRED => Ok(NakMode::Deferred),
         numbers::NAK_IMMEDIATE => Ok(NakMode::Immediate),
-        _ => Err(Answer::BadNakMode),
+        _ => Err(CallAnswer::BadNakMode),
     }
 }
 
@@ -71,7 +71,7 @@ fn interval_of(ticks: u32) -> Option<u32>
 }
 
 /// The management information base that is given as a struct, or the first of its numbers that says nothing.
-pub(crate) fn mib_of(fields: &MibFields) -> Result<Mib, Answer>
+pub(crate) fn mib_of(fields: &MibFields) -> Result<Mib, CallAnswer>
     ensures { result ≡ mib_in fields.now }
 {
     let ack = handler_of(fields.ack_handler)?;
@@ -80,7 +80,7 @@ pub(crate) fn mib_of(fields: &MibFields) -> Result<Mib, Answer>
     let inactivity = handler_of(fields.inactivity_handler)?;
     let nak_mode = nak_mode_of(fields.nak_mode)?;
     let Ok(longest_nak) = u16::try_from(fields.longest_nak) else {
-        return Err(Answer::BadLongestNak);
+        return Err(CallAnswer::BadLongestNak);
     };
     Ok(Mib {
         ack: Retries {
@@ -108,15 +108,15 @@ pub(crate) fn mib_of(fields: &MibFields) -> Result<Mib, Answer>
     })
 }
 
-impl Answer {
+impl CallAnswer {
     /// What is returned for a value of the management information base that is out of range.
-    pub(crate) fn of_mib(fault: MibFault) -> Answer
+    pub(crate) fn of_mib(fault: MibFault) -> CallAnswer
         ensures { result ≡ mib_answer fault }
     {
         match fault {
-            MibFault::Interval => Answer::BadInterval,
-            MibFault::Limit => Answer::BadLimit,
-            MibFault::LongestNak => Answer::BadLongestNak,
+            MibFault::Interval => CallAnswer::BadInterval,
+            MibFault::Limit => CallAnswer::BadLimit,
+            MibFault::LongestNak => CallAnswer::BadLongestNak,
         }
     }
 }

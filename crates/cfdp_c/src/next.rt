@@ -4,9 +4,9 @@ ghost use Rattle.cfdp_paths.specs.Paths.{IsName};
 ghost use Rattle.cfdp_c.specs.Answers.{answer_code};
 ghost use Rattle.cfdp_c.specs.Next.{NextOrNone, GoesOnFrom, TellsNext, cursor_in, spelled_fields};
 ghost use Rattle.cfdp_c.specs.code.Next.{kind_number};
-ghost use Rattle.cfdp_c.specs.declared.answer.Answer.TheVariants.{BadPath};
+ghost use Rattle.cfdp_c.specs.declared.answer.CallAnswer.TheVariants.{BadPath};
 
-use crate::answer::Answer;
+use crate::answer::CallAnswer;
 use crate::fields::{EntryFields, PATH_OCTETS, PathFields};
 use crate::handle::Handle;
 use crate::numbers;
@@ -19,7 +19,7 @@ use std::alloc::Global;
 
 /// The names of the path that is given as a struct, lent out of its octets; none where there are no octets. Takes no
 /// memory.
-fn cursor_of(fields: &mut PathFields) -> Result<Names<'_>, Answer>
+fn cursor_of(fields: &mut PathFields) -> Result<Names<'_>, CallAnswer>
     ensures ok { IfOk result (λ names. cursor_in fields.old ≡ Some names) }
     ensures names { IfOk result (All IsName) }
     ensures err { IfErr result (λ answer. (answer ≡ BadPath) × (cursor_in fields.old ≡ None)) }
@@ -59,14 +59,14 @@ fn go_on(
     after: Names<'_>,
     path: &mut PathFields,
     entry: &mut EntryFields,
-) -> Answer
+) -> CallAnswer
     requires { All IsName after }
     ensures { NextOrNone core.now.world.filestore after.entry path.old path.new entry.old entry.new
         (answer_code result) }
 {
     let mut text = [0; PATH_OCTETS];
     let Some(found) = core.store().next_entry(after, &mut text) else {
-        return Answer::Nothing;
+        return CallAnswer::Nothing;
     };
     let (_, spelled) = text.split_at(found.start);
     *path = path_fields(spelled);
@@ -75,7 +75,7 @@ fn go_on(
         checksum: found.checksum,
         size: found.size,
     };
-    Answer::Done
+    CallAnswer::Done
 }
 
 /// Goes on from the path of a struct, where its octets spell one.
@@ -83,7 +83,7 @@ pub(crate) fn go_on_from(
     core: &Core<TreeStore>,
     path: &mut PathFields,
     entry: &mut EntryFields,
-) -> Answer
+) -> CallAnswer
     ensures { GoesOnFrom (cursor_in path.old) core.now.world.filestore path.old path.new entry.old entry.new
         (answer_code result) }
 {
@@ -106,7 +106,7 @@ pub extern "C" fn cfdp_next(
     ensures kept { engine.new.slot.engine ≡ engine.old.slot.engine }
 {
     let Some(entity) = engine.take(alloc) else {
-        return Answer::NoEngine.code();
+        return CallAnswer::NoEngine.code();
     };
     let answer = go_on_from(entity.core(), path, entry);
     engine.put(entity);

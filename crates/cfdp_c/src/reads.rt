@@ -1,13 +1,13 @@
 //! What an engine says of its transactions and its blocks. Nothing here takes memory or changes anything.
 ghost use Rattle.std.specs.Prelude.{◌≡◌, ◌≤◌, IfSome, length, map, slice_get};
 ghost use Rattle.std.specs.Option.{option_map};
-ghost use Rattle.cfdp_transactions.specs.Engine.{read_of};
+ghost use Rattle.cfdp_transactions.specs.CoreFields.{read_of};
 ghost use Rattle.cfdp_transactions.specs.Entry.{gaps, name_of, progress, reach};
 ghost use Rattle.cfdp_transactions.specs.World.{next_outcome, next_runnable};
 ghost use Rattle.cfdp_c.specs.Calls.{transaction_named};
 ghost use Rattle.cfdp_c.specs.Reads.{Reads, blocks_fields, gap_fields, gap_of, grant_fields, name_fields, phase_fields};
 
-use crate::answer::Answer;
+use crate::answer::CallAnswer;
 use crate::fields::{BlocksFields, GapFields, GrantFields, NameFields, PhaseFields};
 use crate::handle::Handle;
 use crate::numbers;
@@ -33,12 +33,12 @@ fn phase_fields(phase: Phase) -> PhaseFields
 }
 
 /// The gap with this index in a transaction's file.
-fn gap_at(core: &Core<TreeStore>, id: TransactionId, place: usize) -> Option<GapFields>
-    ensures gap { result ≡ option_map gap_fields (gap_of (read_of gaps core.now.world id) place) }
+fn gap_at(core: &Core<TreeStore>, id: TransactionId, index: usize) -> Option<GapFields>
+    ensures gap { result ≡ option_map gap_fields (gap_of (read_of gaps core.now.world id) index) }
     ensures few { IfSome (read_of gaps core.now.world id) (λ all. length all ≤ 33) }
 {
     let gaps = core.gaps(id)?;
-    let (start, end) = *gaps.as_slice().get(place)?;
+    let (start, end) = *gaps.as_slice().get(index)?;
     Some(GapFields { start, end })
 }
 
@@ -54,16 +54,16 @@ pub extern "C" fn cfdp_next_runnable(
     ensures kept { engine.new.slot.engine ≡ engine.old.slot.engine }
 {
     let Some(entity) = engine.take(alloc) else {
-        return Answer::NoEngine.code();
+        return CallAnswer::NoEngine.code();
     };
     let answer = match entity.core().next_runnable() {
-        None => Answer::Nothing,
+        None => CallAnswer::Nothing,
         Some(id) => {
             *transaction = NameFields {
                 source: id.source,
                 number: id.number,
             };
-            Answer::Done
+            CallAnswer::Done
         }
     };
     engine.put(entity);
@@ -82,16 +82,16 @@ pub extern "C" fn cfdp_next_outcome(
     ensures kept { engine.new.slot.engine ≡ engine.old.slot.engine }
 {
     let Some(entity) = engine.take(alloc) else {
-        return Answer::NoEngine.code();
+        return CallAnswer::NoEngine.code();
     };
     let answer = match entity.core().next_outcome() {
-        None => Answer::Nothing,
+        None => CallAnswer::Nothing,
         Some(id) => {
             *transaction = NameFields {
                 source: id.source,
                 number: id.number,
             };
-            Answer::Done
+            CallAnswer::Done
         }
     };
     engine.put(entity);
@@ -111,16 +111,16 @@ pub extern "C" fn cfdp_transaction_at(
     ensures kept { engine.new.slot.engine ≡ engine.old.slot.engine }
 {
     let Some(entity) = engine.take(alloc) else {
-        return Answer::NoEngine.code();
+        return CallAnswer::NoEngine.code();
     };
     let answer = match entity.core().transaction_at(index) {
-        None => Answer::Nothing,
+        None => CallAnswer::Nothing,
         Some(id) => {
             *transaction = NameFields {
                 source: id.source,
                 number: id.number,
             };
-            Answer::Done
+            CallAnswer::Done
         }
     };
     engine.put(entity);
@@ -141,13 +141,13 @@ pub extern "C" fn cfdp_phase(
     ensures kept { engine.new.slot.engine ≡ engine.old.slot.engine }
 {
     let Some(entity) = engine.take(alloc) else {
-        return Answer::NoEngine.code();
+        return CallAnswer::NoEngine.code();
     };
     let answer = match entity.core().phase(TransactionId { source, number }) {
-        None => Answer::Nothing,
+        None => CallAnswer::Nothing,
         Some(told) => {
             *phase = phase_fields(told);
-            Answer::Done
+            CallAnswer::Done
         }
     };
     engine.put(entity);
@@ -168,13 +168,13 @@ pub extern "C" fn cfdp_grant(
     ensures kept { engine.new.slot.engine ≡ engine.old.slot.engine }
 {
     let Some(entity) = engine.take(alloc) else {
-        return Answer::NoEngine.code();
+        return CallAnswer::NoEngine.code();
     };
     let answer = match entity.core().grant(TransactionId { source, number }) {
-        None => Answer::Nothing,
+        None => CallAnswer::Nothing,
         Some((blocks, steps)) => {
             *grant = GrantFields { blocks, steps };
-            Answer::Done
+            CallAnswer::Done
         }
     };
     engine.put(entity);
@@ -196,13 +196,13 @@ pub extern "C" fn cfdp_blocks_spent(
     ensures kept { engine.new.slot.engine ≡ engine.old.slot.engine }
 {
     let Some(entity) = engine.take(alloc) else {
-        return Answer::NoEngine.code();
+        return CallAnswer::NoEngine.code();
     };
     let answer = match entity.core().blocks_spent(TransactionId { source, number }) {
-        None => Answer::Nothing,
+        None => CallAnswer::Nothing,
         Some(spent) => {
             *blocks = spent;
-            Answer::Done
+            CallAnswer::Done
         }
     };
     engine.put(entity);
@@ -224,13 +224,13 @@ pub extern "C" fn cfdp_steps_spent(
     ensures kept { engine.new.slot.engine ≡ engine.old.slot.engine }
 {
     let Some(entity) = engine.take(alloc) else {
-        return Answer::NoEngine.code();
+        return CallAnswer::NoEngine.code();
     };
     let answer = match entity.core().steps_spent(TransactionId { source, number }) {
-        None => Answer::Nothing,
+        None => CallAnswer::Nothing,
         Some(spent) => {
             *steps = spent;
-            Answer::Done
+            CallAnswer::Done
         }
     };
     engine.put(entity);
@@ -244,7 +244,7 @@ pub extern "C" fn cfdp_blocks(alloc: Global, engine: &mut Handle, blocks: &mut B
     ensures kept { engine.new.slot.engine ≡ engine.old.slot.engine }
 {
     let Some(entity) = engine.take(alloc) else {
-        return Answer::NoEngine.code();
+        return CallAnswer::NoEngine.code();
     };
     let core = entity.core();
     *blocks = BlocksFields {
@@ -252,7 +252,7 @@ pub extern "C" fn cfdp_blocks(alloc: Global, engine: &mut Handle, blocks: &mut B
         spare: core.spare(),
     };
     engine.put(entity);
-    Answer::Done.code()
+    CallAnswer::Done.code()
 }
 
 /// What is missing of a transaction's file: the gap with this index, from 0.
@@ -262,23 +262,23 @@ pub extern "C" fn cfdp_gap(
     engine: &mut Handle,
     source: u64,
     number: u64,
-    place: usize,
+    index: usize,
     gap: &mut GapFields,
 ) -> u32
-    ensures read { Reads (λ W. option_map gap_fields (gap_of (read_of gaps W (transaction_named source number)) place))
+    ensures read { Reads (λ W. option_map gap_fields (gap_of (read_of gaps W (transaction_named source number)) index))
         engine.old.slot.engine gap.old gap.new result }
     ensures few { IfSome engine.old.slot.engine (λ W. IfSome (read_of gaps W (transaction_named source number))
         (λ all. length all ≤ 33)) }
     ensures kept { engine.new.slot.engine ≡ engine.old.slot.engine }
 {
     let Some(entity) = engine.take(alloc) else {
-        return Answer::NoEngine.code();
+        return CallAnswer::NoEngine.code();
     };
-    let answer = match gap_at(entity.core(), TransactionId { source, number }, place) {
-        None => Answer::Nothing,
+    let answer = match gap_at(entity.core(), TransactionId { source, number }, index) {
+        None => CallAnswer::Nothing,
         Some(found) => {
             *gap = found;
-            Answer::Done
+            CallAnswer::Done
         }
     };
     engine.put(entity);
@@ -300,13 +300,13 @@ pub extern "C" fn cfdp_progress(
     ensures kept { engine.new.slot.engine ≡ engine.old.slot.engine }
 {
     let Some(entity) = engine.take(alloc) else {
-        return Answer::NoEngine.code();
+        return CallAnswer::NoEngine.code();
     };
     let answer = match entity.core().progress(TransactionId { source, number }) {
-        None => Answer::Nothing,
+        None => CallAnswer::Nothing,
         Some(found) => {
             *offset = found;
-            Answer::Done
+            CallAnswer::Done
         }
     };
     engine.put(entity);
@@ -328,13 +328,13 @@ pub extern "C" fn cfdp_reach(
     ensures kept { engine.new.slot.engine ≡ engine.old.slot.engine }
 {
     let Some(entity) = engine.take(alloc) else {
-        return Answer::NoEngine.code();
+        return CallAnswer::NoEngine.code();
     };
     let answer = match entity.core().reach(TransactionId { source, number }) {
-        None => Answer::Nothing,
+        None => CallAnswer::Nothing,
         Some(found) => {
             *offset = found;
-            Answer::Done
+            CallAnswer::Done
         }
     };
     engine.put(entity);

@@ -1,13 +1,13 @@
 //! What a receiver says of its filestore and of its transactions. Nothing here takes memory or changes anything.
 ghost use Rattle.std.specs.Prelude.{◌≡◌};
 ghost use Rattle.std.specs.Option.{option_map};
-ghost use Rattle.cfdp_c.specs.Announced.{WritesName, metadata_of};
+ghost use Rattle.cfdp_c.specs.Metadata.{WritesName, metadata_of};
 ghost use Rattle.cfdp_c.specs.Calls.{transaction_named};
 ghost use Rattle.cfdp_c.specs.Next.{TellsNext};
 ghost use Rattle.cfdp_c.specs.Receiving.{world_in};
 ghost use Rattle.cfdp_c.specs.Stored.{LooksUp, ReadsFile};
 
-use crate::answer::Answer;
+use crate::answer::CallAnswer;
 use crate::fields::{EntryFields, PathFields};
 use crate::next::go_on_from;
 use crate::receiver_handle::ReceiverHandle;
@@ -28,7 +28,7 @@ pub extern "C" fn cfdp_receiver_look_up(
     ensures kept { receiver.new.slot.receiver ≡ receiver.old.slot.receiver }
 {
     let Some(reception) = receiver.take(alloc) else {
-        return Answer::NoEngine.code();
+        return CallAnswer::NoEngine.code();
     };
     let answer = tell_entry(reception.entity().core(), path, entry);
     receiver.put(reception);
@@ -50,7 +50,7 @@ pub extern "C" fn cfdp_receiver_read(
     ensures kept { receiver.new.slot.receiver ≡ receiver.old.slot.receiver }
 {
     let Some(reception) = receiver.take(alloc) else {
-        return Answer::NoEngine.code();
+        return CallAnswer::NoEngine.code();
     };
     let answer = copy_path(reception.entity().core(), path, at, out, count);
     receiver.put(reception);
@@ -69,7 +69,7 @@ pub extern "C" fn cfdp_receiver_next(
     ensures kept { receiver.new.slot.receiver ≡ receiver.old.slot.receiver }
 {
     let Some(reception) = receiver.take(alloc) else {
-        return Answer::NoEngine.code();
+        return CallAnswer::NoEngine.code();
     };
     let answer = go_on_from(reception.entity().core(), path, entry);
     receiver.put(reception);
@@ -92,14 +92,14 @@ pub extern "C" fn cfdp_receiver_destination_name(
     ensures kept { receiver.new.slot.receiver ≡ receiver.old.slot.receiver }
 {
     let Some(reception) = receiver.take(alloc) else {
-        return Answer::NoEngine.code();
+        return CallAnswer::NoEngine.code();
     };
     let answer = match reception
         .entity()
         .core()
         .metadata(TransactionId { source, number })
     {
-        None => Answer::Nothing,
+        None => CallAnswer::Nothing,
         Some(announced) => put(&announced.destination_name, out, count),
     };
     receiver.put(reception);

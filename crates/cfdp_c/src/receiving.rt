@@ -8,7 +8,7 @@ ghost use Rattle.cfdp_c.specs.Calls.{transaction_named};
 ghost use Rattle.cfdp_c.specs.Mibs.{opened};
 ghost use Rattle.cfdp_c.specs.Receiving.{ReceiverDoes, TakesFinished, ReceiverFrees, ReceiverOpens, ReceiverReceives, TellsDeadline, WritesSent, WritesPdu, dropped_answer};
 
-use crate::answer::Answer;
+use crate::answer::CallAnswer;
 use crate::handle::Handle;
 use crate::mib::{MibFields, mib_of};
 use crate::receiver_handle::ReceiverHandle;
@@ -21,15 +21,15 @@ use cfdp_status::TransactionId;
 use std::alloc::{AllocError, Global};
 
 /// The management information base for a receiver over an entity, or why there is none.
-fn opened(fields: &MibFields, entity: &Entity) -> Result<Mib, Answer>
+fn opened(fields: &MibFields, entity: &Entity) -> Result<Mib, CallAnswer>
     ensures { result ≡ opened fields.now entity.now }
 {
     let mib = mib_of(fields)?;
     if let Some(fault) = mib.fault() {
-        return Err(Answer::of_mib(fault));
+        return Err(CallAnswer::of_mib(fault));
     }
     if entity.core().transaction_at(0).is_some() {
-        return Err(Answer::HasTransactions);
+        return Err(CallAnswer::HasTransactions);
     }
     Ok(mib)
 }
@@ -57,10 +57,10 @@ pub extern "C" fn cfdp_receiver_new(
         receiver.new.slot.receiver result }
 {
     if receiver.has_receiver() {
-        return Answer::HasEngine.code();
+        return CallAnswer::HasEngine.code();
     }
     let Some(entity) = engine.take(alloc) else {
-        return Answer::NoEngine.code();
+        return CallAnswer::NoEngine.code();
     };
     let mib = match opened(mib, &entity) {
         Ok(mib) => mib,
@@ -72,9 +72,9 @@ pub extern "C" fn cfdp_receiver_new(
     match make(alloc, mib, Box::into_inner(entity)) {
         Ok(made) => {
             receiver.put(made);
-            Answer::Done.code()
+            CallAnswer::Done.code()
         }
-        Err(_) => Answer::Memory.code(),
+        Err(_) => CallAnswer::Memory.code(),
     }
 }
 
@@ -85,24 +85,24 @@ pub extern "C" fn cfdp_receiver_free(alloc: Global, receiver: &mut ReceiverHandl
     ensures freed { receiver.new.slot.receiver ≡ None }
 {
     match receiver.take(alloc) {
-        None => Answer::NoEngine.code(),
+        None => CallAnswer::NoEngine.code(),
         Some(reception) => {
             drop(reception);
-            Answer::Done.code()
+            CallAnswer::Done.code()
         }
     }
 }
 
 /// What is returned for octets that were dropped.
-fn answer_of(why: Dropped) -> Answer
+fn answer_of(why: Dropped) -> CallAnswer
     ensures { result ≡ dropped_answer why }
 {
     match why {
-        Dropped::Crc(CrcFault::Truncated) => Answer::Truncated,
-        Dropped::Crc(CrcFault::BadVersion) => Answer::BadVersion,
-        Dropped::Crc(CrcFault::LengthMismatch) => Answer::LengthMismatch,
-        Dropped::Crc(CrcFault::BadCrc) => Answer::BadCrc,
-        Dropped::Pdu(fault) => Answer::of_fault(fault),
+        Dropped::Crc(CrcFault::Truncated) => CallAnswer::Truncated,
+        Dropped::Crc(CrcFault::BadVersion) => CallAnswer::BadVersion,
+        Dropped::Crc(CrcFault::LengthMismatch) => CallAnswer::LengthMismatch,
+        Dropped::Crc(CrcFault::BadCrc) => CallAnswer::BadCrc,
+        Dropped::Pdu(fault) => CallAnswer::of_fault(fault),
     }
 }
 
@@ -119,12 +119,12 @@ pub extern "C" fn cfdp_receiver_receive(
         report.new result }
 {
     let Some(mut reception) = receiver.take(alloc) else {
-        return Answer::NoEngine.code();
+        return CallAnswer::NoEngine.code();
     };
     let answer = match reception.receive(alloc, now, octets) {
         Ok(()) => {
             *report = ReportFields::of(&reception);
-            Answer::Done
+            CallAnswer::Done
         }
         Err(why) => answer_of(why),
     };
@@ -144,12 +144,12 @@ pub extern "C" fn cfdp_receiver_expire(
         result }
 {
     let Some(mut reception) = receiver.take(alloc) else {
-        return Answer::NoEngine.code();
+        return CallAnswer::NoEngine.code();
     };
     reception.expire(now);
     *report = ReportFields::of(&reception);
     receiver.put(reception);
-    Answer::Done.code()
+    CallAnswer::Done.code()
 }
 
 /// The next item of the first transaction that has one is performed.
@@ -164,12 +164,12 @@ pub extern "C" fn cfdp_receiver_work(
         result }
 {
     let Some(mut reception) = receiver.take(alloc) else {
-        return Answer::NoEngine.code();
+        return CallAnswer::NoEngine.code();
     };
     reception.work(now);
     *report = ReportFields::of(&reception);
     receiver.put(reception);
-    Answer::Done.code()
+    CallAnswer::Done.code()
 }
 
 /// The outcome of the first transaction that is over is taken.
@@ -183,14 +183,14 @@ pub extern "C" fn cfdp_receiver_finish(
     ensures { TakesFinished now receiver.old.slot.receiver receiver.new.slot.receiver report.old report.new result }
 {
     let Some(mut reception) = receiver.take(alloc) else {
-        return Answer::NoEngine.code();
+        return CallAnswer::NoEngine.code();
     };
     let answer = match reception.finish(alloc, now) {
         Ok(()) => {
             *report = ReportFields::of(&reception);
-            Answer::Done
+            CallAnswer::Done
         }
-        Err(_) => Answer::Memory,
+        Err(_) => CallAnswer::Memory,
     };
     receiver.put(reception);
     answer.code()
@@ -211,12 +211,12 @@ pub extern "C" fn cfdp_receiver_cancel(
         report.old report.new result }
 {
     let Some(mut reception) = receiver.take(alloc) else {
-        return Answer::NoEngine.code();
+        return CallAnswer::NoEngine.code();
     };
     reception.cancel(now, TransactionId { source, number });
     *report = ReportFields::of(&reception);
     receiver.put(reception);
-    Answer::Done.code()
+    CallAnswer::Done.code()
 }
 
 /// The names of the transactions that were closed last are forgotten.
@@ -230,12 +230,12 @@ pub extern "C" fn cfdp_receiver_forget_closed(
         result }
 {
     let Some(mut reception) = receiver.take(alloc) else {
-        return Answer::NoEngine.code();
+        return CallAnswer::NoEngine.code();
     };
     reception.forget_closed();
     *report = ReportFields::of(&reception);
     receiver.put(reception);
-    Answer::Done.code()
+    CallAnswer::Done.code()
 }
 
 /// The moment from which on a timer is due.
@@ -249,13 +249,13 @@ pub extern "C" fn cfdp_receiver_deadline(
     ensures kept { receiver.new.slot.receiver ≡ receiver.old.slot.receiver }
 {
     let Some(reception) = receiver.take(alloc) else {
-        return Answer::NoEngine.code();
+        return CallAnswer::NoEngine.code();
     };
     let answer = match reception.deadline() {
-        None => Answer::Nothing,
+        None => CallAnswer::Nothing,
         Some(due) => {
             *moment = due;
-            Answer::Done
+            CallAnswer::Done
         }
     };
     receiver.put(reception);
@@ -263,17 +263,17 @@ pub extern "C" fn cfdp_receiver_deadline(
 }
 
 /// Writes the PDU with this number of the last answer.
-fn write_pdu(reception: &Reception, number: usize, out: &mut [u8], count: &mut usize) -> Answer
+fn write_pdu(reception: &Reception, number: usize, out: &mut [u8], count: &mut usize) -> CallAnswer
     ensures { WritesSent reception.now.machine.state.mib
         (slice_get (pdus_in reception.now) number) out.old out.new count.old count.new (answer_code result) }
 {
     match reception.write(number, out) {
         Ok(len) => {
             *count = len;
-            Answer::Done
+            CallAnswer::Done
         }
-        Err(NotWritten::NoMore) => Answer::Nothing,
-        Err(NotWritten::TooShort) => Answer::TooShort,
+        Err(NotWritten::NoMore) => CallAnswer::Nothing,
+        Err(NotWritten::TooShort) => CallAnswer::TooShort,
     }
 }
 
@@ -290,7 +290,7 @@ pub extern "C" fn cfdp_receiver_write(
     ensures kept { receiver.new.slot.receiver ≡ receiver.old.slot.receiver }
 {
     let Some(reception) = receiver.take(alloc) else {
-        return Answer::NoEngine.code();
+        return CallAnswer::NoEngine.code();
     };
     let answer = write_pdu(&reception, number, out, count);
     receiver.put(reception);

@@ -13,23 +13,23 @@ use std::marker::{Model, Send};
 /// A pointer to an engine on the heap, or to nothing. C keeps it, and never reads what it points to. It has no `Drop`,
 /// so that a slot whose engine is forgotten is refused.
 #[repr(C)]
-pub struct Slot {
+pub struct EngineSlot {
     at: *mut u8,
     ghost engine: { Option World } by { coded_option entity.the_row.coded },
 }
 
-impl Model for Slot {
+impl Model for EngineSlot {
     ghost also_owns = { λ s. slot_owns s.at s.engine };
 }
 
-unsafe impl Send for Slot {}
+unsafe impl Send for EngineSlot {}
 
-impl Slot {
+impl EngineSlot {
     /// A slot with no engine.
-    pub(crate) fn empty() -> Slot
+    pub(crate) fn empty() -> EngineSlot
         ensures { result.engine ≡ None }
     {
-        Slot {
+        EngineSlot {
             at: std::ptr::null_mut(),
         }
     }
@@ -38,15 +38,15 @@ impl Slot {
     pub(crate) fn discard(self)
         requires { IsNone self.engine }
     {
-        let Slot { at: _ } = self;
+        let EngineSlot { at: _ } = self;
     }
 
     /// A slot with this engine.
-    fn of_raw_box(engine: RawBox<Entity, Global>) -> Slot
+    fn of_raw_box(engine: RawBox<Entity, Global>) -> EngineSlot
         ensures { result.engine ≡ Some engine.value }
     {
         let RawBox { at, alloc: _ } = engine;
-        Slot { at: at as *mut u8 }
+        EngineSlot { at: at as *mut u8 }
     }
 
     /// The engine of the slot.
@@ -54,7 +54,7 @@ impl Slot {
         requires { IsSome self.engine }
         ensures { self.engine ≡ Some result.value }
     {
-        let Slot { at } = self;
+        let EngineSlot { at } = self;
         RawBox {
             at: at as *mut Entity,
             alloc,
@@ -62,10 +62,10 @@ impl Slot {
     }
 
     /// A slot with this engine.
-    pub(crate) fn holding(engine: Box<Entity>) -> Slot
+    pub(crate) fn holding(engine: Box<Entity>) -> EngineSlot
         ensures { result.engine ≡ Some engine.value }
     {
-        Slot::of_raw_box(RawBox::of(engine))
+        EngineSlot::of_raw_box(RawBox::of(engine))
     }
 
     /// The engine of the slot.

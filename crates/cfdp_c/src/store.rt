@@ -3,10 +3,10 @@ ghost use Rattle.std.specs.Prelude.{◌≡◌, All};
 ghost use Rattle.cfdp_actions.specs.Filestore.{node_at};
 ghost use Rattle.cfdp_paths.specs.Paths.{IsName};
 ghost use Rattle.cfdp_c.specs.Answers.{answer_code};
-ghost use Rattle.cfdp_c.specs.Making.{path_in_fields};
+ghost use Rattle.cfdp_c.specs.Creation.{path_in_fields};
 ghost use Rattle.cfdp_c.specs.Stored.{CopiesFile, CopiesPath, Looks, LooksUp, ReadsFile, looked};
 
-use crate::answer::Answer;
+use crate::answer::CallAnswer;
 use crate::fields::{EntryFields, PathFields};
 use crate::handle::Handle;
 use crate::numbers;
@@ -41,16 +41,16 @@ fn copy_file(
     at: u64,
     out: &mut [u8],
     count: &mut usize,
-) -> Answer
+) -> CallAnswer
     requires { All IsName names }
     ensures { CopiesFile (node_at core.now.world.filestore names.entry) at out.old out.new count.old count.new
         (answer_code result) }
 {
     match core.store().read_at(names, at, out) {
-        None => Answer::Nothing,
+        None => CallAnswer::Nothing,
         Some(copied) => {
             *count = copied;
-            Answer::Done
+            CallAnswer::Done
         }
     }
 }
@@ -60,7 +60,7 @@ pub(crate) fn tell_entry(
     core: &Core<TreeStore>,
     path: &PathFields,
     entry: &mut EntryFields,
-) -> Answer
+) -> CallAnswer
     ensures { Looks (path_in_fields path.now) core.now.world entry.old entry.new (answer_code result) }
 {
     let mut path = *path;
@@ -69,10 +69,10 @@ pub(crate) fn tell_entry(
         Ok(names) => names,
     };
     match look_up(core, names) {
-        None => Answer::Nothing,
+        None => CallAnswer::Nothing,
         Some(found) => {
             *entry = found;
-            Answer::Done
+            CallAnswer::Done
         }
     }
 }
@@ -84,7 +84,7 @@ pub(crate) fn copy_path(
     at: u64,
     out: &mut [u8],
     count: &mut usize,
-) -> Answer
+) -> CallAnswer
     ensures { CopiesPath (path_in_fields path.now) core.now.world at out.old out.new count.old count.new
         (answer_code result) }
 {
@@ -107,7 +107,7 @@ pub extern "C" fn cfdp_look_up(
     ensures kept { engine.new.slot.engine ≡ engine.old.slot.engine }
 {
     let Some(entity) = engine.take(alloc) else {
-        return Answer::NoEngine.code();
+        return CallAnswer::NoEngine.code();
     };
     let answer = tell_entry(entity.core(), path, entry);
     engine.put(entity);
@@ -128,7 +128,7 @@ pub extern "C" fn cfdp_read(
     ensures kept { engine.new.slot.engine ≡ engine.old.slot.engine }
 {
     let Some(entity) = engine.take(alloc) else {
-        return Answer::NoEngine.code();
+        return CallAnswer::NoEngine.code();
     };
     let answer = copy_path(entity.core(), path, at, out, count);
     engine.put(entity);

@@ -5,7 +5,7 @@ ghost use Rattle.cfdp_status.specs.Codes.{beside, status_octets};
 ghost use Rattle.cfdp_c.specs.Answers.{answer_code};
 ghost use Rattle.cfdp_c.specs.Shown.{HasWidths, PutsText, PutsAny, ShownAsReplayed, Writes, answer_line, failure_in, longest_line, refusal_in, reply_in, reply_shown, small, status_numbered, with_end};
 
-use crate::answer::Answer;
+use crate::answer::CallAnswer;
 use crate::numbers;
 use crate::reply::ReplyFields;
 use cfdp_pdus::PduFault;
@@ -121,16 +121,16 @@ fn end(out: &mut [u8])
 
 /// Writes a text to the beginning of a buffer, and a 0 after it where there is room, and returns its length; or returns
 /// only that, where it does not fit.
-pub(crate) fn put(text: &[u8], out: &mut [u8], count: &mut usize) -> Answer
+pub(crate) fn put(text: &[u8], out: &mut [u8], count: &mut usize) -> CallAnswer
     ensures { PutsText text.now out.old out.new count.new (answer_code result) }
 {
     *count = text.len();
     if out.len() < text.len() {
-        return Answer::TooShort;
+        return CallAnswer::TooShort;
     }
     out[..text.len()].copy_from_slice(text);
     end(&mut out[text.len()..]);
-    Answer::Done
+    CallAnswer::Done
 }
 
 /// The line that `replay` writes of a reply.
@@ -149,8 +149,8 @@ pub extern "C" fn cfdp_reply_text(
     ensures as_replay { ShownAsReplayed }
 {
     match line_of(alloc, reply, octets) {
-        Err(_) => Answer::Memory.code(),
-        Ok(None) => Answer::Nothing.code(),
+        Err(_) => CallAnswer::Memory.code(),
+        Ok(None) => CallAnswer::Nothing.code(),
         Ok(Some(line)) => put(&line, out, count).code(),
     }
 }
@@ -180,7 +180,7 @@ pub extern "C" fn cfdp_answer_text(answer: u32, out: &mut [u8], count: &mut usiz
     ensures most { IfSome (answer_line answer) (λ line. length line ≤ 29) }
 {
     let answer = match answer_line(answer) {
-        None => Answer::Nothing,
+        None => CallAnswer::Nothing,
         Some(line) => put(line, out, count),
     };
     answer.code()

@@ -4,21 +4,21 @@ use Rattle.std.proofs.lemmas.Bool.{cases_lt}
 use Rattle.std.proofs.lemmas.List.{drop_all, length-take-le}
 use Rattle.byteorder.specs.Endian.{big_number}
 use Rattle.cfdp_checksum.specs.Checksum.{octet_weight, weighed_from, checksum_at, checksum}
-use Rattle.cfdp_checksum.specs.Laws.{PiecesAddUp, OffsetsAddUp, OnlyPlacesCount, ZerosAddNothing, PartsAreReplaced}
+use Rattle.cfdp_checksum.specs.Laws.{PiecesAddUp, OffsetsAddUp, OnlyWordOffsetsCount, ZerosAddNothing, PartsAreReplaced}
 
 -- the position in a word says all
-weight-place : (i j : ℕ) → i % 4 ≡ j % 4 → octet_weight i ≡ octet_weight j
-weight-place i j same = ap (λ (k : ℕ). 256 ^ (3 - k)) same
+weight-offset : (i j : ℕ) → i % 4 ≡ j % 4 → octet_weight i ≡ octet_weight j
+weight-offset i j same = ap (λ (k : ℕ). 256 ^ (3 - k)) same
 
-weighed-place : (i j : ℕ) (octets : List ℕ) → i % 4 ≡ j % 4 → weighed_from i octets ≡ weighed_from j octets
+weighed-offset : (i j : ℕ) (octets : List ℕ) → i % 4 ≡ j % 4 → weighed_from i octets ≡ weighed_from j octets
 unfolding weighed_from
-weighed-place i j [] same = refl
-weighed-place i j (octet ∷ octets) same =
+weighed-offset i j [] same = refl
+weighed-offset i j (octet ∷ octets) same =
     let next : (i + 1) % 4 ≡ (j + 1) % 4 = omega (arith, same) in
-    (λ k. octet * weight-place i j same k + weighed-place (i + 1) (j + 1) octets next k)
+    (λ k. octet * weight-offset i j same k + weighed-offset (i + 1) (j + 1) octets next k)
 
-pub only-places-count : OnlyPlacesCount
-only-places-count i j octets same = ap (λ n. n % 2 ^ 32) (weighed-place i j octets same)
+pub only-word-offsets-count : OnlyWordOffsetsCount
+only-word-offsets-count i j octets same = ap (λ n. n % 2 ^ 32) (weighed-offset i j octets same)
 
 -- a word in front
 pub weighed-word : (octets : List ℕ) → 4 ≤ length octets → weighed_from 0 octets ≡ big_number 4 octets + weighed_from 0 (drop 4 octets)
@@ -27,15 +27,16 @@ weighed-word [] long = absurd (omega arith)
 weighed-word (a ∷ []) long = absurd (omega arith)
 weighed-word (a ∷ b ∷ []) long = absurd (omega arith)
 weighed-word (a ∷ b ∷ c ∷ []) long = absurd (omega arith)
-weighed-word (a ∷ b ∷ c ∷ d ∷ octets) long = omega (arith, weighed-place 4 0 octets refl)
+weighed-word (a ∷ b ∷ c ∷ d ∷ octets) long = omega (arith, weighed-offset 4 0 octets refl)
 
 -- one step of the sum
 pub sum-step : (sum word rest total : ℕ) → (sum + (word + rest)) % 2 ^ 32 ≡ total → ((sum + word) % 2 ^ 32 + rest) % 2 ^ 32 ≡ total
 sum-step sum word rest total e = omega arith
 
 -- octets within a word, from an offset in it on
-pub weighed-shifted : (place : ℕ) (octets : List ℕ) → 0 < place → place < 4 → place + length octets ≤ 4 → weighed_from 0 octets / 2 ^ (8 * place)
-    ≡ weighed_from place octets
+pub weighed-shifted : (word_offset : ℕ) (octets : List ℕ) → 0 < word_offset → word_offset < 4 → word_offset + length octets ≤ 4 → weighed_from 0 octets / 2 ^
+    (8 * word_offset)
+    ≡ weighed_from word_offset octets
 unfolding weighed_from
 weighed-shifted zero octets some inside fits = absurd (omega arith)
 weighed-shifted (suc zero) [] some inside fits = refl
@@ -50,7 +51,7 @@ weighed-shifted (suc (suc zero)) (a ∷ b ∷ c ∷ octets) some inside fits = a
 weighed-shifted (suc (suc (suc zero))) [] some inside fits = refl
 weighed-shifted (suc (suc (suc zero))) (a ∷ []) some inside fits = omega arith
 weighed-shifted (suc (suc (suc zero))) (a ∷ b ∷ octets) some inside fits = absurd (omega arith)
-weighed-shifted (suc (suc (suc (suc place)))) octets some inside fits = absurd (omega arith)
+weighed-shifted (suc (suc (suc (suc word_offset)))) octets some inside fits = absurd (omega arith)
 
 pub weighed-append : (at : ℕ) (xs ys : List ℕ) (behind : ℕ) → behind ≡ at + length xs → weighed_from at (xs ++ ys) ≡ weighed_from at xs + weighed_from behind ys
 unfolding weighed_from
@@ -67,7 +68,7 @@ offsets-add-up i xs ys = omega (arith, weighed-append i xs ys (i + length xs) re
 pub pieces-add-up : PiecesAddUp
 pieces-add-up words xs ys e =
     let whole = weighed-append 0 xs ys (length xs) (omega arith) in
-    let behind = weighed-place (length xs) 0 ys (omega (arith, e)) in
+    let behind = weighed-offset (length xs) 0 ys (omega (arith, e)) in
     omega (arith, whole, behind)
 
 weighed-zeros : (at n : ℕ) → weighed_from at (replicate n 0) ≡ 0
@@ -100,11 +101,12 @@ parts-are-replaced front old new back long =
     omega (arith, first_new, first_old, rest_new, rest_old)
 
 -- what follows the end of a word
-pub rest-from-start : (place n : ℕ) (xs : List ℕ) → place < 4 → n ≡ min (length xs) (4 - place) → checksum_at (place + length (take n xs)) (drop n xs)
+pub rest-from-start : (word_offset n : ℕ) (xs : List ℕ) → word_offset < 4 → n ≡ min (length xs) (4 - word_offset) → checksum_at
+    (word_offset + length (take n xs)) (drop n xs)
     ≡ checksum (drop n xs)
 unfolding weighed_from
-rest-from-start place n xs inside n_is = elim (cases_lt n (length xs)) [
-  | inl more ↦ only-places-count (place + length (take n xs)) 0 (drop n xs) (omega (arith, length-take-le n xs (omega arith)))
-  | inr all ↦ ap (λ ys. weighed_from (place + length (take n xs)) ys % 2 ^ 32) (drop_all n xs all)
+rest-from-start word_offset n xs inside n_is = elim (cases_lt n (length xs)) [
+  | inl more ↦ only-word-offsets-count (word_offset + length (take n xs)) 0 (drop n xs) (omega (arith, length-take-le n xs (omega arith)))
+  | inr all ↦ ap (λ ys. weighed_from (word_offset + length (take n xs)) ys % 2 ^ 32) (drop_all n xs all)
       ∙ sym (ap (λ ys. weighed_from 0 ys % 2 ^ 32) (drop_all n xs all))
 ]

@@ -30,22 +30,22 @@ pub fn modular_checksum(octets: &[u8]) -> u32
 pub fn modular_checksum_at(offset: usize, octets: &[u8]) -> u32
     ensures { result ≡ checksum_at offset octets.now }
 {
-    let place = offset % WORD_OCTETS;
-    if place == 0 {
+    let word_offset = offset % WORD_OCTETS;
+    if word_offset == 0 {
         return modular_checksum(octets);
     }
-    let (first, rest) = octets.split_at(octets.len().min(WORD_OCTETS - place));
-    first_word(place, first).wrapping_add(modular_checksum(rest))
+    let (first, rest) = octets.split_at(octets.len().min(WORD_OCTETS - word_offset));
+    first_word(word_offset, first).wrapping_add(modular_checksum(rest))
 }
 
 /// The end of a word from an offset in it on, or a part of that, which stops before the word ends.
-fn first_word(place: usize, octets: &[u8]) -> u32
-    requires some { 0 < place }
-    requires inside { place < 4 }
-    requires fits { place + length octets.now ≤ 4 }
-    ensures { result ≡ weighed_from place octets.now }
+fn first_word(word_offset: usize, octets: &[u8]) -> u32
+    requires some { 0 < word_offset }
+    requires inside { word_offset < 4 }
+    requires fits { word_offset + length octets.now ≤ 4 }
+    ensures { result ≡ weighed_from word_offset octets.now }
 {
-    last_word(octets) >> (8 * place)
+    last_word(octets) >> (8 * word_offset)
 }
 
 /// Fewer octets than a word, filled with zeros at its end.

@@ -1,6 +1,6 @@
 //! What is true of the checksum, whatever computes it. Each function does nothing: its contract is the law.
 
-ghost use Rattle.cfdp_checksum.specs.Laws.{OffsetsAddUp, OnlyPlacesCount, PartsAreReplaced, PiecesAddUp, ZerosAddNothing};
+ghost use Rattle.cfdp_checksum.specs.Laws.{OffsetsAddUp, OnlyWordOffsetsCount, PartsAreReplaced, PiecesAddUp, ZerosAddNothing};
 
 /// The checksum of two pieces is the sum modulo 2^32 of theirs, where the second begins at a multiple of four: so a
 /// file can be summed in pieces.
@@ -15,8 +15,8 @@ pub fn offsets_add_up()
 {}
 
 /// Only the position in a word of four counts of the offset of a piece.
-pub fn only_places_count()
-    ensures { OnlyPlacesCount }
+pub fn only_word_offsets_count()
+    ensures { OnlyWordOffsetsCount }
 {}
 
 /// Zeros after some octets add nothing to their sum.

@@ -3,12 +3,12 @@ use Rattle.std.proofs.Common.{◌≡◌, ℕ, suc, ◌+◌, List, [], ◌∷◌,
 use Rattle.cfdp_transactions.proofs.KeptTable.StepDone.{drop_get}
 
 -- one more than before is taken over
-pub taken_over : {X : Type 0} (taken more all : List X) (place : ℕ) (x : X) → slice_get all place ≡ Some x → more ≡ taken ++ x ∷ []
-    → taken ++ drop place all ≡ all → more ++ drop (place + 1) all ≡ all
-taken_over {X = X} taken more all place x at grown before =
-    let next : suc place ≡ place + 1 = omega arith in
-    let behind : drop place all ≡ x ∷ drop (place + 1) all = subst (λ (n : ℕ). drop place all ≡ x ∷ drop n all) next (drop_get place all x at) in
-    ap (λ (xs : List X). xs ++ drop (place + 1) all) grown
-    ∙ append_assoc taken (x ∷ []) (drop (place + 1) all)
+pub taken_over : {X : Type 0} (taken more all : List X) (index : ℕ) (x : X) → slice_get all index ≡ Some x → more ≡ taken ++ x ∷ []
+    → taken ++ drop index all ≡ all → more ++ drop (index + 1) all ≡ all
+taken_over {X = X} taken more all index x at grown before =
+    let next : suc index ≡ index + 1 = omega arith in
+    let behind : drop index all ≡ x ∷ drop (index + 1) all = subst (λ (n : ℕ). drop index all ≡ x ∷ drop n all) next (drop_get index all x at) in
+    ap (λ (xs : List X). xs ++ drop (index + 1) all) grown
+    ∙ append_assoc taken (x ∷ []) (drop (index + 1) all)
     ∙ ap (λ (xs : List X). taken ++ xs) (sym behind)
     ∙ before

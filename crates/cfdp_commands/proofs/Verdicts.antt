@@ -13,8 +13,8 @@ use Rattle.cfdp_commands.specs.Commands.{Command, Protect, SaysPdu, protect_by}
 use Rattle.cfdp_commands.specs.Commands as command
 use Rattle.cfdp_commands.specs.Replay.{Stage, line_answered, protected, with_prefix}
 use Rattle.cfdp_commands.specs.Stages.{stage_by}
-use Rattle.cfdp_commands.specs.declared.setup.Progress.{Progress}
-use Rattle.cfdp_commands.specs.declared.setup.Progress.TheVariants.{First, Open, Closed}
+use Rattle.cfdp_commands.specs.declared.setup.SetupProgress.{SetupProgress}
+use Rattle.cfdp_commands.specs.declared.setup.SetupProgress.TheVariants.{First, Open, Closed}
 use Rattle.cfdp_commands.proofs.PathLengths.{no_path-long}
 
 -- ---- what a line says
@@ -61,7 +61,7 @@ pdu_answered stage (Some (Some command.ListAll)) pdu none = pdu
 -- ---- what a setup does
 
 -- no event came yet
-pub protected-open : (progress : Progress) (config : Config) (octets : List ℕ) → progress ≢ Closed
+pub protected-open : (progress : SetupProgress) (config : Config) (octets : List ℕ) → progress ≢ Closed
     → protected (stage_by progress config) octets ≡ with_prefix config (path_of octets)
 protected-open First config octets before = refl
 protected-open Open config octets before = refl

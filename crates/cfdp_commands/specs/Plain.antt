@@ -25,7 +25,7 @@ use Rattle.cfdp_actions.specs.Actions.{Request, Answer, Performed, Installed, No
 use Rattle.cfdp_actions.specs.Store.{Store}
 use Rattle.cfdp_tlv.specs.Values.{RequestFields}
 use Rattle.cfdp_verifier.specs.Verdict.{request_by}
-use Rattle.cfdp_commands.specs.declared.dropped.Dropped.{Dropped}
+use Rattle.cfdp_commands.specs.declared.dropped.DroppedLine.{DroppedLine}
 use Rattle.cfdp_lines.specs.Hexadecimal.{hex_octets}
 use Rattle.cfdp_lines.specs.Report.{Report, script_report}
 use Rattle.cfdp_commands.specs.RequestLines.{request_on, dropped_text, response_line}
@@ -80,7 +80,7 @@ abbrev pub performed_on : PlainState → RequestFields → PlainState × Status
 performed_on state fields = when_stopped state.stopped state fields
 
 -- what a line brings
-abbrev pub answer_to : PlainState → Result RequestFields Dropped → PlainState × List ℕ
+abbrev pub answer_to : PlainState → Result RequestFields DroppedLine → PlainState × List ℕ
 answer_to state (Err dropped) = (state, dropped_text dropped)
 answer_to state (Ok fields) =
     let performed = performed_on state fields in (performed.0, response_line fields performed.1)

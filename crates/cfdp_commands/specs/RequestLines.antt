@@ -19,11 +19,11 @@ use Rattle.cfdp_tlv.specs.Grammar.{request_at, response_octets}
 use Rattle.cfdp_tlv.specs.Values.{RequestFields, ResponseFields}
 use Rattle.cfdp_tlv.specs.declared.fault.TlvFault.{TlvFault}
 use Rattle.cfdp_tlv.specs.declared.fault.TlvFault.TheVariants as fault
-use Rattle.cfdp_commands.specs.declared.dropped.Dropped.{Dropped}
-use Rattle.cfdp_commands.specs.declared.dropped.Dropped.TheVariants.{Truncated, Trailing, NotARequest, BadAction, RequestTooLong}
+use Rattle.cfdp_commands.specs.declared.dropped.DroppedLine.{DroppedLine}
+use Rattle.cfdp_commands.specs.declared.dropped.DroppedLine.TheVariants.{Truncated, Trailing, NotARequest, BadAction, RequestTooLong}
 
 -- a value that is no request has one of the first three faults; the others have an answer so that each fault has one
-abbrev pub dropped_for : TlvFault → Dropped
+abbrev pub dropped_for : TlvFault → DroppedLine
 dropped_for fault.Truncated = Truncated
 dropped_for fault.BadAction = BadAction
 dropped_for fault.Trailing = Trailing
@@ -32,26 +32,26 @@ dropped_for fault.BadStatus = BadAction
 dropped_for fault.Memory = Truncated
 
 -- a request that can be answered: a value of 255 octets, the longest that a TLV has, is one too long
-abbrev pub answerable : List ℕ → Result RequestFields TlvFault → Result RequestFields Dropped
+abbrev pub answerable : List ℕ → Result RequestFields TlvFault → Result RequestFields DroppedLine
 answerable value (Ok request) = if nat_lt 254 (length value) then Err RequestTooLong else Ok request
 answerable value (Err fault) = Err (dropped_for fault)
 
 -- of a TLV's type and value, and what is after it
-abbrev pub request_alone : ℕ → List ℕ → List ℕ → Result RequestFields Dropped
+abbrev pub request_alone : ℕ → List ℕ → List ℕ → Result RequestFields DroppedLine
 request_alone kind value (octet ∷ octets) = Err Trailing
 request_alone kind value [] =
     if kind == filestore_request_type then answerable value (request_at value) else Err NotARequest
 
 -- the whole line is one TLV, of type 00
-abbrev pub request_of_tlv : Result (ℕ × List ℕ × List ℕ) TlvFault → Result RequestFields Dropped
+abbrev pub request_of_tlv : Result (ℕ × List ℕ × List ℕ) TlvFault → Result RequestFields DroppedLine
 request_of_tlv (Err fault) = Err Truncated
 request_of_tlv (Ok field) = request_alone field.0 field.1 field.2
 
-abbrev pub request_on : List ℕ → Result RequestFields Dropped
+abbrev pub request_on : List ℕ → Result RequestFields DroppedLine
 request_on octets = request_of_tlv (tlv_at octets)
 
 -- the line that is written for a dropped one
-abbrev pub dropped_text : Dropped → List ℕ
+abbrev pub dropped_text : DroppedLine → List ℕ
 dropped_text Truncated = codes "dropped truncated\n"
 dropped_text Trailing = codes "dropped trailing\n"
 dropped_text NotARequest = codes "dropped not-a-request\n"

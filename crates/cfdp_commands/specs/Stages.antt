@@ -6,12 +6,12 @@ use Rattle.std.specs.Prelude.{true, false, Option, Some, None}
 use Rattle.cfdp_transactions.specs.Config.{Config}
 use Rattle.cfdp_transactions.specs.World.{World, start}
 use Rattle.cfdp_commands.specs.Replay as spec
-use Rattle.cfdp_commands.specs.declared.setup.Progress.{Progress}
-use Rattle.cfdp_commands.specs.declared.setup.Progress.TheVariants.{First, Open, Closed}
+use Rattle.cfdp_commands.specs.declared.setup.SetupProgress.{SetupProgress}
+use Rattle.cfdp_commands.specs.declared.setup.SetupProgress.TheVariants.{First, Open, Closed}
 use Rattle.cfdp_commands.specs.declared.setup.Setup.{Setup}
-use Rattle.cfdp_commands.specs.declared.stage.Stage.{Stage}
+use Rattle.cfdp_commands.specs.declared.stage.CommandStage.{CommandStage}
 
-abbrev pub stage_by : Progress → Config → spec.Stage
+abbrev pub stage_by : SetupProgress → Config → spec.Stage
 stage_by First config = spec.Preparing true config
 stage_by Open config = spec.Preparing false config
 stage_by Closed config = spec.Running (start config)
@@ -23,5 +23,5 @@ abbrev pub stage_by_entity : spec.Stage → Option World → spec.Stage
 stage_by_entity before None = before
 stage_by_entity before (Some W) = spec.Running W
 
-abbrev pub stage_of : Stage → spec.Stage
+abbrev pub stage_of : CommandStage → spec.Stage
 stage_of stage = stage_by_entity (setup_of stage.setup) stage.entity

@@ -6,7 +6,7 @@ use cfdp_tlv::TlvFault;
 
 /// Why a line is dropped. A dropped line is no part of its list.
 #[derive(Clone, Copy)]
-pub(crate) enum Dropped {
+pub(crate) enum DroppedLine {
     /// A field is cut.
     Truncated,
     /// Octets are after the last field.
@@ -19,7 +19,7 @@ pub(crate) enum Dropped {
     RequestTooLong,
 }
 
-impl Dropped {
+impl DroppedLine {
     /// Why a line is dropped whose value is no request. Such a value has been cut, or has an unknown action or octets
     /// after its last name; the faults of responses, of writers and of memory have an answer only so that each
     /// fault has one, as in the definition.
@@ -27,10 +27,10 @@ impl Dropped {
         ensures { result ≡ dropped_for fault }
     {
         match fault {
-            TlvFault::Truncated | TlvFault::Memory => Dropped::Truncated,
-            TlvFault::BadAction | TlvFault::BadStatus => Dropped::BadAction,
-            TlvFault::Trailing => Dropped::Trailing,
-            TlvFault::TooLong => Dropped::RequestTooLong,
+            TlvFault::Truncated | TlvFault::Memory => DroppedLine::Truncated,
+            TlvFault::BadAction | TlvFault::BadStatus => DroppedLine::BadAction,
+            TlvFault::Trailing => DroppedLine::Trailing,
+            TlvFault::TooLong => DroppedLine::RequestTooLong,
         }
     }
 
@@ -39,11 +39,11 @@ impl Dropped {
         ensures { result.now ≡ dropped_text self }
     {
         match self {
-            Dropped::Truncated => b"dropped truncated\n",
-            Dropped::Trailing => b"dropped trailing\n",
-            Dropped::NotARequest => b"dropped not-a-request\n",
-            Dropped::BadAction => b"dropped bad-action\n",
-            Dropped::RequestTooLong => b"dropped request-too-long\n",
+            DroppedLine::Truncated => b"dropped truncated\n",
+            DroppedLine::Trailing => b"dropped trailing\n",
+            DroppedLine::NotARequest => b"dropped not-a-request\n",
+            DroppedLine::BadAction => b"dropped bad-action\n",
+            DroppedLine::RequestTooLong => b"dropped request-too-long\n",
         }
     }
 }

@@ -5,10 +5,10 @@ ghost use Rattle.cfdp_tlv.specs.Types.{filestore_response_type};
 ghost use Rattle.cfdp_tlv.specs.Field.{tlv};
 ghost use Rattle.cfdp_tlv.specs.Grammar.{names_as_lv, request_at, response_octets};
 ghost use Rattle.cfdp_commands.specs.RequestLines.{answerable, request_on, response_line, response_to};
-ghost use Rattle.cfdp_commands.specs.declared.dropped.Dropped.{Dropped};
+ghost use Rattle.cfdp_commands.specs.declared.dropped.DroppedLine.{DroppedLine};
 ghost use Rattle.cfdp_commands.specs.declared.request_lines.NoRequest.TheVariants as no;
 
-use crate::dropped::Dropped;
+use crate::dropped::DroppedLine;
 use cfdp_status::Status;
 use cfdp_texts::encode;
 use cfdp_tlv::{
@@ -21,7 +21,7 @@ use std::alloc::{AllocError, Global};
 #[derive(Clone, Copy)]
 pub(crate) enum NoRequest {
     /// It is dropped.
-    Dropped(Dropped),
+    Dropped(DroppedLine),
     /// Memory was refused.
     Memory,
 }
@@ -29,17 +29,17 @@ pub(crate) enum NoRequest {
 /// The request that a TLV's value spells, if it can be answered. A value that is dropped takes no memory.
 fn read_answerable(alloc: Global, value: &[u8]) -> Result<FilestoreRequest, NoRequest>
     ensures request { IfOk result (λ request. answerable value.now (request_at value.now) ≡ Ok request) }
-    ensures dropped { (dropped : Dropped) → result ≡ Err (no.Dropped dropped)
+    ensures dropped { (dropped : DroppedLine) → result ≡ Err (no.Dropped dropped)
         → answerable value.now (request_at value.now) ≡ Err dropped }
     ensures names { IfOk result (λ request. length (names_as_lv request.first request.second) + 1 ≡ length value.now) }
     ensures short { IfOk result (λ request. length (names_as_lv request.first request.second) ≤ 253) }
 {
     let parts = match request_parts(value) {
         Ok(parts) => parts,
-        Err(fault) => return Err(NoRequest::Dropped(Dropped::of_fault(fault))),
+        Err(fault) => return Err(NoRequest::Dropped(DroppedLine::of_fault(fault))),
     };
     if value.len() > MAX_ANSWERABLE_LEN {
-        return Err(NoRequest::Dropped(Dropped::RequestTooLong));
+        return Err(NoRequest::Dropped(DroppedLine::RequestTooLong));
     }
     match parts.copy(alloc) {
         Ok(request) => Ok(request),
@@ -50,17 +50,18 @@ fn read_answerable(alloc: Global, value: &[u8]) -> Result<FilestoreRequest, NoRe
 /// The request that a line brings.
 pub(crate) fn read_line(alloc: Global, octets: &[u8]) -> Result<FilestoreRequest, NoRequest>
     ensures request { IfOk result (λ request. request_on octets.now ≡ Ok request) }
-    ensures dropped { (dropped : Dropped) → result ≡ Err (no.Dropped dropped) → request_on octets.now ≡ Err dropped }
+    ensures dropped { (dropped : DroppedLine) → result ≡ Err (no.Dropped dropped) → request_on octets.now
+        ≡ Err dropped }
     ensures short { IfOk result (λ request. length (names_as_lv request.first request.second) ≤ 253) }
 {
     let Ok(field) = read_tlv(octets) else {
-        return Err(NoRequest::Dropped(Dropped::Truncated));
+        return Err(NoRequest::Dropped(DroppedLine::Truncated));
     };
     if !field.rest.is_empty() {
-        return Err(NoRequest::Dropped(Dropped::Trailing));
+        return Err(NoRequest::Dropped(DroppedLine::Trailing));
     }
     if field.kind != FILESTORE_REQUEST {
-        return Err(NoRequest::Dropped(Dropped::NotARequest));
+        return Err(NoRequest::Dropped(DroppedLine::NotARequest));
     }
     read_answerable(alloc, field.value)
 }

@@ -43,8 +43,8 @@ fn copy_prefixes(alloc: Global, protected: &Protected) -> Result<Protected, Allo
     ensures { IfOk result (λ copy. copy ≡ protected.now) }
 {
     let mut copy = Protected::new();
-    for place in 0..protected.len() {
-        let Some(prefix) = protected.get(place) else {
+    for index in 0..protected.len() {
+        let Some(prefix) = protected.get(index) else {
             return Err(AllocError);
         };
         if copy.add(prefix.copy(alloc)?).is_err() {
@@ -110,7 +110,7 @@ fn config_of(
 
 /// What a line may still set up.
 #[derive(Clone, Copy)]
-pub(crate) enum Progress {
+pub(crate) enum SetupProgress {
     /// The configuration and paths: no line came that is not passed over.
     First,
     /// Paths.
@@ -122,7 +122,7 @@ pub(crate) enum Progress {
 /// What a script sets up before its first event: the configuration, and the paths that are protected.
 #[derive(Drop)]
 pub struct Setup {
-    progress: Progress,
+    progress: SetupProgress,
     /// The configuration but for the paths that are protected.
     config: Config,
     protected: Protected,
@@ -134,7 +134,7 @@ impl Setup {
         ensures { setup_of result ≡ at_first }
     {
         Setup {
-            progress: Progress::First,
+            progress: SetupProgress::First,
             config: default_config(),
             protected: Protected::new(),
         }
@@ -159,12 +159,12 @@ impl Setup {
         ensures bad { (result ≡ Err Bad) ↔ (configured (setup_of self.old) entity blocks cap checks journal
             ≡ None) }
     {
-        let Progress::First = self.progress else {
+        let SetupProgress::First = self.progress else {
             return Err(LineFault::Bad);
         };
         let config = config_of(entity, blocks, cap, checks, journal)?;
         *self = Setup {
-            progress: Progress::Open,
+            progress: SetupProgress::Open,
             config,
             protected: Protected::new(),
         };
@@ -182,7 +182,7 @@ impl Setup {
         ensures ok { OnOk result (protected (setup_of self.old) octets.now ≡ Some (setup_of self.new)) }
         ensures bad { (result ≡ Err Bad) ↔ (protected (setup_of self.old) octets.now ≡ None) }
     {
-        if let Progress::Closed = self.progress {
+        if let SetupProgress::Closed = self.progress {
             return Err(LineFault::Bad);
         }
         if self.protected.len() >= MOST_PREFIXES {
@@ -196,7 +196,7 @@ impl Setup {
         let Ok(()) = self.protected.add(path) else {
             unreachable!()
         };
-        self.progress = Progress::Open;
+        self.progress = SetupProgress::Open;
         Ok(())
     }
 
@@ -204,7 +204,7 @@ impl Setup {
     pub fn close(&mut self)
         ensures { setup_of self.new ≡ Running (stage_world (setup_of self.old)) }
     {
-        self.progress = Progress::Closed;
+        self.progress = SetupProgress::Closed;
     }
 
     /// The configuration that was set up. It is moved out: nothing is protected any more in what is left. Takes no

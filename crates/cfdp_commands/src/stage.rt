@@ -35,19 +35,19 @@ fn happen(
 
 /// How far a script is.
 #[derive(Drop)]
-pub(crate) struct Stage {
+pub(crate) struct CommandStage {
     /// What was set up before the first event.
     setup: Setup,
     /// From the first event on.
     entity: Option<Entity>,
 }
 
-impl Stage {
+impl CommandStage {
     /// Before the first line.
     pub(crate) fn new() -> Self
         ensures { stage_of result ≡ at_first }
     {
-        Stage {
+        CommandStage {
             setup: Setup::new(),
             entity: None,
         }

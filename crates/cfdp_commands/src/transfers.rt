@@ -3,14 +3,14 @@ ghost use Rattle.std.specs.Prelude.{◌≡◌};
 ghost use Rattle.cfdp_commands.specs.Replay.{at_first};
 
 use crate::commands::{Room, read_command};
-use crate::stage::Stage;
+use crate::stage::CommandStage;
 use cfdp_lines::{LineFault, Script};
 use std::alloc::Global;
 
 /// A script of `replay`, between two lines.
 #[derive(Drop)]
 pub struct Transfers {
-    stage: Stage,
+    stage: CommandStage,
     /// What the last line spelled: room that is used again for the next one.
     room: Room,
     /// What the last line wrote: the same.
@@ -25,7 +25,7 @@ impl Transfers {
         ensures { transfers_of result ≡ at_first }
     {
         Transfers {
-            stage: Stage::new(),
+            stage: CommandStage::new(),
             room: Room::new(alloc),
             text: Vec::new(alloc),
         }

@@ -1,6 +1,6 @@
 //! A run: transactions begin, and File Data PDUs come.
 
-use crate::fault::Fault;
+use crate::fault::CostFault;
 use crate::hearing::{Heard, Hears};
 use crate::pdus::{PIECE, data_pdu, header, metadata_pdu, set_number, set_offset};
 use std::alloc::Global;
@@ -19,7 +19,7 @@ pub enum Whose {
 
 /// What is handed in.
 #[derive(Clone, Copy)]
-pub struct Plan {
+pub struct Workload {
     /// How many transactions begin.
     pub sessions: u32,
     /// How many File Data PDUs come.
@@ -32,7 +32,7 @@ pub struct Plan {
 
 /// What became of the File Data PDUs.
 #[derive(Clone, Copy)]
-pub struct Tally {
+pub struct CallTally {
     /// How many were handed in.
     count: u32,
     /// Of how many the octets were stored.
@@ -43,7 +43,7 @@ pub struct Tally {
     deadline: Option<u64>,
 }
 
-impl fmt::Display for Tally {
+impl fmt::Display for CallTally {
     fn fmt<W: fmt::Write>(&self, f: &mut fmt::Formatter<W>) -> fmt::Result {
         write!(
             f,
@@ -66,7 +66,7 @@ impl fmt::Display for Tally {
     }
 }
 
-impl Plan {
+impl Workload {
     /// The transaction of the PDU with this index.
     fn transaction(&self, index: u32) -> u32 {
         match self.whose {
@@ -96,18 +96,22 @@ impl Plan {
 }
 
 /// Begins all transactions.
-fn begin<H: Hears>(alloc: Global, hearer: &mut H, plan: Plan) -> Result<(), Fault> {
+fn begin<H: Hears>(alloc: Global, hearer: &mut H, plan: Workload) -> Result<(), CostFault> {
     for number in 1..=plan.sessions {
         let mut octets = metadata_pdu(alloc, &header(number), plan.size(number))?;
         if !hearer.begin(alloc, &mut octets) {
-            return Err(Fault::NotAdmitted);
+            return Err(CostFault::NotAdmitted);
         }
     }
     Ok(())
 }
 
 /// Hands in all File Data PDUs, from one buffer.
-pub fn count<H: Hears>(alloc: Global, hearer: &mut H, plan: Plan) -> Result<Tally, Fault> {
+pub fn count<H: Hears>(
+    alloc: Global,
+    hearer: &mut H,
+    plan: Workload,
+) -> Result<CallTally, CostFault> {
     begin(alloc, hearer, plan)?;
     let mut octets = data_pdu(alloc, &header(1))?;
     let mut stored = 0_u32;
@@ -124,7 +128,7 @@ pub fn count<H: Hears>(alloc: Global, hearer: &mut H, plan: Plan) -> Result<Tall
             deadline = hearer.deadline();
         }
     }
-    Ok(Tally {
+    Ok(CallTally {
         count: plan.count,
         stored,
         last,

@@ -6,7 +6,7 @@ use std::fmt;
 
 /// Why a run ends before its first File Data PDU.
 #[derive(Clone, Copy, Debug, Drop)]
-pub enum Fault {
+pub enum CostFault {
     /// Out of memory.
     Memory,
     /// The configuration, or the management information base, was refused.
@@ -19,35 +19,35 @@ pub enum Fault {
     NotClosed,
 }
 
-impl fmt::Display for Fault {
+impl fmt::Display for CostFault {
     fn fmt<W: fmt::Write>(&self, f: &mut fmt::Formatter<W>) -> fmt::Result {
         f.write_str(match self {
-            Fault::Memory => "out of memory",
-            Fault::NotMade => "the entity or its receiver was not made",
-            Fault::TooLong => "a PDU is longer than it may be",
-            Fault::NotAdmitted => "a transaction was not admitted",
-            Fault::NotClosed => "a transaction was not closed",
+            CostFault::Memory => "out of memory",
+            CostFault::NotMade => "the entity or its receiver was not made",
+            CostFault::TooLong => "a PDU is longer than it may be",
+            CostFault::NotAdmitted => "a transaction was not admitted",
+            CostFault::NotClosed => "a transaction was not closed",
         })
     }
 }
 
-impl From<AllocError> for Fault {
-    fn from(_refused: AllocError) -> Fault {
-        Fault::Memory
+impl From<AllocError> for CostFault {
+    fn from(_refused: AllocError) -> CostFault {
+        CostFault::Memory
     }
 }
 
-impl<T: Drop> From<AllocFailed<T>> for Fault {
-    fn from(_refused: AllocFailed<T>) -> Fault {
-        Fault::Memory
+impl<T: Drop> From<AllocFailed<T>> for CostFault {
+    fn from(_refused: AllocFailed<T>) -> CostFault {
+        CostFault::Memory
     }
 }
 
-impl From<WriteFault> for Fault {
-    fn from(fault: WriteFault) -> Fault {
+impl From<WriteFault> for CostFault {
+    fn from(fault: WriteFault) -> CostFault {
         match fault {
-            WriteFault::TooLong => Fault::TooLong,
-            WriteFault::Memory => Fault::Memory,
+            WriteFault::TooLong => CostFault::TooLong,
+            WriteFault::Memory => CostFault::Memory,
         }
     }
 }

@@ -1,6 +1,6 @@
 //! What PDUs are handed to.
 
-use crate::fault::Fault;
+use crate::fault::CostFault;
 use crate::pdus::{metadata_pdu, unacknowledged};
 use cfdp_actions::Protected;
 use cfdp_entity::Entity;
@@ -78,32 +78,32 @@ impl Hears for Receiver {
 }
 
 /// 256 transactions begin, are cancelled and closed, so that their names are remembered.
-pub fn close_names(alloc: Global, receiver: &mut Receiver) -> Result<(), Fault> {
+pub fn close_names(alloc: Global, receiver: &mut Receiver) -> Result<(), CostFault> {
     for number in 1_000..1_256 {
         let header = unacknowledged(number);
         let mut octets = metadata_pdu(alloc, &header, 100)?;
         if !receiver.begin(alloc, &mut octets) {
-            return Err(Fault::NotAdmitted);
+            return Err(CostFault::NotAdmitted);
         }
         let _ = receiver.cancel(0, transaction_of(&header));
         match receiver.finish(alloc, 0)?.became() {
             Became::Said(_, Word::Closed) => (),
-            _ => return Err(Fault::NotClosed),
+            _ => return Err(CostFault::NotClosed),
         }
     }
     Ok(())
 }
 
 /// An entity with an empty filestore of 65,536 blocks.
-pub fn entity(alloc: Global) -> Result<Entity, Fault> {
+pub fn entity(alloc: Global) -> Result<Entity, CostFault> {
     match Config::new(2, 65_536, 7_864_320, 4, 16, Protected::new()) {
         Ok(config) => Ok(Entity::new(alloc, config)?),
-        Err(_) => Err(Fault::NotMade),
+        Err(_) => Err(CostFault::NotMade),
     }
 }
 
 /// A receiver over this entity.
-pub fn receiver(alloc: Global, entity: Entity, nak_mode: NakMode) -> Result<Receiver, Fault> {
+pub fn receiver(alloc: Global, entity: Entity, nak_mode: NakMode) -> Result<Receiver, CostFault> {
     let retries = Retries {
         interval: 10,
         limit: 5,
@@ -125,7 +125,7 @@ pub fn receiver(alloc: Global, entity: Entity, nak_mode: NakMode) -> Result<Rece
     };
     match Receiver::new(alloc, mib, entity) {
         Ok(receiver) => Ok(receiver),
-        Err(NotMade::Memory) => Err(Fault::Memory),
-        Err(_) => Err(Fault::NotMade),
+        Err(NotMade::Memory) => Err(CostFault::Memory),
+        Err(_) => Err(CostFault::NotMade),
     }
 }

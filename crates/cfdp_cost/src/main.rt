@@ -21,8 +21,8 @@ mod pdus;
 
 use cfdp_entity::Entity;
 use cfdp_receiver::{NakMode, Receiver};
-use counting::{Plan, Tally, Whose, count};
-use fault::Fault;
+use counting::{CallTally, Whose, Workload, count};
+use fault::CostFault;
 use std::alloc::Global;
 use std::env;
 use std::process::ExitCode;
@@ -64,7 +64,7 @@ fn main(rt: HostRuntime) -> ExitCode {
 }
 
 /// Hands all PDUs in, this way.
-fn run(alloc: Global, way: Way, plan: Plan) -> Result<Tally, Fault> {
+fn run(alloc: Global, way: Way, plan: Workload) -> Result<CallTally, CostFault> {
     let mut entity = hearing::entity(alloc)?;
     let nak_mode = match way {
         Way::Entity(_) => return count::<Entity>(alloc, &mut entity, plan),
@@ -79,14 +79,14 @@ fn run(alloc: Global, way: Way, plan: Plan) -> Result<Tally, Fault> {
 }
 
 /// What the command line asks for.
-fn read_words<R: AllocGlobal + Env>(rt: &R) -> Option<(Way, Plan)> {
+fn read_words<R: AllocGlobal + Env>(rt: &R) -> Option<(Way, Workload)> {
     let words: Vec<String> = env::args(rt).ok()?.collect(rt.alloc()).ok()?;
     let (way, sessions, count) = match words.as_slice() {
         [_, way, sessions, count] => (way_of(way.as_str(), "")?, sessions, count),
         [_, way, sessions, count, mode] => (way_of(way.as_str(), mode.as_str())?, sessions, count),
         _ => return None,
     };
-    let plan = Plan {
+    let plan = Workload {
         sessions: number_of(sessions.as_str(), 64)?,
         count: number_of(count.as_str(), 7_800)?,
         whose: match way {

@@ -3,7 +3,7 @@ ghost use Rattle.std.specs.Prelude.{◌≡◌, ◌<◌, ◌^◌, false, IfOk};
 ghost use Rattle.cfdp_pdus.specs.Canonical.{IsHeader};
 ghost use Rattle.cfdp_pdus.specs.Codes.{modular_checksum_type};
 
-use crate::fault::Fault;
+use crate::fault::CostFault;
 use cfdp_pdus::checksum_type::MODULAR_CHECKSUM;
 use cfdp_pdus::{FileData, Header, Metadata, write_file_data, write_metadata};
 use std::alloc::{AllocError, Global};
@@ -62,7 +62,7 @@ fn metadata(alloc: Global, number: u64, size: u32) -> Result<Metadata, AllocErro
 }
 
 /// A Metadata PDU.
-pub fn metadata_pdu(alloc: Global, header: &Header, size: u32) -> Result<Vec<u8>, Fault>
+pub fn metadata_pdu(alloc: Global, header: &Header, size: u32) -> Result<Vec<u8>, CostFault>
     requires header { IsHeader header.now }
     requires large { header.now.large ≡ false }
 {
@@ -73,7 +73,7 @@ pub fn metadata_pdu(alloc: Global, header: &Header, size: u32) -> Result<Vec<u8>
 }
 
 /// A File Data PDU with the first octets of a file.
-pub fn data_pdu(alloc: Global, header: &Header) -> Result<Vec<u8>, Fault>
+pub fn data_pdu(alloc: Global, header: &Header) -> Result<Vec<u8>, CostFault>
     requires header { IsHeader header.now }
     requires large { header.now.large ≡ false }
 {

@@ -126,13 +126,13 @@ nak_of pairs = record {
 abbrev pub nak_at : List ℕ → Result NakFields PduFault
 nak_at octets = pairs_at octets >>= λ pairs. Ok (nak_of pairs)
 
-abbrev pub placed : ℕ → Result NakFields PduFault → Result NakFields NakFault
-placed room (Ok nak) =
+abbrev pub fitted : ℕ → Result NakFields PduFault → Result NakFields NakFault
+fitted room (Ok nak) =
     if nat_lt room (length nak.requests) then Err (nak_faults.TooMany (length nak.requests)) else Ok nak
-placed room (Err fault) = Err (nak_faults.Pdu fault)
+fitted room (Err fault) = Err (nak_faults.Pdu fault)
 
 abbrev pub nak_within : ℕ → List ℕ → Result NakFields NakFault
-nak_within room octets = placed room (nak_at octets)
+nak_within room octets = fitted room (nak_at octets)
 
 -- what is read, with its requests at the front of a list
 abbrev pub nak_in : List (ℕ × ℕ) → Nak → NakFields

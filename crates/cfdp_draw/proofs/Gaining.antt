@@ -11,10 +11,10 @@ use Rattle.std.proofs.Math.Seq.{map-set_same}
 use Rattle.cfdp_status.specs.declared.transaction.TransactionId.{TransactionId}
 use Rattle.cfdp_draw.specs.Collecting.{Gains, HasLane, Shown, ids_of, marks_at, lane_marks, shown_of}
 use Rattle.cfdp_draw.specs.code.Collecting.{next_at_by, next_of}
-use Rattle.cfdp_draw.specs.declared.axis.At.{At}
+use Rattle.cfdp_draw.specs.declared.axis.AxisPosition.{AxisPosition}
 use Rattle.cfdp_draw.specs.declared.chart.Lane.{Lane}
 use Rattle.cfdp_draw.specs.declared.chart.Mark.{Mark}
-use Rattle.cfdp_draw.specs.declared.kinds.Way.{Way}
+use Rattle.cfdp_draw.specs.declared.kinds.Direction.{Direction}
 
 pub bare_stays : {A : Type 0} (xs : List A) (d : A) (k : ℕ) → slice_index_or (xs ++ d ∷ []) k d ≡ slice_index_or xs k d
 bare_stays [] d k = grind arith
@@ -49,20 +49,20 @@ gained old laned index lane next id shown has of value named more =
     map-set_same (λ (l : Lane). l.id) laned index next lane (named ∙ ap (λ (l : Lane). l.id) value) in
     record { of = ap (λ l. slice_get l index) ids ∙ of; one = one; others = others }
 
-pub this_moment : (lane : Lane) (way : Way) (here : At) → (next_of lane way here).moments ≡ here.moments
+pub this_moment : (lane : Lane) (direction : Direction) (here : AxisPosition) → (next_of lane direction here).moments ≡ here.moments
 unfolding next_of
-this_moment lane way here =
-    let kept : (b : Bool) → ((next_at_by way lane).moments == here.moments) ≡ b → (if b then next_at_by way lane else here).moments ≡ here.moments =
-    λ b is. elim b as (λ v. ((next_at_by way lane).moments == here.moments) ≡ v → (if v then next_at_by way lane else here).moments ≡ here.moments)
+this_moment lane direction here =
+    let kept : (b : Bool) → ((next_at_by direction lane).moments == here.moments) ≡ b → (if b then next_at_by direction lane else here).moments ≡ here.moments =
+    λ b is. elim b as (λ v. ((next_at_by direction lane).moments == here.moments) ≡ v → (if v then next_at_by direction lane else here).moments ≡ here.moments)
     [ true ↦ λ same. grind arith | false ↦ λ other. refl ] is in
-    kept ((next_at_by way lane).moments == here.moments) refl
+    kept ((next_at_by direction lane).moments == here.moments) refl
 
 pub one_more :
-    (lane next : Lane) (mark : Mark) (here : At) → next.marks.items ≡ lane.marks.items ++ mark ∷ [] → mark.at.moments ≡ here.moments →
-    lane_marks next ≡ lane_marks lane ++ record { moment = here.moments; kind = mark.kind; way = mark.way; words = mark.words.items } ∷ []
+    (lane next : Lane) (mark : Mark) (here : AxisPosition) → next.marks.items ≡ lane.marks.items ++ mark ∷ [] → mark.at.moments ≡ here.moments →
+    lane_marks next ≡ lane_marks lane ++ record { moment = here.moments; kind = mark.kind; direction = mark.direction; words = mark.words.items } ∷ []
 one_more lane next mark here is at =
     ap (λ l. map shown_of l) is ∙ map-append shown_of lane.marks.items (mark ∷ [])
-    ∙ ap (λ m. lane_marks lane ++ record { moment = m; kind = mark.kind; way = mark.way; words = mark.words.items } ∷ []) at
+    ∙ ap (λ m. lane_marks lane ++ record { moment = m; kind = mark.kind; direction = mark.direction; words = mark.words.items } ∷ []) at
 
 pub unmarked :
     (old laned : List Lane) (index : ℕ) (lane next : Lane) (id : Option TransactionId) → HasLane old laned id → lane ≡ slice_index_or laned index lane →

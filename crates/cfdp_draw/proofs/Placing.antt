@@ -36,9 +36,9 @@ level_within h a w =
 
 pub time_goes_right : TimeGoesRight
 unfolding x_of
-time_goes_right total a b moments places =
-    let wide : pitch total * min a.places total.places ≤ pitch total * min b.places total.places =
-    mul-le-mul_left (pitch total) (min_rises a.places b.places total.places places) in
+time_goes_right total a b moments wide_marks =
+    let wide : pitch total * min a.wide_marks total.wide_marks ≤ pitch total * min b.wide_marks total.wide_marks =
+    mul-le-mul_left (pitch total) (min_rises a.wide_marks b.wide_marks total.wide_marks wide_marks) in
     let long : level_of (room total) a.moments total.moments ≤ level_of (room total) b.moments total.moments =
     level_rises (room total) a.moments b.moments total.moments moments in
     omega arith
@@ -46,7 +46,8 @@ time_goes_right total a b moments places =
 pub stays_inside : StaysInside
 unfolding x_of axis_end
 stays_inside total at =
-    let wide : pitch total * min at.places total.places ≤ pitch total * total.places = mul-le-mul_left (pitch total) (min-le_right at.places total.places) in
+    let wide : pitch total * min at.wide_marks total.wide_marks ≤ pitch total * total.wide_marks = mul-le-mul_left (pitch total)
+    (min-le_right at.wide_marks total.wide_marks) in
     let long : level_of (room total) at.moments total.moments ≤ room total = level_within (room total) at.moments total.moments in
     let first : LEFT ≤ x_of total at = omega arith in
     let last : x_of total at ≤ axis_end total = omega arith in

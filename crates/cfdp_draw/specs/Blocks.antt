@@ -12,7 +12,7 @@ use Rattle.std.specs.Prelude.{ℕ, ◌+◌, ◌-◌, List, [], ◌++◌, codes, 
 use Rattle.cfdp_draw.specs.Axis.{level_of, axis_end, x_of}
 use Rattle.cfdp_draw.specs.Shapes.{label_text, line_text, number_shape, rect_text}
 use Rattle.cfdp_draw.specs.Words.{labelled_number}
-use Rattle.cfdp_draw.specs.declared.axis.At.{At}
+use Rattle.cfdp_draw.specs.declared.axis.AxisPosition.{AxisPosition}
 use Rattle.cfdp_draw.specs.declared.axis.TheConstants.{LEFT}
 use Rattle.cfdp_draw.specs.declared.blocks.Line.{Line}
 use Rattle.cfdp_draw.specs.declared.blocks.Line.TheVariants.{Used, Taken}
@@ -33,7 +33,7 @@ amount Taken blocks = blocks.used + blocks.reserved
 unfoldable pub level_text : Line → ℕ → Blocks → List ℕ
 level_text line size blocks = labelled_number (codes "V") (BASE - level_of HEIGHT (amount line blocks) size)
 
-unfoldable pub step_text : Line → At → ℕ → Moment → List ℕ
+unfoldable pub step_text : Line → AxisPosition → ℕ → Moment → List ℕ
 step_text line total size moment = labelled_number (codes "H") (x_of total moment.at)
     ++ level_text line size moment.blocks
 
@@ -43,7 +43,7 @@ path_text line chart =
     ++ flat_map (step_text line chart.here chart.size) chart.moments.items
     ++ labelled_number (codes "H") (axis_end chart.here) ++ codes "V114z\"/>\n"
 
-unfoldable pub scale_text : At → ℕ → List ℕ
+unfoldable pub scale_text : AxisPosition → ℕ → List ℕ
 scale_text total size =
     label_text (codes "plain") (record { x = 10; y = 15 }) (codes "time")
     ++ line_text (record { x = LEFT; y = 34 }) (axis_end total)

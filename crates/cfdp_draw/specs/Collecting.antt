@@ -14,17 +14,23 @@ use Rattle.cfdp_draw.specs.declared.chart.Lane.{Lane}
 use Rattle.cfdp_draw.specs.declared.chart.Mark.{Mark}
 use Rattle.cfdp_draw.specs.declared.chart.Note.{Note}
 use Rattle.cfdp_draw.specs.declared.chart.TheConstants.{MOST_NOTES}
-use Rattle.cfdp_draw.specs.declared.kinds.Kind.{Kind}
-use Rattle.cfdp_draw.specs.declared.kinds.Way.{Way}
+use Rattle.cfdp_draw.specs.declared.kinds.MarkKind.{MarkKind}
+use Rattle.cfdp_draw.specs.declared.kinds.Direction.{Direction}
 
 pub record Shown : Type 0 where
   pub moment : ℕ
-  pub kind : Kind
-  pub way : Way
+  pub kind : MarkKind
+  pub direction : Direction
   pub words : List ℕ
 
 abbrev pub shown_of : Mark → Shown
-shown_of mark = record { moment = mark.at.moments; kind = mark.kind; way = mark.way; words = mark.words.items }
+shown_of mark = record {
+  moment = mark.at.moments;
+  kind = mark.kind;
+  direction = mark.direction;
+  words =
+      mark.words.items;
+}
 
 abbrev pub ids_of : List Lane → List (Option TransactionId)
 ids_of lanes = map (λ lane. lane.id) lanes

@@ -18,35 +18,35 @@ use Rattle.cfdp_draw.specs.Kinds.{phase_letter, phase_words}
 use Rattle.cfdp_draw.specs.Marks.{mark_text}
 use Rattle.cfdp_draw.specs.Shapes.{label_text, line_text, number_shape, rect_text, text_closing, text_opening}
 use Rattle.cfdp_draw.specs.Words.{digits_of, labelled_number}
-use Rattle.cfdp_draw.specs.declared.axis.At.{At}
+use Rattle.cfdp_draw.specs.declared.axis.AxisPosition.{AxisPosition}
 use Rattle.cfdp_draw.specs.declared.chart.FileChange.{FileChange}
 use Rattle.cfdp_draw.specs.declared.chart.Lane.{Lane}
 use Rattle.cfdp_draw.specs.declared.chart.PhaseChange.{PhaseChange}
 use Rattle.cfdp_draw.specs.declared.chart.Received.{Received}
-use Rattle.cfdp_draw.specs.declared.kinds.Phase.{Phase}
+use Rattle.cfdp_draw.specs.declared.kinds.DrawnPhase.{DrawnPhase}
 use Rattle.cfdp_draw.specs.declared.lanes.Span.{Span}
 use Rattle.cfdp_draw.specs.declared.lanes.TheConstants.{BAND, BAND_HEIGHT, LANE, MARGIN, PHASES, PHASE_HEIGHT, TOP}
 
-unfoldable pub span_of : At → At → At → Span
+unfoldable pub span_of : AxisPosition → AxisPosition → AxisPosition → Span
 span_of total from to = record { x = x_of total from; width = x_of total to - x_of total from }
 
-abbrev pub until_phase : At → List PhaseChange → At
+abbrev pub until_phase : AxisPosition → List PhaseChange → AxisPosition
 until_phase total [] = total
 until_phase total (next ∷ rest) = next.at
 
-unfoldable pub phase_label : Phase → Span → List ℕ
+unfoldable pub phase_label : DrawnPhase → Span → List ℕ
 phase_label phase s =
     if nat_le 58 s.width then label_text (codes "kind") (record { x = s.x + 3; y = 59 }) (phase_words phase)
     else if nat_le 11 s.width then label_text (codes "kind") (record { x = s.x + 3; y = 59 }) (phase_letter phase)
     else []
 
-unfoldable pub phase_shape : Option Phase → Span → List ℕ
+unfoldable pub phase_shape : Option DrawnPhase → Span → List ℕ
 phase_shape None s = []
 phase_shape (Some phase) s =
     rect_text (phase_words phase) (record { x = s.x; y = PHASES; width = s.width; height = PHASE_HEIGHT })
     ++ phase_label phase s
 
-abbrev pub phases_text : At → List PhaseChange → List ℕ
+abbrev pub phases_text : AxisPosition → List PhaseChange → List ℕ
 phases_text total [] = []
 phases_text total (change ∷ rest) = phase_shape change.phase (span_of total change.at (until_phase total rest))
     ++ phases_text total rest
@@ -74,11 +74,11 @@ abbrev pub file_text : ℕ → Span → Option Received → List ℕ
 file_text size s None = []
 file_text size s (Some received) = received_text size s received
 
-abbrev pub until_file : At → List FileChange → At
+abbrev pub until_file : AxisPosition → List FileChange → AxisPosition
 until_file total [] = total
 until_file total (next ∷ rest) = next.at
 
-abbrev pub files_text : At → ℕ → List FileChange → List ℕ
+abbrev pub files_text : AxisPosition → ℕ → List FileChange → List ℕ
 files_text total size [] = []
 files_text total size (change ∷ rest) = file_text size (span_of total change.at (until_file total rest)) change.received
     ++ files_text total size rest
@@ -105,12 +105,12 @@ lane_name_text lane = name_by lane.id lane
 unfoldable pub top_of : ℕ → ℕ
 top_of lane = TOP + LANE * lane
 
-unfoldable pub lane_opening : At → ℕ → List ℕ
+unfoldable pub lane_opening : AxisPosition → ℕ → List ℕ
 lane_opening total index =
     labelled_number (codes "<g transform=\"translate(0,") (top_of index) ++ codes ")\">\n"
     ++ line_text (record { x = 0; y = 0 }) (axis_end total + MARGIN)
 
-unfoldable pub lane_text : At → Lane → List ℕ
+unfoldable pub lane_text : AxisPosition → Lane → List ℕ
 lane_text total lane =
     lane_opening total lane.index ++ lane_name_text lane ++ files_text total lane.size lane.files.items
     ++ phases_text total lane.phases.items

@@ -11,11 +11,11 @@ use Rattle.cfdp_draw.specs.Kinds.{phase_words}
 use Rattle.cfdp_draw.specs.Marks.{mark_opening, shape_text}
 use Rattle.cfdp_draw.specs.Shapes.{label_text, rect_text}
 use Rattle.cfdp_draw.specs.Words.{labelled_number}
-use Rattle.cfdp_draw.specs.declared.kinds.Kind.{Kind}
-use Rattle.cfdp_draw.specs.declared.kinds.Kind.TheVariants.{Eof}
-use Rattle.cfdp_draw.specs.declared.kinds.Phase.{Phase}
-use Rattle.cfdp_draw.specs.declared.kinds.Way.{Way}
-use Rattle.cfdp_draw.specs.declared.kinds.Way.TheVariants.{Came}
+use Rattle.cfdp_draw.specs.declared.kinds.MarkKind.{MarkKind}
+use Rattle.cfdp_draw.specs.declared.kinds.MarkKind.TheVariants.{Eof}
+use Rattle.cfdp_draw.specs.declared.kinds.DrawnPhase.{DrawnPhase}
+use Rattle.cfdp_draw.specs.declared.kinds.Direction.{Direction}
+use Rattle.cfdp_draw.specs.declared.kinds.Direction.TheVariants.{Came}
 use Rattle.cfdp_draw.specs.declared.legend.TheConstants.{FILE, FIRST, KINDS, PHASES, STYLE, WAYS}
 
 unfoldable pub size_text : ℕ → ℕ → List ℕ
@@ -30,16 +30,16 @@ unfoldable pub opening_text : ℕ → ℕ → List ℕ → List ℕ
 opening_text width height title =
     size_text width height ++ ground_text width height ++ label_text (codes "title") (record { x = 10; y = 26 }) title
 
-unfoldable pub way_entry : Way × ℕ → List ℕ
+unfoldable pub way_entry : Direction × ℕ → List ℕ
 way_entry entry = mark_opening entry.0 (record { x = entry.1; y = 42 }) ++ shape_text false Eof entry.0
 
-unfoldable pub kind_entry : Kind × ℕ → List ℕ
+unfoldable pub kind_entry : MarkKind × ℕ → List ℕ
 kind_entry entry = mark_opening Came (record { x = entry.1; y = 42 }) ++ shape_text true entry.0 Came
 
 unfoldable pub colour_entry : List ℕ → ℕ → ℕ → List ℕ
 colour_entry class x width = rect_text class (record { x = x; y = 66; width = width; height = 13 })
 
-unfoldable pub phase_entry : Phase × ℕ → List ℕ
+unfoldable pub phase_entry : DrawnPhase × ℕ → List ℕ
 phase_entry entry =
     colour_entry (phase_words entry.0) entry.1 70 ++ label_text (codes "kind") (record { x = entry.1 + 3; y = 76 })
     (phase_words entry.0)

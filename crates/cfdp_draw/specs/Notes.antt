@@ -12,13 +12,13 @@ use Rattle.cfdp_draw.specs.Axis.{x_of}
 use Rattle.cfdp_draw.specs.Lanes.{id_text, top_of}
 use Rattle.cfdp_draw.specs.Shapes.{label_text, number_shape, text_closing, text_opening}
 use Rattle.cfdp_draw.specs.Words.{escaped, labelled_number}
-use Rattle.cfdp_draw.specs.declared.axis.At.{At}
+use Rattle.cfdp_draw.specs.declared.axis.AxisPosition.{AxisPosition}
 use Rattle.cfdp_draw.specs.declared.chart.Chart.{Chart}
 use Rattle.cfdp_draw.specs.declared.chart.Note.{Note}
 use Rattle.cfdp_draw.specs.declared.chart.TheConstants.{MOST_NOTES}
 use Rattle.cfdp_draw.specs.declared.notes.TheConstants.{LINE}
 
-unfoldable pub pointer_text : At → Note → List ℕ
+unfoldable pub pointer_text : AxisPosition → Note → List ℕ
 pointer_text total note = number_shape (codes "note") (record { x = x_of total note.at; y = top_of note.lane + 89 }) []
     note.number
 

@@ -6,7 +6,7 @@
 use Rattle.std.specs.Prelude.{ℕ, List, ◌++◌, codes}
 use Rattle.cfdp_draw.specs.Words.{escaped, labelled_number}
 use Rattle.cfdp_draw.specs.declared.shapes.Area.{Area}
-use Rattle.cfdp_draw.specs.declared.shapes.Spot.{Spot}
+use Rattle.cfdp_draw.specs.declared.shapes.Point.{Point}
 
 unfoldable pub area_text : Area → List ℕ
 area_text area =
@@ -17,28 +17,28 @@ area_text area =
 unfoldable pub rect_text : List ℕ → Area → List ℕ
 rect_text class area = codes "<rect class=\"" ++ class ++ area_text area ++ codes "\"/>\n"
 
-unfoldable pub text_opening : List ℕ → Spot → List ℕ
-text_opening class spot =
-    codes "<text class=\"" ++ class ++ labelled_number (codes "\" x=\"") spot.x ++ labelled_number
-    (codes "\" y=\"") spot.y
+unfoldable pub text_opening : List ℕ → Point → List ℕ
+text_opening class point =
+    codes "<text class=\"" ++ class ++ labelled_number (codes "\" x=\"") point.x ++ labelled_number
+    (codes "\" y=\"") point.y
     ++ codes "\">"
 
 abbrev pub text_closing : List ℕ
 text_closing = codes "</text>\n"
 
-unfoldable pub label_text : List ℕ → Spot → List ℕ → List ℕ
-label_text class spot words = text_opening class spot ++ escaped words ++ text_closing
+unfoldable pub label_text : List ℕ → Point → List ℕ → List ℕ
+label_text class point words = text_opening class point ++ escaped words ++ text_closing
 
-unfoldable pub number_shape : List ℕ → Spot → List ℕ → ℕ → List ℕ
-number_shape class spot label number = text_opening class spot ++ labelled_number label number ++ text_closing
+unfoldable pub number_shape : List ℕ → Point → List ℕ → ℕ → List ℕ
+number_shape class point label number = text_opening class point ++ labelled_number label number ++ text_closing
 
-unfoldable pub line_text : Spot → ℕ → List ℕ
+unfoldable pub line_text : Point → ℕ → List ℕ
 line_text from to =
     labelled_number (codes "<path class=\"line\" d=\"M") from.x ++ labelled_number (codes " ") from.y ++ labelled_number
     (codes "H") to
     ++ codes "\"/>\n"
 
-unfoldable pub grid_text : Spot → ℕ → List ℕ
+unfoldable pub grid_text : Point → ℕ → List ℕ
 grid_text from to =
     labelled_number (codes "<path class=\"grid\" d=\"M") from.x ++ labelled_number (codes " ") from.y ++ labelled_number
     (codes "V") to

@@ -7,7 +7,7 @@ use Rattle.std.specs.Prelude.{ℕ, ◌+◌, ◌*◌, ◌==◌, ◌&&◌, Bool, t
 use Rattle.cfdp_draw.specs.Axis.{x_of}
 use Rattle.cfdp_draw.specs.Shapes.{grid_text, number_shape}
 use Rattle.cfdp_draw.specs.Words.{digits_of}
-use Rattle.cfdp_draw.specs.declared.axis.At.{At}
+use Rattle.cfdp_draw.specs.declared.axis.AxisPosition.{AxisPosition}
 use Rattle.cfdp_draw.specs.declared.blocks.TheConstants.{BASE}
 use Rattle.cfdp_draw.specs.declared.chart.Moment.{Moment}
 use Rattle.cfdp_draw.specs.declared.lanes.TheConstants.{TOP}
@@ -27,7 +27,7 @@ time_text bottom x time =
     grid_text (record { x = x; y = TOP }) (bottom + BASE)
     ++ number_shape (codes "plain") (record { x = x; y = bottom + 15 }) [] time
 
-abbrev pub times_text : At → ℕ → ℕ → Option ℕ → List Moment → List ℕ
+abbrev pub times_text : AxisPosition → ℕ → ℕ → Option ℕ → List Moment → List ℕ
 times_text total bottom free last [] = []
 times_text total bottom free last (moment ∷ rest) =
     if is_time_written free last (x_of total moment.at) moment.time

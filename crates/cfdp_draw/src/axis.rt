@@ -20,24 +20,24 @@ pub(crate) const MOMENT: u64 = 6;
 
 /// A position on the time axis.
 #[derive(Clone, Copy, Debug, PartialEq, Eq)]
-pub struct At {
+pub struct AxisPosition {
     /// How many moments are before it.
     pub moments: u32,
     /// How many wide marks are before it, side by side.
-    pub places: u32,
+    pub wide_marks: u32,
 }
 
 /// Whether there is room for the kind of each mark in words.
 #[tactic(auto, unfolding(crate::specs::Axis::has_words))]
-pub(crate) fn has_words(total: At) -> bool
+pub(crate) fn has_words(total: AxisPosition) -> bool
     ensures { result ≡ has_words total }
 {
-    WORDED * u64::from(total.places) + MOMENT * u64::from(total.moments) <= AXIS
+    WORDED * u64::from(total.wide_marks) + MOMENT * u64::from(total.moments) <= AXIS
 }
 
 /// How wide a mark is, of all that a picture has.
 #[tactic(auto, unfolding(crate::specs::Axis::pitch))]
-fn pitch(total: At) -> u64
+fn pitch(total: AxisPosition) -> u64
     ensures value { result ≡ pitch total }
     ensures most { result ≤ 80 }
 {
@@ -46,16 +46,16 @@ fn pitch(total: At) -> u64
 
 /// What is left for the moments.
 #[tactic(auto, unfolding(crate::specs::Axis::room))]
-fn room(total: At) -> u32
+fn room(total: AxisPosition) -> u32
     ensures { result ≡ room total }
 {
-    let left = AXIS.saturating_sub(pitch(total) * u64::from(total.places));
+    let left = AXIS.saturating_sub(pitch(total) * u64::from(total.wide_marks));
     (left as u32).max(total.moments)
 }
 
 /// Whether there is room for the words of File Data PDUs too.
 #[tactic(auto, unfolding(crate::specs::Axis::has_data_words))]
-pub(crate) fn has_data_words(total: At) -> bool
+pub(crate) fn has_data_words(total: AxisPosition) -> bool
     ensures { result ≡ has_data_words total }
 {
     has_words(total) && WORDED * u64::from(total.moments) <= u64::from(room(total))
@@ -63,22 +63,22 @@ pub(crate) fn has_data_words(total: At) -> bool
 
 /// The end of the time axis.
 #[tactic(auto, unfolding(crate::specs::Axis::axis_end))]
-pub(crate) fn right_of(total: At) -> u64
+pub(crate) fn right_of(total: AxisPosition) -> u64
     ensures value { result ≡ axis_end total }
     ensures most { result ≤ 2 ^ 40 }
 {
-    LEFT + pitch(total) * u64::from(total.places) + u64::from(room(total))
+    LEFT + pitch(total) * u64::from(total.wide_marks) + u64::from(room(total))
 }
 
 /// Where a position is, of an axis with `total`.
 #[tactic(auto, unfolding(crate::specs::Axis::x_of))]
-pub(crate) fn x_of(total: At, at: At) -> u64
+pub(crate) fn x_of(total: AxisPosition, at: AxisPosition) -> u64
     ensures value { result ≡ x_of total at }
     ensures most { result ≤ 2 ^ 40 }
 {
-    let places = u64::from(at.places.min(total.places));
+    let wide_marks = u64::from(at.wide_marks.min(total.wide_marks));
     let moments = level_of(room(total), u64::from(at.moments), u64::from(total.moments));
-    LEFT + pitch(total) * places + moments
+    LEFT + pitch(total) * wide_marks + moments
 }
 
 /// How high a part of a whole is, where the whole is `height`. What is more than the whole counts as the whole.

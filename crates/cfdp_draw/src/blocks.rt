@@ -3,10 +3,10 @@
 ghost use Rattle.std.specs.Prelude.{◌≡◌, ◌++◌, OnOk, flat_map};
 ghost use Rattle.cfdp_draw.specs.Blocks.{amount, blocks_text, colour_text, level_text, line_opening, blocks_meaning, path_text, scale_text, step_text};
 
-use crate::axis::{At, LEFT, level_of, right_of, x_of};
+use crate::axis::{AxisPosition, LEFT, level_of, right_of, x_of};
 use crate::chart::{Blocks, Chart, Moment};
 use crate::lanes::MARGIN;
-use crate::shapes::{Area, Spot, push_label, push_line, push_number, push_rect};
+use crate::shapes::{Area, Point, push_label, push_line, push_number, push_rect};
 use crate::words::push_labelled;
 use std::alloc::AllocError;
 
@@ -60,7 +60,7 @@ fn push_level(line: Line, size: u32, blocks: Blocks, text: &mut Vec<u8>) -> Resu
 #[tactic(auto, unfolding(crate::specs::Blocks::step_text))]
 fn push_step(
     line: Line,
-    total: At,
+    total: AxisPosition,
     size: u32,
     moment: Moment,
     text: &mut Vec<u8>,
@@ -74,7 +74,7 @@ fn push_step(
 /// Appends the steps of a line.
 fn push_steps(
     line: Line,
-    total: At,
+    total: AxisPosition,
     size: u32,
     moments: &[Moment],
     text: &mut Vec<u8>,
@@ -101,20 +101,20 @@ fn push_path(line: Line, chart: &Chart, text: &mut Vec<u8>) -> Result<(), AllocE
 
 /// Appends what the blocks are measured by: the size of the filestore is the upper line.
 #[tactic(auto, unfolding(crate::specs::Blocks::scale_text))]
-fn push_scale(total: At, size: u32, text: &mut Vec<u8>) -> Result<(), AllocError>
+fn push_scale(total: AxisPosition, size: u32, text: &mut Vec<u8>) -> Result<(), AllocError>
     ensures { OnOk result (text.new.items ≡ text.old.items ++ scale_text total size) }
 {
-    push_label(b"plain", Spot { x: 10, y: 15 }, b"time", text)?;
-    push_line(Spot { x: LEFT, y: 34 }, right_of(total), text)?;
-    push_line(Spot { x: LEFT, y: BASE }, right_of(total), text)?;
+    push_label(b"plain", Point { x: 10, y: 15 }, b"time", text)?;
+    push_line(Point { x: LEFT, y: 34 }, right_of(total), text)?;
+    push_line(Point { x: LEFT, y: BASE }, right_of(total), text)?;
     push_number(
         b"end",
-        Spot { x: 144, y: 38 },
+        Point { x: 144, y: 38 },
         b"of ",
         u64::from(size),
         text,
     )?;
-    push_number(b"end", Spot { x: 144, y: 118 }, b"", 0, text)
+    push_number(b"end", Point { x: 144, y: 118 }, b"", 0, text)
 }
 
 /// Appends a line's colour, and what it means.
@@ -130,7 +130,7 @@ fn push_colour(words: &[u8], y: u32, text: &mut Vec<u8>) -> Result<(), AllocErro
         height: 10,
     };
     push_rect(words, area, text)?;
-    push_label(b"plain", Spot { x: 27, y: y + 9 }, words, text)
+    push_label(b"plain", Point { x: 27, y: y + 9 }, words, text)
 }
 
 /// Appends what the lines mean, and the most blocks that were taken.
@@ -138,12 +138,12 @@ fn push_colour(words: &[u8], y: u32, text: &mut Vec<u8>) -> Result<(), AllocErro
 fn push_meaning(most: u32, text: &mut Vec<u8>) -> Result<(), AllocError>
     ensures { OnOk result (text.new.items ≡ text.old.items ++ blocks_meaning most) }
 {
-    push_label(b"id", Spot { x: 10, y: 52 }, b"blocks", text)?;
+    push_label(b"id", Point { x: 10, y: 52 }, b"blocks", text)?;
     push_colour(b"used", 60, text)?;
     push_colour(b"reserved", 76, text)?;
     push_number(
         b"plain",
-        Spot { x: 10, y: 103 },
+        Point { x: 10, y: 103 },
         b"both, at most: ",
         u64::from(most),
         text,
@@ -157,7 +157,7 @@ pub(crate) fn push_blocks(chart: &Chart, bottom: u64, text: &mut Vec<u8>) -> Res
 {
     push_labelled(b"<g transform=\"translate(0,", bottom, text)?;
     text.extend_from_slice(b")\">\n")?;
-    push_line(Spot { x: 0, y: 0 }, right_of(chart.here) + MARGIN, text)?;
+    push_line(Point { x: 0, y: 0 }, right_of(chart.here) + MARGIN, text)?;
     push_path(Line::Taken, chart, text)?;
     push_path(Line::Used, chart, text)?;
     push_scale(chart.here, chart.size, text)?;

@@ -1,7 +1,7 @@
 //! What is collected of a run.
 
-use crate::axis::At;
-use crate::kinds::{Kind, Phase, Way};
+use crate::axis::AxisPosition;
+use crate::kinds::{Direction, DrawnPhase, MarkKind};
 use cfdp_status::TransactionId;
 use std::alloc::{AllocError, AllocFailed, Global};
 
@@ -24,11 +24,11 @@ pub type Range = (u64, u64);
 #[derive(Debug, Drop)]
 pub struct Mark {
     /// Where it is.
-    pub at: At,
+    pub at: AxisPosition,
     /// What it shows.
-    pub kind: Kind,
+    pub kind: MarkKind,
     /// Which way it goes.
-    pub way: Way,
+    pub direction: Direction,
     /// What is said of it where a reader points at it.
     pub words: Vec<u8>,
 }
@@ -36,8 +36,8 @@ pub struct Mark {
 /// A transaction is this far from here on. `None`: nothing is known of it.
 #[derive(Clone, Copy, Debug)]
 pub struct PhaseChange {
-    pub at: At,
-    pub phase: Option<Phase>,
+    pub at: AxisPosition,
+    pub phase: Option<DrawnPhase>,
 }
 
 /// What was received of a file.
@@ -52,7 +52,7 @@ pub struct Received {
 /// This much of a file is there from here on. `None`: none of it is kept.
 #[derive(Debug, Drop)]
 pub struct FileChange {
-    pub at: At,
+    pub at: AxisPosition,
     pub received: Option<Received>,
 }
 
@@ -71,8 +71,8 @@ pub struct Lane {
     pub phases: Vec<PhaseChange>,
     pub files: Vec<FileChange>,
     /// Where the next mark is that comes at this moment, and the next that is sent.
-    pub next_came: At,
-    pub next_sent: At,
+    pub next_came: AxisPosition,
+    pub next_sent: AxisPosition,
 }
 
 /// How many blocks of the filestore are in use, and how many are reserved beside them.
@@ -85,7 +85,7 @@ pub struct Blocks {
 /// A moment: an input of the run.
 #[derive(Clone, Copy, Debug)]
 pub struct Moment {
-    pub at: At,
+    pub at: AxisPosition,
     pub time: u64,
     /// The blocks after it.
     pub blocks: Blocks,
@@ -99,7 +99,7 @@ pub struct Note {
     /// How many lanes are above its own.
     pub lane: u32,
     pub id: Option<TransactionId>,
-    pub at: At,
+    pub at: AxisPosition,
     pub time: u64,
     pub words: Vec<u8>,
 }
@@ -156,9 +156,9 @@ pub struct Chart {
     /// What is said last: why the run ended early.
     pub ending: Vec<u8>,
     /// Where this moment begins.
-    pub here: At,
-    /// The place after the last wide mark of this moment and those before it.
-    pub places: u32,
+    pub here: AxisPosition,
+    /// How many wide marks there are up to this moment, side by side.
+    pub wide_marks: u32,
     /// How many marks there are.
     pub marks: u32,
     /// The most blocks that were in use and reserved after a moment.

@@ -5,12 +5,12 @@ ghost use Rattle.std.specs.List.{AllByRecursion};
 ghost use Rattle.cfdp_draw.specs.Collecting.{Gains, HasLane, IsNoted, ids_of, marks_at};
 ghost use Rattle.cfdp_draw.specs.code.Collecting.{is_wide, last_phase, next_of};
 
-use crate::axis::At;
+use crate::axis::AxisPosition;
 use crate::chart::{
     Blocks, Chart, FileChange, Full, Lane, MOST_LANES, MOST_MARKS, MOST_MOMENTS, MOST_NOTES, Mark,
     Moment, Note, PhaseChange, Received,
 };
-use crate::kinds::{Kind, Phase, Way};
+use crate::kinds::{Direction, DrawnPhase, MarkKind};
 use cfdp_status::TransactionId;
 use std::alloc::Global;
 
@@ -18,25 +18,25 @@ use std::alloc::Global;
 #[derive(Debug, Drop)]
 pub struct Seen {
     /// How far it is. `None`: nothing is known of it.
-    pub phase: Option<Phase>,
+    pub phase: Option<DrawnPhase>,
     /// What was received of its file. `None`: none of it is kept.
     pub received: Option<Received>,
     /// The size of its file, in octets, as far as it is known.
     pub size: u64,
 }
 
-/// Whether a mark takes a place of its own: all do but file data that is taken.
-fn is_wide(kind: Kind, way: Way) -> bool
-    ensures { result ≡ is_wide kind way }
+/// Whether a mark is wide: all are but file data that is taken.
+fn is_wide(kind: MarkKind, direction: Direction) -> bool
+    ensures { result ≡ is_wide kind direction }
 {
     match kind {
-        Kind::FileData => way == Way::Dropped,
+        MarkKind::FileData => direction == Direction::Dropped,
         _ => true,
     }
 }
 
 /// Whether a transaction is as far as it was.
-fn is_same(last: Option<Phase>, phase: Option<Phase>) -> bool
+fn is_same(last: Option<DrawnPhase>, phase: Option<DrawnPhase>) -> bool
     ensures { IsTrue result ↔ (last ≡ phase) }
 {
     match (last, phase) {
@@ -48,7 +48,7 @@ fn is_same(last: Option<Phase>, phase: Option<Phase>) -> bool
 
 impl Lane {
     /// A lane without marks.
-    fn new(alloc: Global, index: u32, id: Option<TransactionId>, here: At) -> Lane
+    fn new(alloc: Global, index: u32, id: Option<TransactionId>, here: AxisPosition) -> Lane
         ensures id { result.id ≡ id }
         ensures index { result.index ≡ index }
         ensures marks { result.marks.items ≡ [] }
@@ -68,12 +68,12 @@ impl Lane {
 
     /// Where the next mark of a way is.
     #[tactic(auto, unfolding(crate::specs::code::Collecting::next_of))]
-    fn next(&self, way: Way, here: At) -> At
-        ensures { result ≡ next_of self.now way here }
+    fn next(&self, direction: Direction, here: AxisPosition) -> AxisPosition
+        ensures { result ≡ next_of self.now direction here }
     {
-        let next = match way {
-            Way::Sent => self.next_sent,
-            Way::Came | Way::Dropped => self.next_came,
+        let next = match direction {
+            Direction::Sent => self.next_sent,
+            Direction::Came | Direction::Dropped => self.next_came,
         };
         if next.moments == here.moments {
             next
@@ -82,37 +82,44 @@ impl Lane {
         }
     }
 
-    /// Adds a mark. Returns how many places there are up to it.
-    fn push_mark(&mut self, here: At, kind: Kind, way: Way, words: Vec<u8>) -> Result<u32, Full>
+    /// Adds a mark. Returns how many wide marks there are up to it.
+    fn push_mark(
+        &mut self,
+        here: AxisPosition,
+        kind: MarkKind,
+        direction: Direction,
+        words: Vec<u8>,
+    ) -> Result<u32, Full>
         ensures marks { OnOk result (self.new.marks.items ≡ self.old.marks.items
-            ++ record { at = next_of self.old way here; kind = kind; way = way; words = words } ∷ []) }
+            ++ record { at = next_of self.old direction here; kind = kind; direction = direction; words = words }
+            ∷ []) }
         ensures id { self.new.id ≡ self.old.id }
     {
-        let at = self.next(way, here);
-        let places = if is_wide(kind, way) {
-            at.places.checked_add(1).ok_or(Full::Marks)?
+        let at = self.next(direction, here);
+        let wide_marks = if is_wide(kind, direction) {
+            at.wide_marks.checked_add(1).ok_or(Full::Marks)?
         } else {
-            at.places
+            at.wide_marks
         };
         self.marks.push(Mark {
             at,
             kind,
-            way,
+            direction,
             words,
         })?;
-        let next = At {
+        let next = AxisPosition {
             moments: here.moments,
-            places,
+            wide_marks,
         };
-        match way {
-            Way::Sent => self.next_sent = next,
-            Way::Came | Way::Dropped => self.next_came = next,
+        match direction {
+            Direction::Sent => self.next_sent = next,
+            Direction::Came | Direction::Dropped => self.next_came = next,
         }
-        Ok(places)
+        Ok(wide_marks)
     }
 
     /// How far the transaction was seen to be last.
-    fn last_phase(&self) -> Option<Phase>
+    fn last_phase(&self) -> Option<DrawnPhase>
         ensures { result ≡ last_phase self.now.phases.items }
     {
         match self.phases.last() {
@@ -122,7 +129,7 @@ impl Lane {
     }
 
     /// It is this far from here on.
-    fn see_phase(&mut self, here: At, phase: Option<Phase>) -> Result<(), Full>
+    fn see_phase(&mut self, here: AxisPosition, phase: Option<DrawnPhase>) -> Result<(), Full>
         ensures same { last_phase self.old.phases.items ≡ phase → self.new.phases.items ≡ self.old.phases.items }
         ensures other { last_phase self.old.phases.items ≢ phase → OnOk result (self.new.phases.items
             ≡ self.old.phases.items ++ record { at = here; phase = phase } ∷ []) }
@@ -136,7 +143,7 @@ impl Lane {
     }
 
     /// This much of its file is there from here on.
-    fn see_file(&mut self, here: At, received: Option<Received>) -> Result<(), Full>
+    fn see_file(&mut self, here: AxisPosition, received: Option<Received>) -> Result<(), Full>
         ensures marks { self.new.marks ≡ self.old.marks }
         ensures id { self.new.id ≡ self.old.id }
     {
@@ -159,7 +166,7 @@ impl Chart {
         ensures lanes { result.lanes.items ≡ [] }
         ensures moments { result.moments.items ≡ [] }
         ensures notes { result.notes.items ≡ [] }
-        ensures here { result.here ≡ record { moments = 0; places = 0 } }
+        ensures here { result.here ≡ record { moments = 0; wide_marks = 0 } }
         ensures size { result.size ≡ size }
         ensures first { result.first ≡ first }
         ensures title { result.title ≡ title }
@@ -173,11 +180,11 @@ impl Chart {
             notes: Vec::new(alloc),
             others: 0,
             ending: Vec::new(alloc),
-            here: At {
+            here: AxisPosition {
                 moments: 0,
-                places: 0,
+                wide_marks: 0,
             },
-            places: 0,
+            wide_marks: 0,
             marks: 0,
             most: 0,
         }
@@ -224,12 +231,12 @@ impl Chart {
         &mut self,
         alloc: Global,
         id: Option<TransactionId>,
-        kind: Kind,
-        way: Way,
+        kind: MarkKind,
+        direction: Direction,
         words: Vec<u8>,
     ) -> Result<usize, Full>
         ensures { IfOk result (λ index. Gains self.old.lanes.items self.new.lanes.items index id
-            (record { moment = self.old.here.moments; kind = kind; way = way; words = words.items })) }
+            (record { moment = self.old.here.moments; kind = kind; direction = direction; words = words.items })) }
     {
         if self.marks >= MOST_MARKS {
             return Err(Full::Marks);
@@ -238,8 +245,8 @@ impl Chart {
         let Some(lane) = self.lanes.get_mut(index) else {
             return Err(Full::Lanes);
         };
-        let places = lane.push_mark(self.here, kind, way, words)?;
-        self.places = self.places.max(places);
+        let wide_marks = lane.push_mark(self.here, kind, direction, words)?;
+        self.wide_marks = self.wide_marks.max(wide_marks);
         self.marks += 1;
         Ok(index)
     }
@@ -269,7 +276,7 @@ impl Chart {
             self.others = self.others.saturating_add(1);
             return Ok(());
         }
-        let places = self.here.places.checked_add(1).ok_or(Full::Marks)?;
+        let wide_marks = self.here.wide_marks.checked_add(1).ok_or(Full::Marks)?;
         self.notes.push(Note {
             number: number as u32 + 1,
             lane,
@@ -278,7 +285,7 @@ impl Chart {
             time,
             words,
         })?;
-        self.places = self.places.max(places);
+        self.wide_marks = self.wide_marks.max(wide_marks);
         Ok(())
     }
 
@@ -332,7 +339,7 @@ impl Chart {
             ++ record { at = self.old.here; time = time; blocks = blocks } ∷ []) }
         ensures here { OnOk result (self.new.here ≡ record {
           moments = self.old.here.moments + 1;
-          places = self.old.places;
+          wide_marks = self.old.wide_marks;
         }) }
         ensures full { result ≡ Err Full.Moments → MOST_MOMENTS ≤ self.old.here.moments }
         ensures lanes { self.new.lanes ≡ self.old.lanes }
@@ -348,9 +355,9 @@ impl Chart {
             blocks,
         })?;
         self.most = self.most.max(blocks.used.saturating_add(blocks.reserved));
-        self.here = At {
+        self.here = AxisPosition {
             moments: here.moments + 1,
-            places: self.places,
+            wide_marks: self.wide_marks,
         };
         Ok(())
     }

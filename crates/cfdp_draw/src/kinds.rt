@@ -7,7 +7,7 @@ use cfdp_pdus::directive;
 
 /// What a mark shows.
 #[derive(Clone, Copy, Debug, PartialEq, Eq)]
-pub enum Kind {
+pub enum MarkKind {
     Metadata,
     FileData,
     Eof,
@@ -26,7 +26,7 @@ pub enum Kind {
 
 /// Which way a PDU goes. A timer and a cancel come.
 #[derive(Clone, Copy, Debug, PartialEq, Eq)]
-pub enum Way {
+pub enum Direction {
     /// It comes.
     Came,
     /// It comes, and is dropped.
@@ -37,7 +37,7 @@ pub enum Way {
 
 /// How far a transaction is.
 #[derive(Clone, Copy, Debug, PartialEq, Eq)]
-pub enum Phase {
+pub enum DrawnPhase {
     /// Its EOF PDU came, and its Metadata PDU did not.
     Held,
     /// File data is taken, and no EOF PDU has come.
@@ -50,21 +50,21 @@ pub enum Phase {
     Closed,
 }
 
-impl Kind {
+impl MarkKind {
     /// The kind of a file directive PDU by its directive code (CCSDS 727.0-B-5 §5.2). `NoPdu`: no directive has
     /// this code.
-    pub fn of_directive(code: u8) -> Kind
+    pub fn of_directive(code: u8) -> MarkKind
         ensures { result ≡ kind_of_directive code }
     {
         match code {
-            directive::EOF => Kind::Eof,
-            directive::FINISHED => Kind::Finished,
-            directive::ACK => Kind::Ack,
-            directive::METADATA => Kind::Metadata,
-            directive::NAK => Kind::Nak,
-            directive::PROMPT => Kind::Prompt,
-            directive::KEEP_ALIVE => Kind::KeepAlive,
-            _ => Kind::NoPdu,
+            directive::EOF => MarkKind::Eof,
+            directive::FINISHED => MarkKind::Finished,
+            directive::ACK => MarkKind::Ack,
+            directive::METADATA => MarkKind::Metadata,
+            directive::NAK => MarkKind::Nak,
+            directive::PROMPT => MarkKind::Prompt,
+            directive::KEEP_ALIVE => MarkKind::KeepAlive,
+            _ => MarkKind::NoPdu,
         }
     }
 
@@ -74,17 +74,17 @@ impl Kind {
         ensures { result.now ≡ kind_in_words self }
     {
         match self {
-            Kind::Metadata => b"Metadata",
-            Kind::FileData => b"File Data",
-            Kind::Eof => b"EOF",
-            Kind::Nak => b"NAK",
-            Kind::Ack => b"ACK",
-            Kind::Finished => b"Finished",
-            Kind::KeepAlive => b"Keep Alive",
-            Kind::Prompt => b"Prompt",
-            Kind::NoPdu => b"no PDU",
-            Kind::Timer => b"timer",
-            Kind::Cancel => b"cancel",
+            MarkKind::Metadata => b"Metadata",
+            MarkKind::FileData => b"File Data",
+            MarkKind::Eof => b"EOF",
+            MarkKind::Nak => b"NAK",
+            MarkKind::Ack => b"ACK",
+            MarkKind::Finished => b"Finished",
+            MarkKind::KeepAlive => b"Keep Alive",
+            MarkKind::Prompt => b"Prompt",
+            MarkKind::NoPdu => b"no PDU",
+            MarkKind::Timer => b"timer",
+            MarkKind::Cancel => b"cancel",
         }
     }
 
@@ -94,17 +94,17 @@ impl Kind {
         ensures { result.now ≡ letter_of self }
     {
         match self {
-            Kind::Metadata => b"M",
-            Kind::FileData => b"",
-            Kind::Eof => b"E",
-            Kind::Nak => b"N",
-            Kind::Ack => b"A",
-            Kind::Finished => b"F",
-            Kind::KeepAlive => b"K",
-            Kind::Prompt => b"P",
-            Kind::NoPdu => b"?",
-            Kind::Timer => b"T",
-            Kind::Cancel => b"C",
+            MarkKind::Metadata => b"M",
+            MarkKind::FileData => b"",
+            MarkKind::Eof => b"E",
+            MarkKind::Nak => b"N",
+            MarkKind::Ack => b"A",
+            MarkKind::Finished => b"F",
+            MarkKind::KeepAlive => b"K",
+            MarkKind::Prompt => b"P",
+            MarkKind::NoPdu => b"?",
+            MarkKind::Timer => b"T",
+            MarkKind::Cancel => b"C",
         }
     }
 
@@ -115,39 +115,39 @@ impl Kind {
         ensures { result.now ≡ outline_of self }
     {
         match self {
-            Kind::FileData => b"M0 2h6l-3 11z",
-            Kind::Timer | Kind::Cancel => b"M0 7a7 7 0 1 1 14 0a7 7 0 1 1-14 0z",
+            MarkKind::FileData => b"M0 2h6l-3 11z",
+            MarkKind::Timer | MarkKind::Cancel => b"M0 7a7 7 0 1 1 14 0a7 7 0 1 1-14 0z",
             _ => b"M0 0h14v10l-7 4l-7-4z",
         }
     }
 }
 
-impl Way {
+impl Direction {
     /// The beginning of a mark, with its class.
     #[tactic(auto, unfolding(crate::specs::Kinds::way_opening))]
     pub(crate) fn opening(self) -> &'static [u8]
         ensures { result.now ≡ way_opening self }
     {
         match self {
-            Way::Came => b"<g class=\"came\" transform=\"translate(",
-            Way::Dropped => b"<g class=\"dropped\" transform=\"translate(",
-            Way::Sent => b"<g class=\"sent\" transform=\"translate(",
+            Direction::Came => b"<g class=\"came\" transform=\"translate(",
+            Direction::Dropped => b"<g class=\"dropped\" transform=\"translate(",
+            Direction::Sent => b"<g class=\"sent\" transform=\"translate(",
         }
     }
 }
 
-impl Phase {
+impl DrawnPhase {
     /// The phase in a word, which is its class too.
     #[tactic(auto, unfolding(crate::specs::Kinds::phase_words))]
     pub fn words(self) -> &'static [u8]
         ensures { result.now ≡ phase_words self }
     {
         match self {
-            Phase::Held => b"held",
-            Phase::Receiving => b"receiving",
-            Phase::Awaiting => b"awaiting",
-            Phase::Waiting => b"waiting",
-            Phase::Closed => b"closed",
+            DrawnPhase::Held => b"held",
+            DrawnPhase::Receiving => b"receiving",
+            DrawnPhase::Awaiting => b"awaiting",
+            DrawnPhase::Waiting => b"waiting",
+            DrawnPhase::Closed => b"closed",
         }
     }
 
@@ -157,11 +157,11 @@ impl Phase {
         ensures { result.now ≡ phase_letter self }
     {
         match self {
-            Phase::Held => b"h",
-            Phase::Receiving => b"r",
-            Phase::Awaiting => b"a",
-            Phase::Waiting => b"w",
-            Phase::Closed => b"c",
+            DrawnPhase::Held => b"h",
+            DrawnPhase::Receiving => b"r",
+            DrawnPhase::Awaiting => b"a",
+            DrawnPhase::Waiting => b"w",
+            DrawnPhase::Closed => b"c",
         }
     }
 }

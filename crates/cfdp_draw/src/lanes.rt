@@ -3,12 +3,12 @@
 ghost use Rattle.std.specs.Prelude.{◌≡◌, ◌≤◌, ◌^◌, ◌++◌, OnOk, flat_map};
 ghost use Rattle.cfdp_draw.specs.Lanes.{end_text, file_text, files_text, gap_text, id_text, lane_opening, lane_text, lane_name_text, phase_label, phase_shape, phases_text, received_text, span_of, title_text, top_of, until_file, until_phase};
 
-use crate::axis::{At, level_of, right_of, x_of};
+use crate::axis::{AxisPosition, level_of, right_of, x_of};
 use crate::chart::{FileChange, Lane, PhaseChange, Range, Received};
-use crate::kinds::Phase;
+use crate::kinds::DrawnPhase;
 use crate::marks::push_marks;
 use crate::shapes::{
-    Area, Spot, close_text, open_text, push_label, push_line, push_number, push_rect,
+    Area, Point, close_text, open_text, push_label, push_line, push_number, push_rect,
 };
 use crate::words::{digits_of, push_labelled};
 use cfdp_status::TransactionId;
@@ -42,7 +42,7 @@ struct Span {
 
 /// The part of the time axis from a position to another.
 #[tactic(auto, unfolding(crate::specs::Lanes::span_of))]
-fn span_of(total: At, from: At, to: At) -> Span
+fn span_of(total: AxisPosition, from: AxisPosition, to: AxisPosition) -> Span
     ensures value { result ≡ span_of total from to }
     ensures most { result.x ≤ 2 ^ 40 }
 {
@@ -55,18 +55,18 @@ fn span_of(total: At, from: At, to: At) -> Span
 
 /// Appends the name of a phase where there is room for it, or its first letter.
 #[tactic(auto, unfolding(crate::specs::Lanes::phase_label))]
-fn push_phase_label(phase: Phase, span: Span, text: &mut Vec<u8>) -> Result<(), AllocError>
+fn push_phase_label(phase: DrawnPhase, span: Span, text: &mut Vec<u8>) -> Result<(), AllocError>
     requires { span.x ≤ 2 ^ 40 }
     ensures { OnOk result (text.new.items ≡ text.old.items ++ phase_label phase span) }
 {
-    let spot = Spot {
+    let point = Point {
         x: span.x + 3,
         y: 59,
     };
     if span.width >= 58 {
-        push_label(b"kind", spot, phase.words(), text)
+        push_label(b"kind", point, phase.words(), text)
     } else if span.width >= 11 {
-        push_label(b"kind", spot, phase.letter(), text)
+        push_label(b"kind", point, phase.letter(), text)
     } else {
         Ok(())
     }
@@ -74,7 +74,7 @@ fn push_phase_label(phase: Phase, span: Span, text: &mut Vec<u8>) -> Result<(), 
 
 /// Appends a phase.
 #[tactic(auto, unfolding(crate::specs::Lanes::phase_shape))]
-fn push_phase(phase: Option<Phase>, span: Span, text: &mut Vec<u8>) -> Result<(), AllocError>
+fn push_phase(phase: Option<DrawnPhase>, span: Span, text: &mut Vec<u8>) -> Result<(), AllocError>
     requires { span.x ≤ 2 ^ 40 }
     ensures { OnOk result (text.new.items ≡ text.old.items ++ phase_shape phase span) }
 {
@@ -92,7 +92,7 @@ fn push_phase(phase: Option<Phase>, span: Span, text: &mut Vec<u8>) -> Result<()
 }
 
 /// Where a phase ends: where the next one begins.
-fn until_phase(total: At, rest: &[PhaseChange]) -> At
+fn until_phase(total: AxisPosition, rest: &[PhaseChange]) -> AxisPosition
     ensures { result ≡ until_phase total rest.now }
 {
     match rest {
@@ -102,7 +102,11 @@ fn until_phase(total: At, rest: &[PhaseChange]) -> At
 }
 
 /// Appends the phases of a transaction.
-fn push_phases(total: At, phases: &[PhaseChange], text: &mut Vec<u8>) -> Result<(), AllocError>
+fn push_phases(
+    total: AxisPosition,
+    phases: &[PhaseChange],
+    text: &mut Vec<u8>,
+) -> Result<(), AllocError>
     ensures { OnOk result (text.new.items ≡ text.old.items ++ phases_text total phases.now) }
 {
     let mut rest = phases;
@@ -195,7 +199,7 @@ fn push_received(
 }
 
 /// Where a change of a file ends: where the next one begins.
-fn until_file(total: At, rest: &[FileChange]) -> At
+fn until_file(total: AxisPosition, rest: &[FileChange]) -> AxisPosition
     ensures { result ≡ until_file total rest.now }
 {
     match rest {
@@ -221,7 +225,7 @@ fn push_file(
 
 /// Appends how a file fills.
 fn push_files(
-    total: At,
+    total: AxisPosition,
     size: u64,
     files: &[FileChange],
     text: &mut Vec<u8>,
@@ -252,10 +256,10 @@ fn push_title(id: TransactionId, text: &mut Vec<u8>) -> Result<(), AllocError>
     ensures { OnOk result (text.new.items ≡ text.old.items ++ title_text id) }
 {
     if digits_of(id.source) + digits_of(id.number) > 12 {
-        push_number(b"plain", Spot { x: 10, y: 14 }, b"", id.source, text)?;
-        return push_number(b"plain", Spot { x: 10, y: 27 }, b"/", id.number, text);
+        push_number(b"plain", Point { x: 10, y: 14 }, b"", id.source, text)?;
+        return push_number(b"plain", Point { x: 10, y: 27 }, b"/", id.number, text);
     }
-    open_text(b"id", Spot { x: 10, y: 22 }, text)?;
+    open_text(b"id", Point { x: 10, y: 22 }, text)?;
     push_id(id, text)?;
     close_text(text)
 }
@@ -266,13 +270,13 @@ fn push_name(lane: &Lane, text: &mut Vec<u8>) -> Result<(), AllocError>
     ensures { OnOk result (text.new.items ≡ text.old.items ++ lane_name_text lane.now) }
 {
     let Some(id) = lane.id else {
-        return push_label(b"id", Spot { x: 10, y: 22 }, b"no transaction", text);
+        return push_label(b"id", Point { x: 10, y: 22 }, b"no transaction", text);
     };
     push_title(id, text)?;
-    push_label(b"plain", Spot { x: 10, y: 40 }, &lane.file, text)?;
+    push_label(b"plain", Point { x: 10, y: 40 }, &lane.file, text)?;
     push_number(
         b"plain",
-        Spot { x: 10, y: 54 },
+        Point { x: 10, y: 54 },
         b"octets: ",
         lane.size,
         text,
@@ -281,12 +285,12 @@ fn push_name(lane: &Lane, text: &mut Vec<u8>) -> Result<(), AllocError>
 
 /// Appends the beginning of a lane: where it is, and the line above it.
 #[tactic(auto, unfolding(crate::specs::Lanes::lane_opening))]
-fn open_lane(total: At, index: u32, text: &mut Vec<u8>) -> Result<(), AllocError>
+fn open_lane(total: AxisPosition, index: u32, text: &mut Vec<u8>) -> Result<(), AllocError>
     ensures { OnOk result (text.new.items ≡ text.old.items ++ lane_opening total index) }
 {
     push_labelled(b"<g transform=\"translate(0,", top_of(index), text)?;
     text.extend_from_slice(b")\">\n")?;
-    push_line(Spot { x: 0, y: 0 }, right_of(total) + MARGIN, text)
+    push_line(Point { x: 0, y: 0 }, right_of(total) + MARGIN, text)
 }
 
 /// The top of a lane.
@@ -300,7 +304,7 @@ pub(crate) fn top_of(lane: u32) -> u64
 
 /// Appends a lane.
 #[tactic(auto, unfolding(crate::specs::Lanes::lane_text))]
-fn push_lane(total: At, lane: &Lane, text: &mut Vec<u8>) -> Result<(), AllocError>
+fn push_lane(total: AxisPosition, lane: &Lane, text: &mut Vec<u8>) -> Result<(), AllocError>
     ensures { OnOk result (text.new.items ≡ text.old.items ++ lane_text total lane.now) }
 {
     open_lane(total, lane.index, text)?;
@@ -312,7 +316,11 @@ fn push_lane(total: At, lane: &Lane, text: &mut Vec<u8>) -> Result<(), AllocErro
 }
 
 /// Appends lanes.
-pub(crate) fn push_lanes(total: At, lanes: &[Lane], text: &mut Vec<u8>) -> Result<(), AllocError>
+pub(crate) fn push_lanes(
+    total: AxisPosition,
+    lanes: &[Lane],
+    text: &mut Vec<u8>,
+) -> Result<(), AllocError>
     ensures { OnOk result (text.new.items ≡ text.old.items ++ flat_map (lane_text total) lanes.now) }
 {
     for lane in lanes {

@@ -3,9 +3,9 @@
 ghost use Rattle.std.specs.Prelude.{◌≡◌, ◌≤◌, ◌++◌, OnOk, flat_map};
 ghost use Rattle.cfdp_draw.specs.Legend.{band_entry, band_meanings, colour_entry, ground_text, kind_entry, legend_text, opening_text, phase_entry, size_text, way_entry, way_meanings};
 
-use crate::kinds::{Kind, Phase, Way};
+use crate::kinds::{Direction, DrawnPhase, MarkKind};
 use crate::marks::{open_mark, push_shape};
-use crate::shapes::{Area, Spot, push_label, push_rect};
+use crate::shapes::{Area, Point, push_label, push_rect};
 use crate::words::push_labelled;
 use std::alloc::AllocError;
 
@@ -53,48 +53,52 @@ text{font-family:Helvetica,Arial,\"DejaVu Sans\",sans-serif;font-size:11px;fill:
 pub(crate) const FILE: &[u8] = b"octets of the file that are there, the first at the bottom";
 
 /// Each way, and where it is in the legend.
-const WAYS: [(Way, u64); 3] = [(Way::Came, 44), (Way::Sent, 104), (Way::Dropped, 188)];
+const WAYS: [(Direction, u64); 3] = [
+    (Direction::Came, 44),
+    (Direction::Sent, 104),
+    (Direction::Dropped, 188),
+];
 
 /// Each kind, and where it is in the legend.
-const KINDS: [(Kind, u64); 11] = [
-    (Kind::Metadata, 230),
-    (Kind::FileData, 312),
-    (Kind::Eof, 392),
-    (Kind::Nak, 444),
-    (Kind::Ack, 496),
-    (Kind::Finished, 548),
-    (Kind::KeepAlive, 630),
-    (Kind::Prompt, 724),
-    (Kind::NoPdu, 792),
-    (Kind::Timer, 862),
-    (Kind::Cancel, 926),
+const KINDS: [(MarkKind, u64); 11] = [
+    (MarkKind::Metadata, 230),
+    (MarkKind::FileData, 312),
+    (MarkKind::Eof, 392),
+    (MarkKind::Nak, 444),
+    (MarkKind::Ack, 496),
+    (MarkKind::Finished, 548),
+    (MarkKind::KeepAlive, 630),
+    (MarkKind::Prompt, 724),
+    (MarkKind::NoPdu, 792),
+    (MarkKind::Timer, 862),
+    (MarkKind::Cancel, 926),
 ];
 
 /// Each phase, and where it is in the legend.
-const PHASES: [(Phase, u32); 5] = [
-    (Phase::Held, 10),
-    (Phase::Receiving, 86),
-    (Phase::Awaiting, 162),
-    (Phase::Waiting, 238),
-    (Phase::Closed, 314),
+const PHASES: [(DrawnPhase, u32); 5] = [
+    (DrawnPhase::Held, 10),
+    (DrawnPhase::Receiving, 86),
+    (DrawnPhase::Awaiting, 162),
+    (DrawnPhase::Waiting, 238),
+    (DrawnPhase::Closed, 314),
 ];
 
 /// Appends a way of the legend: an EOF PDU that goes this way.
 #[tactic(auto, unfolding(crate::specs::Legend::way_entry))]
-fn push_way(way: Way, x: u64, text: &mut Vec<u8>) -> Result<(), AllocError>
-    ensures { OnOk result (text.new.items ≡ text.old.items ++ way_entry (way, x)) }
+fn push_direction(direction: Direction, x: u64, text: &mut Vec<u8>) -> Result<(), AllocError>
+    ensures { OnOk result (text.new.items ≡ text.old.items ++ way_entry (direction, x)) }
 {
-    open_mark(way, Spot { x, y: 42 }, text)?;
-    push_shape(false, Kind::Eof, way, text)
+    open_mark(direction, Point { x, y: 42 }, text)?;
+    push_shape(false, MarkKind::Eof, direction, text)
 }
 
 /// Appends a kind of the legend.
 #[tactic(auto, unfolding(crate::specs::Legend::kind_entry))]
-fn push_kind(kind: Kind, x: u64, text: &mut Vec<u8>) -> Result<(), AllocError>
+fn push_kind(kind: MarkKind, x: u64, text: &mut Vec<u8>) -> Result<(), AllocError>
     ensures { OnOk result (text.new.items ≡ text.old.items ++ kind_entry (kind, x)) }
 {
-    open_mark(Way::Came, Spot { x, y: 42 }, text)?;
-    push_shape(true, kind, Way::Came, text)
+    open_mark(Direction::Came, Point { x, y: 42 }, text)?;
+    push_shape(true, kind, Direction::Came, text)
 }
 
 /// Appends a colour of the legend.
@@ -112,17 +116,17 @@ fn push_colour(class: &[u8], x: u64, width: u64, text: &mut Vec<u8>) -> Result<(
 }
 
 /// Appends the ways of the legend.
-fn push_ways(entries: &[(Way, u64)], text: &mut Vec<u8>) -> Result<(), AllocError>
+fn push_directions(entries: &[(Direction, u64)], text: &mut Vec<u8>) -> Result<(), AllocError>
     ensures { OnOk result (text.new.items ≡ text.old.items ++ flat_map way_entry entries.now) }
 {
     for entry in entries {
-        push_way(entry.0, entry.1, text)?;
+        push_direction(entry.0, entry.1, text)?;
     }
     Ok(())
 }
 
 /// Appends the kinds of the legend.
-fn push_kinds(entries: &[(Kind, u64)], text: &mut Vec<u8>) -> Result<(), AllocError>
+fn push_kinds(entries: &[(MarkKind, u64)], text: &mut Vec<u8>) -> Result<(), AllocError>
     ensures { OnOk result (text.new.items ≡ text.old.items ++ flat_map kind_entry entries.now) }
 {
     for entry in entries {
@@ -133,16 +137,16 @@ fn push_kinds(entries: &[(Kind, u64)], text: &mut Vec<u8>) -> Result<(), AllocEr
 
 /// Appends a phase of the legend.
 #[tactic(auto, unfolding(crate::specs::Legend::phase_entry))]
-fn push_phase(phase: Phase, x: u32, text: &mut Vec<u8>) -> Result<(), AllocError>
+fn push_phase(phase: DrawnPhase, x: u32, text: &mut Vec<u8>) -> Result<(), AllocError>
     ensures { OnOk result (text.new.items ≡ text.old.items ++ phase_entry (phase, x)) }
 {
     let x = u64::from(x);
     push_colour(phase.words(), x, 70, text)?;
-    push_label(b"kind", Spot { x: x + 3, y: 76 }, phase.words(), text)
+    push_label(b"kind", Point { x: x + 3, y: 76 }, phase.words(), text)
 }
 
 /// Appends the phases of the legend.
-fn push_phases(entries: &[(Phase, u32)], text: &mut Vec<u8>) -> Result<(), AllocError>
+fn push_phases(entries: &[(DrawnPhase, u32)], text: &mut Vec<u8>) -> Result<(), AllocError>
     ensures { OnOk result (text.new.items ≡ text.old.items ++ flat_map phase_entry entries.now) }
 {
     for entry in entries {
@@ -156,9 +160,9 @@ fn push_phases(entries: &[(Phase, u32)], text: &mut Vec<u8>) -> Result<(), Alloc
 fn push_way_meanings(text: &mut Vec<u8>) -> Result<(), AllocError>
     ensures { OnOk result (text.new.items ≡ text.old.items ++ way_meanings) }
 {
-    push_label(b"plain", Spot { x: 10, y: 53 }, b"came", text)?;
-    push_label(b"plain", Spot { x: 74, y: 53 }, b"sent", text)?;
-    push_label(b"plain", Spot { x: 134, y: 53 }, b"dropped", text)
+    push_label(b"plain", Point { x: 10, y: 53 }, b"came", text)?;
+    push_label(b"plain", Point { x: 74, y: 53 }, b"sent", text)?;
+    push_label(b"plain", Point { x: 134, y: 53 }, b"dropped", text)
 }
 
 /// Appends a colour of a band, and what it means.
@@ -168,7 +172,7 @@ fn push_band(class: &[u8], x: u64, words: &[u8], text: &mut Vec<u8>) -> Result<(
     ensures { OnOk result (text.new.items ≡ text.old.items ++ band_entry class.now x words.now) }
 {
     push_colour(class, x, 24, text)?;
-    push_label(b"plain", Spot { x: x + 30, y: 77 }, words, text)
+    push_label(b"plain", Point { x: x + 30, y: 77 }, words, text)
 }
 
 /// Appends what the bands mean.
@@ -187,7 +191,7 @@ pub(crate) fn push_legend(text: &mut Vec<u8>) -> Result<(), AllocError>
     ensures { OnOk result (text.new.items ≡ text.old.items ++ legend_text) }
 {
     push_way_meanings(text)?;
-    push_ways(&WAYS, text)?;
+    push_directions(&WAYS, text)?;
     push_kinds(&KINDS, text)?;
     push_phases(&PHASES, text)?;
     push_band_meanings(text)
@@ -226,5 +230,5 @@ pub(crate) fn open_picture(
 {
     push_size(width, height, text)?;
     push_ground(width, height, text)?;
-    push_label(b"title", Spot { x: 10, y: 26 }, title, text)
+    push_label(b"title", Point { x: 10, y: 26 }, title, text)
 }

@@ -21,10 +21,10 @@ mod shapes;
 mod times;
 mod words;
 
-pub use axis::At;
+pub use axis::AxisPosition;
 pub use chart::{
     Blocks, Chart, FileChange, Full, Lane, MOST_LANES, MOST_MARKS, MOST_MOMENTS, MOST_NOTES, Mark,
     Moment, Note, PhaseChange, Range, Received,
 };
 pub use collecting::Seen;
-pub use kinds::{Kind, Phase, Way};
+pub use kinds::{Direction, DrawnPhase, MarkKind};

@@ -3,27 +3,27 @@
 ghost use Rattle.std.specs.Prelude.{◌≡◌, ◌++◌, OnOk, flat_map};
 ghost use Rattle.cfdp_draw.specs.Marks.{cross_text, is_in_words, kind_text, letter_text, mark_opening, mark_text, mark_row, shape_text, words_text};
 
-use crate::axis::{At, has_data_words, has_words, x_of};
+use crate::axis::{AxisPosition, has_data_words, has_words, x_of};
 use crate::chart::Mark;
-use crate::kinds::{Kind, Way};
-use crate::shapes::Spot;
+use crate::kinds::{Direction, MarkKind};
+use crate::shapes::Point;
 use crate::words::{push_escaped, push_labelled};
 use std::alloc::AllocError;
 
 /// Whether marks of a kind have it in words.
 #[tactic(auto, unfolding(crate::specs::Marks::is_in_words))]
-fn is_named(total: At, kind: Kind) -> bool
+fn is_named(total: AxisPosition, kind: MarkKind) -> bool
     ensures { result ≡ is_in_words total kind }
 {
     match kind {
-        Kind::FileData => has_data_words(total),
+        MarkKind::FileData => has_data_words(total),
         _ => has_words(total),
     }
 }
 
 /// Appends the letter in a mark.
 #[tactic(auto, unfolding(crate::specs::Marks::letter_text))]
-fn push_letter(kind: Kind, text: &mut Vec<u8>) -> Result<(), AllocError>
+fn push_letter(kind: MarkKind, text: &mut Vec<u8>) -> Result<(), AllocError>
     ensures { OnOk result (text.new.items ≡ text.old.items ++ letter_text kind) }
 {
     text.extend_from_slice(b"<text class=\"letter\" x=\"7\" y=\"10\">")?;
@@ -33,20 +33,20 @@ fn push_letter(kind: Kind, text: &mut Vec<u8>) -> Result<(), AllocError>
 
 /// Appends the cross of a mark that is dropped.
 #[tactic(auto, unfolding(crate::specs::Marks::cross_text))]
-fn push_cross(way: Way, text: &mut Vec<u8>) -> Result<(), AllocError>
-    ensures { OnOk result (text.new.items ≡ text.old.items ++ cross_text way) }
+fn push_cross(direction: Direction, text: &mut Vec<u8>) -> Result<(), AllocError>
+    ensures { OnOk result (text.new.items ≡ text.old.items ++ cross_text direction) }
 {
-    match way {
-        Way::Dropped => {
+    match direction {
+        Direction::Dropped => {
             text.extend_from_slice(b"<path class=\"cross\" d=\"M1 0l12 13M13 0l-12 13\"/>")
         }
-        Way::Came | Way::Sent => Ok(()),
+        Direction::Came | Direction::Sent => Ok(()),
     }
 }
 
 /// Appends a kind in words.
 #[tactic(auto, unfolding(crate::specs::Marks::words_text))]
-fn push_words(kind: Kind, text: &mut Vec<u8>) -> Result<(), AllocError>
+fn push_words(kind: MarkKind, text: &mut Vec<u8>) -> Result<(), AllocError>
     ensures { OnOk result (text.new.items ≡ text.old.items ++ words_text kind) }
 {
     text.extend_from_slice(b"<text class=\"kind\" x=\"17\" y=\"11\">")?;
@@ -56,7 +56,7 @@ fn push_words(kind: Kind, text: &mut Vec<u8>) -> Result<(), AllocError>
 
 /// Appends the kind of a mark in words, where it has them.
 #[tactic(auto, unfolding(crate::specs::Marks::kind_text))]
-fn push_kind(named: bool, kind: Kind, text: &mut Vec<u8>) -> Result<(), AllocError>
+fn push_kind(named: bool, kind: MarkKind, text: &mut Vec<u8>) -> Result<(), AllocError>
     ensures { OnOk result (text.new.items ≡ text.old.items ++ kind_text named kind) }
 {
     if named {
@@ -70,59 +70,67 @@ fn push_kind(named: bool, kind: Kind, text: &mut Vec<u8>) -> Result<(), AllocErr
 #[tactic(auto, unfolding(crate::specs::Marks::shape_text))]
 pub(crate) fn push_shape(
     named: bool,
-    kind: Kind,
-    way: Way,
+    kind: MarkKind,
+    direction: Direction,
     text: &mut Vec<u8>,
 ) -> Result<(), AllocError>
-    ensures { OnOk result (text.new.items ≡ text.old.items ++ shape_text named kind way) }
+    ensures { OnOk result (text.new.items ≡ text.old.items ++ shape_text named kind direction) }
 {
     text.extend_from_slice(b"<path d=\"")?;
     text.extend_from_slice(kind.outline())?;
     text.extend_from_slice(b"\"/>")?;
     push_letter(kind, text)?;
-    push_cross(way, text)?;
+    push_cross(direction, text)?;
     push_kind(named, kind, text)?;
     text.extend_from_slice(b"</g>\n")
 }
 
 /// Appends the beginning of a mark: which way it goes, and where it is.
 #[tactic(auto, unfolding(crate::specs::Marks::mark_opening))]
-pub(crate) fn open_mark(way: Way, spot: Spot, text: &mut Vec<u8>) -> Result<(), AllocError>
-    ensures { OnOk result (text.new.items ≡ text.old.items ++ mark_opening way spot) }
+pub(crate) fn open_mark(
+    direction: Direction,
+    point: Point,
+    text: &mut Vec<u8>,
+) -> Result<(), AllocError>
+    ensures { OnOk result (text.new.items ≡ text.old.items ++ mark_opening direction point) }
 {
-    push_labelled(way.opening(), spot.x, text)?;
-    push_labelled(b",", spot.y, text)?;
+    push_labelled(direction.opening(), point.x, text)?;
+    push_labelled(b",", point.y, text)?;
     text.extend_from_slice(b")\">")
 }
 
 /// Where the marks of a way are in a lane.
-fn row_of(way: Way) -> u64
-    ensures { result ≡ mark_row way }
+fn row_of(direction: Direction) -> u64
+    ensures { result ≡ mark_row direction }
 {
-    match way {
-        Way::Came | Way::Dropped => 4,
-        Way::Sent => 64,
+    match direction {
+        Direction::Came | Direction::Dropped => 4,
+        Direction::Sent => 64,
     }
 }
 
 /// Appends a mark.
 #[tactic(auto, unfolding(crate::specs::Marks::mark_text))]
-fn push_mark(total: At, mark: &Mark, text: &mut Vec<u8>) -> Result<(), AllocError>
+fn push_mark(total: AxisPosition, mark: &Mark, text: &mut Vec<u8>) -> Result<(), AllocError>
     ensures { OnOk result (text.new.items ≡ text.old.items ++ mark_text total mark.now) }
 {
-    let spot = Spot {
+    let point = Point {
         x: x_of(total, mark.at),
-        y: row_of(mark.way),
+        y: row_of(mark.direction),
     };
-    open_mark(mark.way, spot, text)?;
+    open_mark(mark.direction, point, text)?;
     text.extend_from_slice(b"<title>")?;
     push_escaped(&mark.words, text)?;
     text.extend_from_slice(b"</title>")?;
-    push_shape(is_named(total, mark.kind), mark.kind, mark.way, text)
+    push_shape(is_named(total, mark.kind), mark.kind, mark.direction, text)
 }
 
 /// Appends marks.
-pub(crate) fn push_marks(total: At, marks: &[Mark], text: &mut Vec<u8>) -> Result<(), AllocError>
+pub(crate) fn push_marks(
+    total: AxisPosition,
+    marks: &[Mark],
+    text: &mut Vec<u8>,
+) -> Result<(), AllocError>
     ensures { OnOk result (text.new.items ≡ text.old.items ++ flat_map (mark_text total) marks.now) }
 {
     for mark in marks {

@@ -3,10 +3,10 @@
 ghost use Rattle.std.specs.Prelude.{◌≡◌, ◌≤◌, ◌^◌, ◌++◌, OnOk, flat_map};
 ghost use Rattle.cfdp_draw.specs.Notes.{ending_text, note_lines, note_text, notes_text, others_text, pointer_text, said_text, whose_text, why_text};
 
-use crate::axis::{At, x_of};
+use crate::axis::{AxisPosition, x_of};
 use crate::chart::{Chart, MOST_NOTES, Note};
 use crate::lanes::{push_id, top_of};
-use crate::shapes::{Spot, close_text, open_text, push_label, push_number};
+use crate::shapes::{Point, close_text, open_text, push_label, push_number};
 use crate::words::{push_escaped, push_labelled};
 use cfdp_status::TransactionId;
 use std::alloc::AllocError;
@@ -16,18 +16,22 @@ pub(crate) const LINE: u64 = 16;
 
 /// Appends the number of a note in its lane.
 #[tactic(auto, unfolding(crate::specs::Notes::pointer_text))]
-fn push_pointer(total: At, note: &Note, text: &mut Vec<u8>) -> Result<(), AllocError>
+fn push_pointer(total: AxisPosition, note: &Note, text: &mut Vec<u8>) -> Result<(), AllocError>
     ensures { OnOk result (text.new.items ≡ text.old.items ++ pointer_text total note.now) }
 {
-    let spot = Spot {
+    let point = Point {
         x: x_of(total, note.at),
         y: top_of(note.lane) + 89,
     };
-    push_number(b"note", spot, b"", u64::from(note.number), text)
+    push_number(b"note", point, b"", u64::from(note.number), text)
 }
 
 /// Appends the numbers of notes in their lanes.
-pub(crate) fn push_pointers(total: At, notes: &[Note], text: &mut Vec<u8>) -> Result<(), AllocError>
+pub(crate) fn push_pointers(
+    total: AxisPosition,
+    notes: &[Note],
+    text: &mut Vec<u8>,
+) -> Result<(), AllocError>
     ensures { OnOk result (text.new.items ≡ text.old.items ++ flat_map (pointer_text total) notes.now) }
 {
     for note in notes {
@@ -54,7 +58,7 @@ fn push_whose(id: Option<TransactionId>, text: &mut Vec<u8>) -> Result<(), Alloc
 fn push_said(note: &Note, y: u64, text: &mut Vec<u8>) -> Result<(), AllocError>
     ensures { OnOk result (text.new.items ≡ text.old.items ++ said_text note.now y) }
 {
-    open_text(b"plain", Spot { x: 40, y }, text)?;
+    open_text(b"plain", Point { x: 40, y }, text)?;
     push_labelled(b"at ", note.time, text)?;
     push_whose(note.id, text)?;
     text.extend_from_slice(b": ")?;
@@ -70,7 +74,7 @@ fn push_note(note: &Note, text: &mut Vec<u8>) -> Result<(), AllocError>
     let y = LINE * u64::from(note.number);
     push_number(
         b"note",
-        Spot { x: 10, y },
+        Point { x: 10, y },
         b"",
         u64::from(note.number),
         text,
@@ -98,7 +102,7 @@ fn push_others(others: u32, y: u64, text: &mut Vec<u8>) -> Result<(), AllocError
     }
     push_number(
         b"note",
-        Spot { x: 10, y },
+        Point { x: 10, y },
         b"notes that are left out: ",
         u64::from(others),
         text,
@@ -110,8 +114,8 @@ fn push_others(others: u32, y: u64, text: &mut Vec<u8>) -> Result<(), AllocError
 fn push_why(why: &[u8], y: u64, text: &mut Vec<u8>) -> Result<(), AllocError>
     ensures { OnOk result (text.new.items ≡ text.old.items ++ why_text why.now y) }
 {
-    push_label(b"note", Spot { x: 10, y }, b"The run ends early:", text)?;
-    push_label(b"note", Spot { x: 160, y }, why, text)
+    push_label(b"note", Point { x: 10, y }, b"The run ends early:", text)?;
+    push_label(b"note", Point { x: 160, y }, why, text)
 }
 
 /// Appends why the run ended early, if it did.

@@ -17,7 +17,7 @@ pub(crate) struct Area {
 
 /// A point of the picture, in pixels.
 #[derive(Clone, Copy)]
-pub(crate) struct Spot {
+pub(crate) struct Point {
     pub x: u64,
     pub y: u64,
 }
@@ -46,13 +46,13 @@ pub(crate) fn push_rect(class: &[u8], area: Area, text: &mut Vec<u8>) -> Result<
 
 /// Appends the beginning of a text.
 #[tactic(auto, unfolding(crate::specs::Shapes::text_opening))]
-pub(crate) fn open_text(class: &[u8], spot: Spot, text: &mut Vec<u8>) -> Result<(), AllocError>
-    ensures { OnOk result (text.new.items ≡ text.old.items ++ text_opening class.now spot) }
+pub(crate) fn open_text(class: &[u8], point: Point, text: &mut Vec<u8>) -> Result<(), AllocError>
+    ensures { OnOk result (text.new.items ≡ text.old.items ++ text_opening class.now point) }
 {
     text.extend_from_slice(b"<text class=\"")?;
     text.extend_from_slice(class)?;
-    push_labelled(b"\" x=\"", spot.x, text)?;
-    push_labelled(b"\" y=\"", spot.y, text)?;
+    push_labelled(b"\" x=\"", point.x, text)?;
+    push_labelled(b"\" y=\"", point.y, text)?;
     text.extend_from_slice(b"\">")
 }
 
@@ -67,13 +67,13 @@ pub(crate) fn close_text(text: &mut Vec<u8>) -> Result<(), AllocError>
 #[tactic(auto, unfolding(crate::specs::Shapes::label_text))]
 pub(crate) fn push_label(
     class: &[u8],
-    spot: Spot,
+    point: Point,
     words: &[u8],
     text: &mut Vec<u8>,
 ) -> Result<(), AllocError>
-    ensures { OnOk result (text.new.items ≡ text.old.items ++ label_text class.now spot words.now) }
+    ensures { OnOk result (text.new.items ≡ text.old.items ++ label_text class.now point words.now) }
 {
-    open_text(class, spot, text)?;
+    open_text(class, point, text)?;
     push_escaped(words, text)?;
     close_text(text)
 }
@@ -82,21 +82,21 @@ pub(crate) fn push_label(
 #[tactic(auto, unfolding(crate::specs::Shapes::number_shape))]
 pub(crate) fn push_number(
     class: &[u8],
-    spot: Spot,
+    point: Point,
     label: &[u8],
     number: u64,
     text: &mut Vec<u8>,
 ) -> Result<(), AllocError>
-    ensures { OnOk result (text.new.items ≡ text.old.items ++ number_shape class.now spot label.now number) }
+    ensures { OnOk result (text.new.items ≡ text.old.items ++ number_shape class.now point label.now number) }
 {
-    open_text(class, spot, text)?;
+    open_text(class, point, text)?;
     push_labelled(label, number, text)?;
     close_text(text)
 }
 
 /// Appends a line from one end of the picture to the other.
 #[tactic(auto, unfolding(crate::specs::Shapes::line_text))]
-pub(crate) fn push_line(from: Spot, to: u64, text: &mut Vec<u8>) -> Result<(), AllocError>
+pub(crate) fn push_line(from: Point, to: u64, text: &mut Vec<u8>) -> Result<(), AllocError>
     ensures { OnOk result (text.new.items ≡ text.old.items ++ line_text from to) }
 {
     push_labelled(b"<path class=\"line\" d=\"M", from.x, text)?;
@@ -107,7 +107,7 @@ pub(crate) fn push_line(from: Spot, to: u64, text: &mut Vec<u8>) -> Result<(), A
 
 /// Appends a line that goes down.
 #[tactic(auto, unfolding(crate::specs::Shapes::grid_text))]
-pub(crate) fn push_grid(from: Spot, to: u64, text: &mut Vec<u8>) -> Result<(), AllocError>
+pub(crate) fn push_grid(from: Point, to: u64, text: &mut Vec<u8>) -> Result<(), AllocError>
     ensures { OnOk result (text.new.items ≡ text.old.items ++ grid_text from to) }
 {
     push_labelled(b"<path class=\"grid\" d=\"M", from.x, text)?;

@@ -3,11 +3,11 @@
 ghost use Rattle.std.specs.Prelude.{◌≡◌, ◌≤◌, ◌^◌, ◌++◌, OnOk, length, decimal, min, Option, None};
 ghost use Rattle.cfdp_draw.specs.Times.{free_after, is_time_written, time_text, times_text};
 
-use crate::axis::{At, x_of};
+use crate::axis::{AxisPosition, x_of};
 use crate::blocks::BASE;
 use crate::chart::Moment;
 use crate::lanes::TOP;
-use crate::shapes::{Spot, push_grid, push_number};
+use crate::shapes::{Point, push_grid, push_number};
 use crate::words::digits_of;
 use std::alloc::AllocError;
 
@@ -38,13 +38,13 @@ fn push_time(bottom: u64, x: u64, time: u64, text: &mut Vec<u8>) -> Result<(), A
     requires { bottom ≤ 2 ^ 40 }
     ensures { OnOk result (text.new.items ≡ text.old.items ++ time_text bottom x time) }
 {
-    push_grid(Spot { x, y: TOP }, bottom + BASE, text)?;
-    push_number(b"plain", Spot { x, y: bottom + 15 }, b"", time, text)
+    push_grid(Point { x, y: TOP }, bottom + BASE, text)?;
+    push_number(b"plain", Point { x, y: bottom + 15 }, b"", time, text)
 }
 
 /// Appends the times of moments, where there is room for them.
 pub(crate) fn push_times(
-    total: At,
+    total: AxisPosition,
     bottom: u64,
     moments: &[Moment],
     text: &mut Vec<u8>,

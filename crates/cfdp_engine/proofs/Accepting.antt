@@ -5,7 +5,7 @@ use Rattle.std.proofs.lemmas.Bool.Decides.{nat_tests}
 use Rattle.cfdp_transactions.specs.declared.event.Event.{Event}
 use Rattle.cfdp_transactions.specs.declared.reply.Reply.{Reply}
 use Rattle.cfdp_transactions.specs.World.{World}
-use Rattle.cfdp_transactions.specs.Engine.{Engine}
+use Rattle.cfdp_transactions.specs.CoreFields.{CoreFields}
 use Rattle.cfdp_transactions.specs.Next.{next}
 use Rattle.cfdp_transactions.specs.Needs.{Follows}
 use Rattle.cfdp_engine.specs.Journal.{Recorded, is_answered, has_full_journal, entered}
@@ -29,7 +29,7 @@ not_full reply taken is = let q = ap is_journal_full is in cc
 pub below : (j : Recorded) → length j.journal < j.core.world.config.journal → IsTrue (has_full_journal j) → ⊥
 below j room full = grind (arith, nat_tests)
 
-module _ (j : Recorded) (seat : ℕ) (event : Event) (reply : Reply) (E : Engine) (follows : Follows j.core.world event reply E.world) (other : reply
+module _ (j : Recorded) (seat : ℕ) (event : Event) (reply : Reply) (E : CoreFields) (follows : Follows j.core.world event reply E.world) (other : reply
     ≡ Reply.Memory → ⊥) where
   now : next j.core.world event ≡ (E.world, reply)
   now = follows_next j.core.world event reply E.world follows other

@@ -1,7 +1,7 @@
 -- Where there is a fault, the receipts are not the journal.
 use Rattle.std.proofs.Common.{ℕ, ◌+◌, List, [], ◌∷◌, ◌++◌, inl, inr}
 use Rattle.std.specs.Prelude.{Bool, IsTrue, IsFalse}
-use Rattle.cfdp_engine.specs.Journal.{Entry}
+use Rattle.cfdp_engine.specs.Journal.{JournalEntry}
 use Rattle.cfdp_engine.specs.Seats.{Receipt, Fault, CountDiffers, SeatTwice, ReceiptDiffers, Seated, SeatsDiffer, IsFirstTwice, AreEntered, AllEntered, IsFirstUnentered, IsFirstDiffering, IsReconciled, IsFirstFault}
 
 pub both : (b : Bool) → IsTrue b → IsFalse b → ⊥
@@ -15,7 +15,7 @@ twice_apart before (s ∷ ss) number twice apart = elim twice [
       twice_apart (before ++ s ∷ []) ss number later.1 apart.1
 ]
 
-unentered : (J : List Entry) (number low : ℕ) (rs : List Receipt) (place : ℕ) → IsFirstUnentered J number low rs place → AreEntered J number low rs → ⊥
+unentered : (J : List JournalEntry) (number low : ℕ) (rs : List Receipt) (place : ℕ) → IsFirstUnentered J number low rs place → AreEntered J number low rs → ⊥
 unentered J number low [] place first entered = first
 unentered J number low (r ∷ rs) place first entered = elim first [
   | inl here ↦ here.0 entered.0
@@ -23,7 +23,7 @@ unentered J number low (r ∷ rs) place first entered = elim first [
       unentered J number (r.place + 1) rs place later.1 entered.1
 ]
 
-differing : (J : List Entry) (seats : List Seated) (number place : ℕ) → IsFirstDiffering J seats number place → AllEntered J seats → ⊥
+differing : (J : List JournalEntry) (seats : List Seated) (number place : ℕ) → IsFirstDiffering J seats number place → AllEntered J seats → ⊥
 differing J [] number place first entered = first
 differing J (s ∷ ss) number place first entered = elim first [
   | inl here ↦ unentered J s.number 0 s.receipts place here.1 entered.0
@@ -31,7 +31,7 @@ differing J (s ∷ ss) number place first entered = elim first [
       differing J ss number place later.1 entered.1
 ]
 
-pub fault_differs : (J : List Entry) (seats : List Seated) (fault : Fault) → IsFirstFault J seats fault → IsReconciled J seats → ⊥
+pub fault_differs : (J : List JournalEntry) (seats : List Seated) (fault : Fault) → IsFirstFault J seats fault → IsReconciled J seats → ⊥
 fault_differs J seats CountDiffers first all = first all.counted
 fault_differs J seats (SeatTwice number) first all = twice_apart [] seats number first.1 all.apart
 fault_differs J seats (ReceiptDiffers number place) first all = differing J seats number place first.2 all.entered

@@ -12,32 +12,32 @@ use Rattle.cfdp_transactions.specs.declared.event.Event.{Event}
 use Rattle.cfdp_transactions.specs.declared.reply.Reply.{Reply}
 use Rattle.cfdp_transactions.specs.World.{World, start}
 use Rattle.cfdp_transactions.specs.Next.{run, replies}
-use Rattle.cfdp_transactions.specs.Engine.{Engine}
-pub use Rattle.cfdp_engine.specs.declared.entry.Entry.{Entry}
+use Rattle.cfdp_transactions.specs.CoreFields.{CoreFields}
+pub use Rattle.cfdp_engine.specs.declared.entry.JournalEntry.{JournalEntry}
 
 abbrev pub is_answered : Reply → Bool
 is_answered Reply.Memory = false
 is_answered Reply.JournalFull = false
 is_answered reply = true
 
-abbrev pub journal_events : List Entry → List Event
+abbrev pub journal_events : List JournalEntry → List Event
 journal_events journal = map (λ e. e.event) journal
 
-abbrev pub replies_of : List Entry → List Reply
+abbrev pub replies_of : List JournalEntry → List Reply
 replies_of journal = map (λ e. e.reply) journal
 
 -- from the start of the configuration, which no event changes
-pub record IsHistory (journal : List Entry) (W : World) : Type 0 where
+pub record IsHistory (journal : List JournalEntry) (W : World) : Type 0 where
   pub replies : replies (start W.config) (journal_events journal) ≡ replies_of journal
   pub world : run (start W.config) (journal_events journal) ≡ W
 
 pub record Recorded : Type 0 where
-  pub core : Engine
-  pub journal : List Entry
+  pub core : CoreFields
+  pub journal : List JournalEntry
 
 abbrev pub has_full_journal : Recorded → Bool
 has_full_journal j = nat_le j.core.world.config.journal (length j.journal)
 
-abbrev pub entered : List Entry → (seat : ℕ) → Event → Reply → List Entry
+abbrev pub entered : List JournalEntry → (seat : ℕ) → Event → Reply → List JournalEntry
 entered journal seat event reply = if is_answered reply then journal
     ++ record { seat = seat; event = event; reply = reply } ∷ [] else journal

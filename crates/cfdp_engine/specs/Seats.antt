@@ -14,7 +14,7 @@ use Rattle.std.specs.List.{list_any}
 pub use Rattle.cfdp_engine.specs.declared.receipt.Receipt.{Receipt}
 pub use Rattle.cfdp_engine.specs.declared.fault.Fault.{Fault}
 pub use Rattle.cfdp_engine.specs.declared.fault.Fault.TheVariants.{CountDiffers, SeatTwice, ReceiptDiffers}
-use Rattle.cfdp_engine.specs.Journal.{Entry}
+use Rattle.cfdp_engine.specs.Journal.{JournalEntry}
 
 pub record Seated : Type 0 where
   pub number : ℕ
@@ -43,27 +43,27 @@ IsFirstTwice before (s ∷ ss) number =
 
 -- receipts -----------------------------------------------------------------------
 
-pub record IsEntered (J : List Entry) (number low : ℕ) (r : Receipt) : Type 0 where
+pub record IsEntered (J : List JournalEntry) (number low : ℕ) (r : Receipt) : Type 0 where
   pub rises : low ≤ r.place
   pub here : slice_get J r.place ≡ Some (record { seat = number; event = r.event; reply = r.reply })
 
-abbrev pub AreEntered : List Entry → (number low : ℕ) → List Receipt → Type 0
+abbrev pub AreEntered : List JournalEntry → (number low : ℕ) → List Receipt → Type 0
 AreEntered J number low [] = ⊤
 AreEntered J number low (r ∷ rs) = IsEntered J number low r × AreEntered J number (r.place + 1) rs
 
-abbrev pub AllEntered : List Entry → List Seated → Type 0
+abbrev pub AllEntered : List JournalEntry → List Seated → Type 0
 AllEntered J [] = ⊤
 AllEntered J (s ∷ ss) = AreEntered J s.number 0 s.receipts × AllEntered J ss
 
 -- the index of the first receipt that is not
-abbrev pub IsFirstUnentered : List Entry → (number low : ℕ) → List Receipt → (place : ℕ) → Type 0
+abbrev pub IsFirstUnentered : List JournalEntry → (number low : ℕ) → List Receipt → (place : ℕ) → Type 0
 IsFirstUnentered J number low [] place = ⊥
 IsFirstUnentered J number low (r ∷ rs) place =
     (¬ IsEntered J number low r × (place ≡ r.place)) ⊎ (IsEntered J number low r
     × IsFirstUnentered J number (r.place + 1) rs place)
 
 -- of the first seat that has one
-abbrev pub IsFirstDiffering : List Entry → List Seated → (number place : ℕ) → Type 0
+abbrev pub IsFirstDiffering : List JournalEntry → List Seated → (number place : ℕ) → Type 0
 IsFirstDiffering J [] number place = ⊥
 IsFirstDiffering J (s ∷ ss) number place =
     ((number ≡ s.number) × IsFirstUnentered J s.number 0 s.receipts place)
@@ -71,12 +71,12 @@ IsFirstDiffering J (s ∷ ss) number place =
 
 -- all together -------------------------------------------------------------------
 
-pub record IsReconciled (J : List Entry) (seats : List Seated) : Type 0 where
+pub record IsReconciled (J : List JournalEntry) (seats : List Seated) : Type 0 where
   pub counted : length J ≡ receipts_in seats
   pub apart : SeatsDiffer [] seats
   pub entered : AllEntered J seats
 
-abbrev pub IsFirstFault : List Entry → List Seated → Fault → Type 0
+abbrev pub IsFirstFault : List JournalEntry → List Seated → Fault → Type 0
 IsFirstFault J seats CountDiffers = length J ≢ receipts_in seats
 IsFirstFault J seats (SeatTwice number) = (length J ≡ receipts_in seats) × IsFirstTwice [] seats number
 IsFirstFault J seats (ReceiptDiffers number place) = (length J ≡ receipts_in seats) × SeatsDiffer [] seats

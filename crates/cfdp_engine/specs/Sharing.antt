@@ -1,4 +1,4 @@
--- What the threads that share an engine learn of it.
+-- What the threads that share a journaled core learn of it.
 --     stop_text                 why an event was not taken
 --     IsReceived                a seat has one receipt more
 --     receipt_events            the events of some receipts

@@ -4,7 +4,7 @@ ghost use Rattle.std.specs.Prelude.{◌≡◌, ◌↔◌, [], IsTrue, IsOk, IfOk
 ghost use Rattle.cfdp_engine.specs.Journal.{IsHistory};
 ghost use Rattle.cfdp_engine.specs.Seats.{AllEntered, SeatsDiffer, AreEntered, IsEntered, IsFirstDiffering, IsFirstFault, IsFirstTwice, IsFirstUnentered, IsReconciled, is_number_taken, receipts_in};
 
-use crate::entry::Entry;
+use crate::entry::JournalEntry;
 use crate::fault::Fault;
 use crate::journaled::Journaled;
 use crate::receipt::Receipt;
@@ -12,13 +12,13 @@ use crate::seat::Seat;
 use cfdp_actions::Filestore;
 use cfdp_transactions::Core;
 
-/// What is left of an engine whose receipts are its journal.
+/// What is left of a journaled core whose receipts are its journal.
 #[derive(Drop)]
 pub struct Closed<S: Filestore> {
     /// The core: its world is that of the journal.
     pub core: Core<S>,
     /// All that was taken, in order.
-    pub journal: Vec<Entry>,
+    pub journal: Vec<JournalEntry>,
     /// The seats, as they were handed in.
     pub seats: Vec<Seat>,
 }
@@ -35,7 +35,7 @@ pub struct NotClosed<S: Filestore> {
 }
 
 /// Whether the journal has as many entries as the seats have receipts.
-fn are_counted(journal: &[Entry], seats: &[Seat]) -> bool
+fn are_counted(journal: &[JournalEntry], seats: &[Seat]) -> bool
     ensures { IsTrue result ↔ (length journal.now ≡ receipts_in seats.now) }
 {
     let mut left = journal.len();
@@ -70,7 +70,7 @@ fn first_twice(seats: &[Seat]) -> Option<u8>
 }
 
 /// Whether a receipt of the seat with this number is an entry of the journal, at an index that is not before `low`.
-fn is_entered(journal: &[Entry], number: u8, low: u64, receipt: &Receipt) -> bool
+fn is_entered(journal: &[JournalEntry], number: u8, low: u64, receipt: &Receipt) -> bool
     ensures { IsTrue result ↔ IsEntered journal.now number low receipt.now }
 {
     let Some(entry) = journal.get(receipt.place as usize) else {
@@ -83,7 +83,7 @@ fn is_entered(journal: &[Entry], number: u8, low: u64, receipt: &Receipt) -> boo
 }
 
 /// The index of the first of a seat's receipts that is no entry of the journal, or does not rise.
-fn first_unentered(journal: &[Entry], seat: &Seat) -> Option<u32>
+fn first_unentered(journal: &[JournalEntry], seat: &Seat) -> Option<u32>
     ensures entered { IfNone result (AreEntered journal.now seat.now.number 0 seat.now.receipts) }
     ensures not { IfSome result (λ place. IsFirstUnentered journal.now seat.now.number 0 seat.now.receipts place) }
 {
@@ -99,7 +99,7 @@ fn first_unentered(journal: &[Entry], seat: &Seat) -> Option<u32>
 }
 
 /// The first receipt that is faulty, by its seat's number and its index.
-fn first_differing(journal: &[Entry], seats: &[Seat]) -> Option<(u8, u32)>
+fn first_differing(journal: &[JournalEntry], seats: &[Seat]) -> Option<(u8, u32)>
     ensures entered { IfNone result (AllEntered journal.now seats.now) }
     ensures differs { IfSome result (λ found. IsFirstDiffering journal.now seats.now found.0 found.1) }
 {
@@ -112,7 +112,7 @@ fn first_differing(journal: &[Entry], seats: &[Seat]) -> Option<(u8, u32)>
 }
 
 /// What is found first where the receipts are not the journal.
-fn first_fault(journal: &[Entry], seats: &[Seat]) -> Option<Fault>
+fn first_fault(journal: &[JournalEntry], seats: &[Seat]) -> Option<Fault>
     ensures none { IfNone result (IsReconciled journal.now seats.now) }
     ensures fault { IfSome result (λ fault. IsFirstFault journal.now seats.now fault) }
 {

@@ -5,7 +5,7 @@ use cfdp_transactions::Reply;
 
 /// An event that was taken: the number of the seat that handed it in, the event, and the reply.
 #[derive(Drop)]
-pub struct Entry {
+pub struct JournalEntry {
     /// The number of the seat, any octet.
     pub seat: u8,
     /// What was handed in.

@@ -4,12 +4,12 @@ ghost use Rattle.std.specs.Prelude.{◌≡◌, ◌↔◌, [], IfOk, IsTrue, IsFa
 ghost use Rattle.std.specs.Arc.{arc_value};
 ghost use Rattle.cfdp_transactions.specs.World.{start};
 ghost use Rattle.cfdp_transactions.specs.Sound.{Sound};
-ghost use Rattle.cfdp_transactions.specs.Engine.{AsksForNone};
+ghost use Rattle.cfdp_transactions.specs.CoreFields.{AsksForNone};
 ghost use Rattle.cfdp_transactions.specs.Needs.{Follows, may_want_memory};
 ghost use Rattle.cfdp_transactions.specs.Books.{IsAnswered};
 ghost use Rattle.cfdp_engine.specs.Journal.{IsHistory, entered, has_full_journal};
 
-use crate::entry::Entry;
+use crate::entry::JournalEntry;
 use crate::event::SharedEvent;
 use cfdp_actions::Filestore;
 use cfdp_paths::Memory;
@@ -26,13 +26,13 @@ use std::sync::Arc;
 #[derive(Drop)]
 pub struct Journaled<S: Filestore> {
     core: Core<S>,
-    entries: Vec<Entry>,
+    entries: Vec<JournalEntry>,
 }
 
 impl<S: Filestore> Model for Journaled<S> {
     ghost use Rattle.std.specs.Coded.{codes};
     ghost use Rattle.std.specs.Vec.{vec_capacity};
-    ghost use Rattle.cfdp_transactions.specs.code.Engine.{nodes_code};
+    ghost use Rattle.cfdp_transactions.specs.code.CoreFields.{nodes_code};
     ghost use Rattle.cfdp_engine.specs.Journal as words;
     ghost use Rattle.cfdp_engine.specs.code.Journal as words_in_code;
 
@@ -79,7 +79,7 @@ impl<S: Filestore> Journaled<S> {
     }
 
     /// The journal, in the order in which the events were taken.
-    pub fn journal(&self) -> &[Entry]
+    pub fn journal(&self) -> &[JournalEntry]
         ensures { result.now ≡ self.now.journal }
     {
         &self.entries
@@ -109,7 +109,9 @@ impl<S: Filestore> Journaled<S> {
         let (reply, journaled) = self.core.apply_both(event.event());
         match journaled {
             Reply::Memory => {}
-            reply => self.entries.push_reserved(Entry { seat, event, reply }),
+            reply => self
+                .entries
+                .push_reserved(JournalEntry { seat, event, reply }),
         }
         reply
     }
@@ -130,7 +132,7 @@ impl<S: Filestore> Journaled<S> {
     }
 
     /// Both apart.
-    pub(crate) fn into_parts(self) -> (Core<S>, Vec<Entry>)
+    pub(crate) fn into_parts(self) -> (Core<S>, Vec<JournalEntry>)
         ensures core { result.0 ≡ self.core }
         ensures journal { result.1.items ≡ self.journal }
     {

@@ -1,4 +1,4 @@
-//! The engine round the core of a CFDP receiving entity (CCSDS 727.0-B-5): a journal of all that the core did, seats
+//! What is round the core of a CFDP receiving entity (CCSDS 727.0-B-5): a journal of all that the core did, seats
 //! with the receipts of what they handed in, one lock, and workers.
 //!
 //! The definitions are in `specs/`: `Journal.antt` says what a journal is, `Seats.antt` when receipts are the
@@ -20,7 +20,7 @@ mod stop;
 mod working;
 
 pub use closing::{Closed, NotClosed, close};
-pub use entry::Entry;
+pub use entry::JournalEntry;
 pub use event::SharedEvent;
 pub use fault::Fault;
 pub use gate::Gate;

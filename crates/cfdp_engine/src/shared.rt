@@ -1,4 +1,4 @@
-//! The engine that several threads share.
+//! The journaled core that several threads share.
 
 ghost use Rattle.std.specs.Prelude.{◌≡◌, IfOk, OnErr};
 ghost use Rattle.std.specs.Arc.{arc_value};

@@ -12,7 +12,7 @@ use Rattle.cfdp_transactions.specs.Entry.{Entry, is_live}
 use Rattle.cfdp_transactions.specs.World.{World, index_of, entry_of}
 use Rattle.cfdp_transactions.specs.Outcome.{outcome_of}
 use Rattle.cfdp_transactions.specs.Ending.{taken_out}
-use Rattle.cfdp_transactions.specs.Engine.{outcome_when_over, where_any, outcome_in}
+use Rattle.cfdp_transactions.specs.CoreFields.{outcome_when_over, where_any, outcome_in}
 use Rattle.cfdp_transactions.specs.Writable.{FitsReply, IsWritable, longest_finished}
 use Rattle.cfdp_transactions.specs.Fitting.{OnlyWritable}
 use Rattle.cfdp_transactions.specs.FinishedInBuffer.{taken_by}

@@ -6,7 +6,7 @@ ghost use Rattle.cfdp_pdus.specs.Sound.{IsNoFileData};
 ghost use Rattle.cfdp_pdus.specs.Canonical.{IsHeader};
 ghost use Rattle.cfdp_pdus.specs.Placing.{filled};
 ghost use Rattle.cfdp_transactions.specs.Entry.{gaps};
-ghost use Rattle.cfdp_transactions.specs.Engine.{AsksForNone, outcome_in, read_of};
+ghost use Rattle.cfdp_transactions.specs.CoreFields.{AsksForNone, outcome_in, read_of};
 ghost use Rattle.cfdp_transactions.specs.Events.{about};
 ghost use Rattle.cfdp_transactions.specs.declared.event.Event.{Event as EventOf};
 ghost use Rattle.cfdp_transactions.specs.declared.event.Event.TheVariants.{Data as DataCame, Eof as EofCame, Cancel as CancelCame, Check as CheckCame, Step as StepCame, Take as TakeCame};
@@ -53,7 +53,7 @@ pub struct Entity {
 
 impl Model for Entity {
     ghost use Rattle.cfdp_transactions.specs.World.{World};
-    ghost use Rattle.cfdp_transactions.specs.code.Engine.{nodes_code};
+    ghost use Rattle.cfdp_transactions.specs.code.CoreFields.{nodes_code};
     ghost use Rattle.std.specs.Coded.{codes};
 
     ghost Value = { World };

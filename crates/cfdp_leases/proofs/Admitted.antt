@@ -1,5 +1,5 @@
 -- What the holders of a path say of the grants.
---     place_in gs id               how many grants are before that of the transaction
+--     index_among gs id            how many grants are before that of the transaction
 --     strangers                    who holds no footprint holds no path
 --     others-strangers, others-without      the holders of a path without those of one transaction
 --     first_leasing                the first holder of a path has the first grant that leases it
@@ -38,8 +38,8 @@ same_is a b h =
     let parts = and_parts (a.source == b.source) (a.number == b.number) h in
     λ i. record { source = eqb-true a.source b.source parts.0 i; number = eqb-true a.number b.number parts.1 i }
 
-abbrev pub place_in : Grants → TransactionId → ℕ
-place_in gs id = prefix_len (λ g. not (is_same g.0 id)) gs
+abbrev pub index_among : Grants → TransactionId → ℕ
+index_among gs id = prefix_len (λ g. not (is_same g.0 id)) gs
 
 -- ---- one grant's leases of a path
 
@@ -130,11 +130,11 @@ pub first_none : (hs : List Holder) → None ≡ slice_get hs 0 → hs ≡ []
 first_none [] found = refl
 first_none (k ∷ hs) found = absurd (cc found)
 
-place_behind : (g : Grant) (gs : Grants) (id : TransactionId) → is_same g.0 id ≡ false → place_in (g ∷ gs) id ≡ 1 + place_in gs id
-place_behind g gs id other = ap (λ b. cond (not b) (1 + place_in gs id) 0) other
+index_behind : (g : Grant) (gs : Grants) (id : TransactionId) → is_same g.0 id ≡ false → index_among (g ∷ gs) id ≡ 1 + index_among gs id
+index_behind g gs id other = ap (λ b. cond (not b) (1 + index_among gs id) 0) other
 
-place_here : (g : Grant) (gs : Grants) → place_in (g ∷ gs) g.0 ≡ 0
-place_here g gs = ap (λ b. cond (not b) (1 + place_in gs g.0) 0) (same_itself g.0)
+index_here : (g : Grant) (gs : Grants) → index_among (g ∷ gs) g.0 ≡ 0
+index_here g gs = ap (λ b. cond (not b) (1 + index_among gs g.0) 0) (same_itself g.0)
 
 abbrev pub leasing : Path → Grant → Bool
 leasing p g = set.contains (leased g.1) p
@@ -200,20 +200,20 @@ nobody_leasing (g ∷ gs) p none =
       | neither fails ↦ let rest = nobody_leasing gs p (sym (nobody_of g gs p fails) ∙ none) in omega (arith, rest, behind (leasing p) g gs fails)
     ]
 
-pub first_leasing : (gs : Grants) (p : Path) (h : Holder) (hs : List Holder) → AreApart gs → holders_at gs p ≡ h ∷ hs → place_in gs h.transaction
+pub first_leasing : (gs : Grants) (p : Path) (h : Holder) (hs : List Holder) → AreApart gs → holders_at gs p ≡ h ∷ hs → index_among gs h.transaction
     ≡ prefix_len (λ g. not (leasing p g)) gs
 first_leasing [] p h hs apart are = absurd (cc are)
 first_leasing (g ∷ gs) p h hs apart are =
     elim (way g p) [
       | exclusively passes ↦
           let mine : g.0 ≡ h.transaction = head_is _ _ _ _ (sym (ap (λ ks. ks ++ holders_at gs p) (of_exclusive g.0 g.1 p passes)) ∙ are) in
-          subst (λ id. place_in (g ∷ gs) id ≡ 0) mine (place_here g gs) ∙ sym (here (leasing p) g gs (leased_by_exclusive g.1 p passes))
+          subst (λ id. index_among (g ∷ gs) id ≡ 0) mine (index_here g gs) ∙ sym (here (leasing p) g gs (leased_by_exclusive g.1 p passes))
       | merely fails passes ↦
           let mine : g.0 ≡ h.transaction = head_is _ _ _ _ (sym (ap (λ ks. ks ++ holders_at gs p) (of_shared g.0 g.1 p fails passes)) ∙ are) in
-          subst (λ id. place_in (g ∷ gs) id ≡ 0) mine (place_here g gs) ∙ sym (here (leasing p) g gs (leased_by_shared g.1 p passes))
+          subst (λ id. index_among (g ∷ gs) id ≡ 0) mine (index_here g gs) ∙ sym (here (leasing p) g gs (leased_by_shared g.1 p passes))
       | neither fails ↦
           let rest : holders_at gs p ≡ h ∷ hs = sym (nobody_of g gs p fails) ∙ are in
-          place_behind g gs h.transaction (first_behind g gs p h hs apart rest)
+          index_behind g gs h.transaction (first_behind g gs p h hs apart rest)
           ∙ ap (λ n. 1 + n) (first_leasing gs p h hs apart.1 rest)
           ∙ sym (behind (leasing p) g gs fails)
     ]
@@ -257,19 +257,19 @@ first_shared (g ∷ gs) p h hs apart are shared =
     ]
 
 pub first_exclusive : (gs : Grants) (p : Path) (h : Holder) (hs : List Holder) → AreApart gs → holders_at gs p ≡ h ∷ hs → h.lease ≡ Exclusive →
-    place_in gs h.transaction ≡ prefix_len (λ g. not (changing p g)) gs
+    index_among gs h.transaction ≡ prefix_len (λ g. not (changing p g)) gs
 first_exclusive [] p h hs apart are exclusive = absurd (cc are)
 first_exclusive (g ∷ gs) p h hs apart are exclusive =
     elim (way g p) [
       | exclusively passes ↦
           let mine : g.0 ≡ h.transaction = head_is _ _ _ _ (sym (ap (λ ks. ks ++ holders_at gs p) (of_exclusive g.0 g.1 p passes)) ∙ are) in
-          subst (λ id. place_in (g ∷ gs) id ≡ 0) mine (place_here g gs) ∙ sym (here (changing p) g gs passes)
+          subst (λ id. index_among (g ∷ gs) id ≡ 0) mine (index_here g gs) ∙ sym (here (changing p) g gs passes)
       | merely fails passes ↦
           let mine : Shared ≡ h.lease = lease_is _ _ _ _ (sym (ap (λ ks. ks ++ holders_at gs p) (of_shared g.0 g.1 p fails passes)) ∙ are) in
           absurd (cc (mine ∙ exclusive))
       | neither fails ↦
           let rest : holders_at gs p ≡ h ∷ hs = sym (nobody_of g gs p fails) ∙ are in
-          place_behind g gs h.transaction (first_behind g gs p h hs apart rest)
+          index_behind g gs h.transaction (first_behind g gs p h hs apart rest)
           ∙ ap (λ n. 1 + n) (first_exclusive gs p h hs apart.1 rest exclusive)
           ∙ sym (behind (changing p) g gs (not_exclusive g.1 p fails))
     ]

@@ -280,9 +280,9 @@ before_apart : (xs : List Path) (i : ℕ) (x p : Path) → IsStrictlySortedBy pa
     ≡ false
 before_apart xs i x p sorted within read before =
     let found = Contains_from_stands p (take i xs) before in
-    let place : found.0 < i = omega (arith, found.1, length-take {A = Path}) in
-    let at : get_or xs found.0 x ≡ p = sym (get_or-take i xs found.0 x place) ∙ get_or_default (take i xs) found.0 x p found.1 ∙ found.2 in
-    let less : path_cmp (get_or xs found.0 x) (get_or xs i x) ≡ Less = Less-from_sorted path_cmp xs found.0 i x sorted place within in
+    let earlier : found.0 < i = omega (arith, found.1, length-take {A = Path}) in
+    let at : get_or xs found.0 x ≡ p = sym (get_or-take i xs found.0 x earlier) ∙ get_or_default (take i xs) found.0 x p found.1 ∙ found.2 in
+    let less : path_cmp (get_or xs found.0 x) (get_or xs i x) ≡ Less = Less-from_sorted path_cmp xs found.0 i x sorted earlier within in
     ap (λ q. same_path p q) read ∙ ap is_eq (subst (λ q. path_cmp q (get_or xs i x) ≡ Less) at less)
 
 -- a path is not among those before it in strict order, and it is among all

@@ -4,7 +4,7 @@
 --     grants-filter, footprints-filter      one live transaction less
 --     own_key                      a transaction has one key in the list
 --     others-push, others-filter   the slab has no other footprints, with one live transaction more, and with one less
---     place-live, length-live, transaction-live      indexes in the list are indexes among the grants
+--     index-live, length-live, transaction-live      indexes in the list are indexes among the grants
 --     kept_same, kept_admitted, kept_released, kept_emptied      what is kept, after each change
 use Rattle.std.proofs.Common.{◌≡◌, ◌≢◌, refl, sym, ◌∙◌, ap, subst, ℕ, Bool, true, false, cond, not, ◌||◌, ◌==◌, inl, inr, List, [], ◌∷◌, ◌++◌, length, arith, Option, Some, None, is_some}
 use Rattle.std.specs.Prelude.{find, filter, slice_get, unwrap_or, IsSome}
@@ -19,7 +19,7 @@ use Rattle.std.proofs.lemmas.Option.{slice_get-map}
 use Rattle.cfdp_leases.specs.declared.leased_paths.LeasedPaths.{LeasedPaths}
 use Rattle.slab.specs.Slab.{Slab, get, Updates}
 use Rattle.cfdp_status.specs.declared.transaction.TransactionId.{TransactionId}
-use Rattle.cfdp_leases.specs.declared.leases.Live.{Live}
+use Rattle.cfdp_leases.specs.declared.leases.LiveGrant.{LiveGrant}
 use Rattle.cfdp_leases.specs.Footprint.{Footprint, leased}
 use Rattle.cfdp_leases.specs.code.Footprint.{HasAncestors, of_lists}
 use Rattle.cfdp_leases.specs.code.Holders.{Holds, holders_at, holders_of}
@@ -28,8 +28,8 @@ use Rattle.cfdp_leases.specs.code.Live.{AreKept, HasNoOthers, HaveFootprints, fo
 use Rattle.cfdp_leases.proofs.Apart.{all_filter, apart_push, apart_filter}
 use Rattle.cfdp_leases.proofs.Held.{holds_same, left}
 use Rattle.cfdp_leases.proofs.Views.{find-map, option_map-map}
-use Rattle.cfdp_leases.proofs.Admitted.{place_in, released, same_is, some_is}
-use Rattle.cfdp_leases.proofs.Places.{prefix_len-map}
+use Rattle.cfdp_leases.proofs.Admitted.{index_among, released, same_is, some_is}
+use Rattle.cfdp_leases.proofs.Indexes.{prefix_len-map}
 
 pub footprint_is : (s : Slab Footprint) (key : ℕ) (fp : Footprint) → get s key ≡ Some fp → footprint_at s key ≡ fp
 footprint_is s key fp has = ap (λ o. unwrap_or o (of_lists [] [])) has
@@ -46,16 +46,17 @@ all_found P test (y ∷ xs) x all found =
 -- ---- one more
 
 -- the new key is none of the others'
-fresh : (s : Slab Footprint) (key : ℕ) (l : Live) → IsSome (get s l.key) → get s key ≡ None → l.key ≢ key
+fresh : (s : Slab Footprint) (key : ℕ) (l : LiveGrant) → IsSome (get s l.key) → get s key ≡ None → l.key ≢ key
 fresh s key l has none same = true≢false (sym has ∙ ap (λ k. is_some (get s k)) same ∙ ap is_some none)
 
-pub grants-push : (s t : Slab Footprint) (key : ℕ) (fp : Footprint) (live : List Live) → HaveFootprints s live → get s key ≡ None → Updates s t key (Some fp)
+pub grants-push : (s t : Slab Footprint) (key : ℕ) (fp : Footprint) (live : List LiveGrant) → HaveFootprints s live → get s key ≡ None → Updates s t key
+    (Some fp)
     → grants_of t live ≡ grants_of s live
 grants-push s t key fp [] kept none update = refl
 grants-push s t key fp (l ∷ live) kept none update =
     λ i. (l.transaction, unwrap_or (update.others l.key (fresh s key l kept.0 none) i) (of_lists [] [])) ∷ grants-push s t key fp live kept.2 none update i
 
-others_fresh : (s : Slab Footprint) (key : ℕ) (live : List Live) → HaveFootprints s live → get s key ≡ None → AllByRecursion (λ l. l.key ≢ key) live
+others_fresh : (s : Slab Footprint) (key : ℕ) (live : List LiveGrant) → HaveFootprints s live → get s key ≡ None → AllByRecursion (λ l. l.key ≢ key) live
 others_fresh s key [] kept none = tt
 others_fresh s key (l ∷ live) kept none = (fresh s key l kept.0 none, others_fresh s key live kept.2 none)
 
@@ -63,7 +64,7 @@ all_push : {X : Type 0} (P : X → Type 0) (xs : List X) (x : X) → AllByRecurs
 all_push P [] x all this = (this, tt)
 all_push P (y ∷ xs) x all this = (all.0, all_push P xs x all.1 this)
 
-pub footprints-push : (s t : Slab Footprint) (new : Live) (fp : Footprint) (live : List Live) → HaveFootprints s live → get s new.key ≡ None →
+pub footprints-push : (s t : Slab Footprint) (new : LiveGrant) (fp : Footprint) (live : List LiveGrant) → HaveFootprints s live → get s new.key ≡ None →
     Updates s t new.key (Some fp)
     → HaveFootprints t (live ++ new ∷ [])
 footprints-push s t new fp [] kept none update = (ap is_some update.changed, tt, tt)
@@ -75,17 +76,18 @@ footprints-push s t new fp (l ∷ live) kept none update = (
 
 -- ---- one less
 
-pub occupied : (s : Slab Footprint) (live : List Live) → HaveFootprints s live → AllByRecursion (λ l. IsSome (get s l.key)) live
+pub occupied : (s : Slab Footprint) (live : List LiveGrant) → HaveFootprints s live → AllByRecursion (λ l. IsSome (get s l.key)) live
 occupied s [] kept = tt
 occupied s (l ∷ live) kept = (kept.0, occupied s live kept.2)
 
-all_but : (P : Live → Type 0) (id : TransactionId) (live : List Live) → AllByRecursion P live →
+all_but : (P : LiveGrant → Type 0) (id : TransactionId) (live : List LiveGrant) → AllByRecursion P live →
     AllByRecursion (λ m. is_same m.transaction id ≡ false → P m) live
 all_but P id [] all = tt
 all_but P id (l ∷ live) all = ((λ other. all.0), all_but P id live all.1)
 
 -- the footprints of others are under other keys
-pub elsewhere : (s : Slab Footprint) (id : TransactionId) (live : List Live) (l : Live) → HaveFootprints s live → find (λ m. is_same m.transaction id) live
+pub elsewhere : (s : Slab Footprint) (id : TransactionId) (live : List LiveGrant) (l : LiveGrant) → HaveFootprints s live → find
+    (λ m. is_same m.transaction id) live
     ≡ Some l
     → AllByRecursion (λ m. is_same m.transaction id ≡ false → m.key ≢ l.key) live
 elsewhere s id [] l kept found = tt
@@ -103,7 +105,7 @@ elsewhere s id (m ∷ live) l kept found =
           ((λ _ same. all_found (λ n. n.key ≢ m.key) (λ n. is_same n.transaction id) live l kept.1 behind (sym same)), elsewhere s id live l kept.2 behind)
     ]
 
-pub grants-filter : (s t : Slab Footprint) (key : ℕ) (id : TransactionId) (live : List Live) → Updates s t key None
+pub grants-filter : (s t : Slab Footprint) (key : ℕ) (id : TransactionId) (live : List LiveGrant) → Updates s t key None
     → AllByRecursion (λ m. is_same m.transaction id ≡ false → m.key ≢ key) live
     → grants_of t (filter (λ m. not (is_same m.transaction id)) live) ≡ filter (λ g. not (is_same g.0 id)) (grants_of s live)
 grants-filter s t key id [] update all = refl
@@ -123,7 +125,7 @@ grants-filter s t key id (m ∷ live) update all =
           (filter (λ g. not (is_same g.0 id)) (grants_of s live))) fails)
     ]
 
-pub footprints-filter : (s t : Slab Footprint) (key : ℕ) (id : TransactionId) (live : List Live) → HaveFootprints s live → Updates s t key None
+pub footprints-filter : (s t : Slab Footprint) (key : ℕ) (id : TransactionId) (live : List LiveGrant) → HaveFootprints s live → Updates s t key None
     → AllByRecursion (λ m. is_same m.transaction id ≡ false → m.key ≢ key) live → HaveFootprints t (filter (λ m. not (is_same m.transaction id)) live)
 footprints-filter s t key id [] kept update all = tt
 footprints-filter s t key id (m ∷ live) kept update all =
@@ -140,7 +142,7 @@ footprints-filter s t key id (m ∷ live) kept update all =
 
 -- ---- no other footprints
 
-pub others-push : (s t : Slab Footprint) (new : Live) (fp : Footprint) (live : List Live) → HasNoOthers s live → Updates s t new.key (Some fp) →
+pub others-push : (s t : Slab Footprint) (new : LiveGrant) (fp : Footprint) (live : List LiveGrant) → HasNoOthers s live → Updates s t new.key (Some fp) →
     HasNoOthers t (live ++ new ∷ [])
 others-push s t new fp live only update key some =
     list_any-append (λ l. l.key == key) live (new ∷ [])
@@ -152,14 +154,15 @@ others-push s t new fp live only update key some =
     ]
 
 -- a transaction that is none of the live ones has no key
-no_key : (s : Slab Footprint) (id : TransactionId) (key : ℕ) (live : List Live) → holds (grants_of s live) id ≡ false
+no_key : (s : Slab Footprint) (id : TransactionId) (key : ℕ) (live : List LiveGrant) → holds (grants_of s live) id ≡ false
     → AllByRecursion (λ m. is_same m.transaction id ≡ true → m.key ≡ key) live
 no_key s id key [] none = tt
 no_key s id key (m ∷ live) none =
     let parts = or_parts (is_same m.transaction id) (holds (grants_of s live) id) none in
     ((λ same. absurd (true≢false (sym same ∙ parts.0))), no_key s id key live parts.1)
 
-pub own_key : (s : Slab Footprint) (id : TransactionId) (live : List Live) (l : Live) → AreApart (grants_of s live) → find (λ m. is_same m.transaction id) live
+pub own_key : (s : Slab Footprint) (id : TransactionId) (live : List LiveGrant) (l : LiveGrant) → AreApart (grants_of s live) → find
+    (λ m. is_same m.transaction id) live
     ≡ Some l
     → AllByRecursion (λ m. is_same m.transaction id ≡ true → m.key ≡ l.key) live
 own_key s id [] l apart found = tt
@@ -179,7 +182,7 @@ own_key s id (m ∷ live) l apart found =
     ]
 
 -- another key stays in the list
-key_stays : (id : TransactionId) (gone key : ℕ) (live : List Live) → key ≢ gone → AllByRecursion (λ m. is_same m.transaction id ≡ true → m.key ≡ gone) live
+key_stays : (id : TransactionId) (gone key : ℕ) (live : List LiveGrant) → key ≢ gone → AllByRecursion (λ m. is_same m.transaction id ≡ true → m.key ≡ gone) live
     → list_any (λ m. m.key == key) live ≡ true → list_any (λ m. m.key == key) (filter (λ m. not (is_same m.transaction id)) live) ≡ true
 key_stays id gone key [] other own there = there
 key_stays id gone key (m ∷ live) other own there =
@@ -201,7 +204,7 @@ key_stays id gone key (m ∷ live) other own there =
           ]
     ]
 
-pub others-filter : (s t : Slab Footprint) (key : ℕ) (id : TransactionId) (live : List Live) → HasNoOthers s live → Updates s t key None
+pub others-filter : (s t : Slab Footprint) (key : ℕ) (id : TransactionId) (live : List LiveGrant) → HasNoOthers s live → Updates s t key None
     → AllByRecursion (λ m. is_same m.transaction id ≡ true → m.key ≡ key) live → HasNoOthers t (filter (λ m. not (is_same m.transaction id)) live)
 others-filter s t gone id live only update own key some =
     let other : key ≢ gone = λ same. true≢false (sym some ∙ ap (λ k. is_some (get t k)) same ∙ ap is_some update.changed) in
@@ -209,34 +212,34 @@ others-filter s t gone id live only update own key some =
 
 -- ---- indexes among the live ones
 
-abbrev grant_of : Slab Footprint → Live → TransactionId × Footprint
+abbrev grant_of : Slab Footprint → LiveGrant → TransactionId × Footprint
 grant_of s l = (l.transaction, footprint_at s l.key)
 
-pub place-live : (s : Slab Footprint) (live : List Live) (id : TransactionId) → prefix_len (λ l. not (is_same l.transaction id)) live
-    ≡ place_in (grants_of s live) id
-place-live s live id = sym (prefix_len-map (grant_of s) (λ g. not (is_same g.0 id)) live)
+pub index-live : (s : Slab Footprint) (live : List LiveGrant) (id : TransactionId) → prefix_len (λ l. not (is_same l.transaction id)) live
+    ≡ index_among (grants_of s live) id
+index-live s live id = sym (prefix_len-map (grant_of s) (λ g. not (is_same g.0 id)) live)
 
-pub length-live : (s : Slab Footprint) (live : List Live) → length live ≡ length (grants_of s live)
+pub length-live : (s : Slab Footprint) (live : List LiveGrant) → length live ≡ length (grants_of s live)
 length-live s [] = refl
 length-live s (l ∷ live) = omega (arith, length-live s live)
 
-pub transaction-live : (s : Slab Footprint) (live : List Live) (n : ℕ) → option_map (λ l. l.transaction) (slice_get live n)
+pub transaction-live : (s : Slab Footprint) (live : List LiveGrant) (n : ℕ) → option_map (λ l. l.transaction) (slice_get live n)
     ≡ option_map (λ g. g.0) (slice_get (grants_of s live) n)
 transaction-live s live n =
     sym (option_map-map (grant_of s) (λ g. g.0) (slice_get live n)) ∙ sym (ap (option_map (λ g. g.0)) (slice_get-map (grant_of s) live n))
 
 -- ---- what is kept
 
-pub grants-same : (s t : Slab Footprint) (live : List Live) → ((key : ℕ) → get t key ≡ get s key) → grants_of s live ≡ grants_of t live
+pub grants-same : (s t : Slab Footprint) (live : List LiveGrant) → ((key : ℕ) → get t key ≡ get s key) → grants_of s live ≡ grants_of t live
 grants-same s t [] same = refl
 grants-same s t (l ∷ live) same = λ i. (l.transaction, unwrap_or (sym (same l.key) i) (of_lists [] [])) ∷ grants-same s t live same i
 
-pub footprints-same : (s t : Slab Footprint) (live : List Live) → ((key : ℕ) → get t key ≡ get s key) → HaveFootprints s live → HaveFootprints t live
+pub footprints-same : (s t : Slab Footprint) (live : List LiveGrant) → ((key : ℕ) → get t key ≡ get s key) → HaveFootprints s live → HaveFootprints t live
 footprints-same s t [] same kept = tt
 footprints-same s t (l ∷ live) same kept = (ap is_some (same l.key) ∙ kept.0, kept.1, footprints-same s t live same kept.2)
 
 -- room was made, and the map has the same holders
-pub kept_same : (s t : Slab Footprint) (live now : List Live) (before paths : LeasedPaths) → ((key : ℕ) → get t key ≡ get s key) → now ≡ live
+pub kept_same : (s t : Slab Footprint) (live now : List LiveGrant) (before paths : LeasedPaths) → ((key : ℕ) → get t key ≡ get s key) → now ≡ live
     → AreKept s live before → Holds paths (holders_at (grants_of s live)) → AreKept t now paths
 kept_same s t live now before paths same lists kept rows =
     subst (λ ls. AreKept t ls paths) (sym lists)
@@ -249,14 +252,15 @@ kept_same s t live now before paths same lists kept rows =
       rows = subst (λ gs. Holds paths (holders_at gs)) grants rows;
     })
 
-pub grants_admitted : (s t : Slab Footprint) (live : List Live) (new : Live) (fp : Footprint) → HaveFootprints s live → get s new.key ≡ None →
+pub grants_admitted : (s t : Slab Footprint) (live : List LiveGrant) (new : LiveGrant) (fp : Footprint) → HaveFootprints s live → get s new.key ≡ None →
     Updates s t new.key (Some fp)
     → grants_of t (live ++ new ∷ []) ≡ grants_of s live ++ (new.transaction, fp) ∷ []
 grants_admitted s t live new fp kept none update =
     map-append (grant_of t) live (new ∷ [])
     ∙ (λ i. grants-push s t new.key fp live kept none update i ++ (new.transaction, footprint_is t new.key fp update.changed i) ∷ [])
 
-pub kept_admitted : (s t : Slab Footprint) (live : List Live) (new : Live) (fp : Footprint) (before paths : LeasedPaths) → AreKept s live before → get s new.key
+pub kept_admitted : (s t : Slab Footprint) (live : List LiveGrant) (new : LiveGrant) (fp : Footprint) (before paths : LeasedPaths) → AreKept s live before →
+    get s new.key
     ≡ None
     → Updates s t new.key (Some fp) → HasAncestors fp → first_conflict (grants_of s live) fp ≡ None → holds (grants_of s live) new.transaction ≡ false
     → Holds paths (λ p. holders_at (grants_of s live) p ++ holders_of new.transaction fp p) → AreKept t (live ++ new ∷ []) paths
@@ -278,7 +282,8 @@ kept_admitted s t live new fp before paths kept none update ancestors free unhel
 -- ---- a release
 
 -- nobody is released
-pub nobody_there : (s : Slab Footprint) (live : List Live) (id : TransactionId) → None ≡ option_map (λ l. l.key) (find (λ l. is_same l.transaction id) live) →
+pub nobody_there : (s : Slab Footprint) (live : List LiveGrant) (id : TransactionId) → None ≡ option_map (λ l. l.key)
+    (find (λ l. is_same l.transaction id) live) →
     grants_of s live ≡ without_grant (grants_of s live) id
 nobody_there s [] id none = refl
 nobody_there s (l ∷ live) id none =
@@ -290,23 +295,23 @@ nobody_there s (l ∷ live) id none =
           ∙ sym (ap (λ b. cond (not b) (grant_of s l ∷ without_grant (grants_of s live) id) (without_grant (grants_of s live) id)) fails)
     ]
 
-pub live_there : (live : List Live) (id : TransactionId) (key : ℕ) → Some key ≡ option_map (λ l. l.key) (find (λ l. is_same l.transaction id) live)
-    → (l : Live) × (find (λ m. is_same m.transaction id) live ≡ Some l) × (l.key ≡ key)
+pub live_there : (live : List LiveGrant) (id : TransactionId) (key : ℕ) → Some key ≡ option_map (λ l. l.key) (find (λ l. is_same l.transaction id) live)
+    → (l : LiveGrant) × (find (λ m. is_same m.transaction id) live ≡ Some l) × (l.key ≡ key)
 live_there live id key found = which (find (λ l. is_same l.transaction id) live) refl found
   where
-    which : (o : Option Live) → find (λ l. is_same l.transaction id) live ≡ o → Some key ≡ option_map (λ l. l.key) o → (l : Live)
+    which : (o : Option LiveGrant) → find (λ l. is_same l.transaction id) live ≡ o → Some key ≡ option_map (λ l. l.key) o → (l : LiveGrant)
         × (find (λ m. is_same m.transaction id) live ≡ Some l) × (l.key ≡ key)
     which None is there = absurd (cc there)
     which (Some l) is there = (l, is, sym (some_is key l.key there))
 
 -- the grant of a live transaction
-pub grant_there : (s : Slab Footprint) (live : List Live) (id : TransactionId) (l : Live) (fp : Footprint) → find (λ m. is_same m.transaction id) live
+pub grant_there : (s : Slab Footprint) (live : List LiveGrant) (id : TransactionId) (l : LiveGrant) (fp : Footprint) → find (λ m. is_same m.transaction id) live
     ≡ Some l → get s l.key ≡ Some fp
     → find (λ g. is_same g.0 id) (grants_of s live) ≡ Some (l.transaction, fp)
 grant_there s live id l fp found has =
     find-map (grant_of s) (λ g. is_same g.0 id) live ∙ ap (option_map (grant_of s)) found ∙ ap (λ f. Some (l.transaction, f)) (footprint_is s l.key fp has)
 
-pub kept_released : (s t : Slab Footprint) (live : List Live) (id : TransactionId) (l : Live) (fp : Footprint) (before paths : LeasedPaths) →
+pub kept_released : (s t : Slab Footprint) (live : List LiveGrant) (id : TransactionId) (l : LiveGrant) (fp : Footprint) (before paths : LeasedPaths) →
     AreKept s live before
     → find (λ m. is_same m.transaction id) live ≡ Some l → get s l.key ≡ Some fp → Updates s t l.key None
     → Holds paths (λ p. left id (set.contains (leased fp) p) (holders_at (grants_of s live) p)) →
@@ -327,7 +332,7 @@ kept_released s t live id l fp before paths kept found has update rows =
     }
 
 -- the last one is released, and no path has a holder
-pub kept_emptied : (s t : Slab Footprint) (live : List Live) (id : TransactionId) (l : Live) (fp : Footprint) (before paths : LeasedPaths) →
+pub kept_emptied : (s t : Slab Footprint) (live : List LiveGrant) (id : TransactionId) (l : LiveGrant) (fp : Footprint) (before paths : LeasedPaths) →
     AreKept s live before
     → find (λ m. is_same m.transaction id) live ≡ Some l → get s l.key ≡ Some fp → Updates s t l.key None
     → filter (λ m. not (is_same m.transaction id)) live ≡ [] → Holds paths (λ p. []) → AreKept t (filter (λ m. not (is_same m.transaction id)) live) paths

@@ -9,7 +9,7 @@ pub mod Ordered
 pub mod Closed
 pub mod Held
 pub mod Admitted
-pub mod Places
+pub mod Indexes
 pub mod Kept
 pub mod Alone
 pub mod Keys

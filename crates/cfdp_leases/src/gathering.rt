@@ -158,7 +158,7 @@ fn add_ancestors(
     }
     match find_parent(paths, path, guess) {
         Ok(index) => Ok(index),
-        Err(place) => insert_ancestors(alloc, paths, path, place),
+        Err(index) => insert_ancestors(alloc, paths, path, index),
     }
 }
 
@@ -169,18 +169,18 @@ fn insert_ancestors(
     alloc: Global,
     paths: &mut Vec<Path>,
     path: &Path,
-    place: usize,
+    index: usize,
 ) -> Result<usize, Memory>
     requires above { HaveAncestors paths.old.items }
     requires deep { 2 ≤ length path.now }
-    requires place { place ≤ length paths.old.items }
-    requires gap { IsStrictlySortedBy path_cmp (insert paths.old.items place (parent path.now)) }
+    requires index { index ≤ length paths.old.items }
+    requires gap { IsStrictlySortedBy path_cmp (insert paths.old.items index (parent path.now)) }
     ensures ordered { OnOk result (IsStrictlySortedBy path_cmp paths.new.items) }
     ensures added { OnOk result (SameSet paths.new.items (paths.old.items ++ ancestors path.now)) }
 {
     let depth = path.depth();
-    insert_beginning(alloc, paths, path, depth - 1, place)?;
-    let mut parent = place;
+    insert_beginning(alloc, paths, path, depth - 1, index)?;
+    let mut parent = index;
     for count in (1..depth - 1).rev() {
         match find_beginning(paths, path, count) {
             Ok(_) => return Ok(parent),
@@ -201,8 +201,8 @@ fn insert_ancestors(
 fn find_parent(paths: &[Path], path: &Path, guess: usize) -> Result<usize, usize>
     requires ordered { IsStrictlySortedBy path_cmp paths.now }
     ensures found { IfOk result (λ _. IsTrue (list_any (same_path (parent path.now)) paths.now)) }
-    ensures place { IfErr result (λ place. place ≤ length paths.now) }
-    ensures gap { IfErr result (λ place. IsStrictlySortedBy path_cmp (insert paths.now place (parent path.now))) }
+    ensures index { IfErr result (λ index. index ≤ length paths.now) }
+    ensures gap { IfErr result (λ index. IsStrictlySortedBy path_cmp (insert paths.now index (parent path.now))) }
 {
     let depth = path.depth();
     match paths.get(guess) {
@@ -220,7 +220,7 @@ fn add(alloc: Global, paths: &mut Vec<Path>, path: &Path) -> Result<(), Memory>
 {
     match find_beginning(paths, path, path.depth()) {
         Ok(_) => Ok(()),
-        Err(place) => insert_beginning(alloc, paths, path, path.depth(), place),
+        Err(index) => insert_beginning(alloc, paths, path, path.depth(), index),
     }
 }
 
@@ -231,19 +231,19 @@ fn insert_beginning(
     paths: &mut Vec<Path>,
     path: &Path,
     depth: usize,
-    place: usize,
+    index: usize,
 ) -> Result<(), Memory>
     requires some { 1 ≤ depth }
     requires within { depth ≤ length path.now }
-    requires place { place ≤ length paths.old.items }
-    requires gap { IsStrictlySortedBy path_cmp (insert paths.old.items place (take depth path.now)) }
+    requires index { index ≤ length paths.old.items }
+    requires gap { IsStrictlySortedBy path_cmp (insert paths.old.items index (take depth path.now)) }
     ensures ordered { OnOk result (IsStrictlySortedBy path_cmp paths.new.items) }
     ensures added { OnOk result (SameSet paths.new.items (paths.old.items ++ take depth path.now ∷ [])) }
     ensures named { NoneIsRoot paths.old.items → OnOk result (NoneIsRoot paths.new.items) }
     ensures one_more { OnOk result (length paths.new.items ≡ length paths.old.items + 1) }
 {
     let beginning = path.beginning(alloc, depth)?;
-    paths.insert(place, beginning)?;
+    paths.insert(index, beginning)?;
     Ok(())
 }
 
@@ -252,8 +252,8 @@ fn find_beginning(paths: &[Path], path: &Path, depth: usize) -> Result<usize, us
     requires ordered { IsStrictlySortedBy path_cmp paths.now }
     requires within { depth ≤ length path.now }
     ensures found { IfOk result (λ _. IsTrue (list_any (same_path (take depth path.now)) paths.now)) }
-    ensures place { IfErr result (λ place. place ≤ length paths.now) }
-    ensures gap { IfErr result (λ place. IsStrictlySortedBy path_cmp (insert paths.now place (take depth path.now))) }
+    ensures index { IfErr result (λ index. index ≤ length paths.now) }
+    ensures gap { IfErr result (λ index. IsStrictlySortedBy path_cmp (insert paths.now index (take depth path.now))) }
 {
     let beginning = path.first_names(depth);
     paths.binary_search_by(|held| held.cmp_names(&beginning))

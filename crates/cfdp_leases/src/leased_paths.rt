@@ -228,8 +228,8 @@ impl LeasedPaths {
         let path = path.copy(alloc)?;
         let holders = Holders::One(holder);
         match self.rows.entry(hash)? {
-            Entry::Vacant(place) => {
-                place.insert(Row { path, holders });
+            Entry::Vacant(slot) => {
+                slot.insert(Row { path, holders });
             }
             Entry::Occupied(_) => {
                 self.others.insert(path, holders)?;
@@ -277,14 +277,14 @@ impl LeasedPaths {
         ensures err { (holders : Names → List Holder) → Holds self.old holders → OnErr result (Holds self.new holders) }
     {
         match self.rows.entry(path.hash())? {
-            Entry::Vacant(place) => {
+            Entry::Vacant(slot) => {
                 let path = path.copy(alloc)?;
                 let holders = Holders::One(holder);
-                place.insert(Row { path, holders });
+                slot.insert(Row { path, holders });
                 Ok(())
             }
-            Entry::Occupied(place) => {
-                let row = place.into_mut();
+            Entry::Occupied(slot) => {
+                let row = slot.into_mut();
                 if row.path == *path {
                     return row.holders.add(alloc, holder);
                 }

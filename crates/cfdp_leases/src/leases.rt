@@ -19,7 +19,7 @@ use std::marker::Model;
 
 /// A live transaction, and the key of its footprint.
 #[derive(Debug, Drop)]
-struct Live {
+struct LiveGrant {
     transaction: TransactionId,
     key: usize,
 }
@@ -29,7 +29,7 @@ struct Live {
 #[derive(Debug, Drop)]
 pub struct Leases {
     /// In order of admission.
-    live: Vec<Live>,
+    live: Vec<LiveGrant>,
     /// Under the keys of the live transactions.
     footprints: Slab<Footprint>,
     /// The paths of the footprints, with the transactions that hold them.
@@ -120,7 +120,7 @@ impl Leases {
         self.footprints.reserve(1)?;
         self.paths.lease(alloc, transaction, &footprint)?;
         let key = self.footprints.insert_reserved(footprint);
-        self.live.push(Live { transaction, key }).unwrap();
+        self.live.push(LiveGrant { transaction, key }).unwrap();
         Ok(())
     }
 
@@ -194,14 +194,14 @@ impl Leases {
 }
 
 /// The transaction at an index, if there is one.
-fn transaction_at(live: &[Live], place: usize) -> Option<TransactionId>
-    ensures { result ≡ option_map (λ l. l.transaction) (slice_get live.now place) }
+fn transaction_at(live: &[LiveGrant], index: usize) -> Option<TransactionId>
+    ensures { result ≡ option_map (λ l. l.transaction) (slice_get live.now index) }
 {
-    live.get(place).map(|live| live.transaction)
+    live.get(index).map(|live| live.transaction)
 }
 
 /// The key of the transaction's footprint, if it is one of the live ones.
-fn key_of(live: &[Live], transaction: TransactionId) -> Option<usize>
+fn key_of(live: &[LiveGrant], transaction: TransactionId) -> Option<usize>
     ensures { result ≡ option_map (λ l. l.key) (find (λ l. is_same l.transaction transaction) live.now) }
 {
     live.iter()
@@ -210,14 +210,14 @@ fn key_of(live: &[Live], transaction: TransactionId) -> Option<usize>
 }
 
 /// Whether one of them is the transaction.
-fn any_of(live: &[Live], transaction: TransactionId) -> bool
+fn any_of(live: &[LiveGrant], transaction: TransactionId) -> bool
     ensures { result ≡ list_any (λ l. is_same l.transaction transaction) live.now }
 {
     live.iter().any(|live| live.transaction == transaction)
 }
 
 /// How many come before the transaction; the length of the list if it is not in it.
-fn count_before(live: &[Live], transaction: TransactionId) -> usize
+fn count_before(live: &[LiveGrant], transaction: TransactionId) -> usize
     ensures { result ≡ prefix_len (λ l. not (is_same l.transaction transaction)) live.now }
 {
     live.iter()

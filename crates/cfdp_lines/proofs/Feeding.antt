@@ -6,7 +6,7 @@ use Rattle.std.specs.Io.KnownBytes.{Appends}
 use Rattle.cfdp_lines.specs.Answers.{AnswersLine, Adds}
 use Rattle.cfdp_lines.specs.Lines.{is_newline, line_limit, IsOneLine}
 use Rattle.cfdp_lines.specs.Report.{line_answer}
-use Rattle.cfdp_lines.specs.Session.{Place, place, Moves, StopsBad}
+use Rattle.cfdp_lines.specs.Session.{LineReading, line_reading, Moves, StopsBad}
 use Rattle.cfdp_lines.specs.code.Session.{Breaks, Runs, RunsBad, RunsPart, RunsLost}
 use Rattle.cfdp_streams.specs.Streams.{LostWithin}
 use Rattle.cfdp_streams.specs.code.Streams.{Spills}
@@ -32,7 +32,7 @@ one_line-whole octets none =
 module _ (State : Type 0) (answer : State → List ℕ → Option (State × List ℕ)) where
   -- octets without a newline
   pub Adds-gather : (n : ℕ) (state : State) (line octets text : List ℕ)
-      → Adds answer (place n state line) (place n state (line ++ octets)) octets text text
+      → Adds answer (line_reading n state line) (line_reading n state (line ++ octets)) octets text text
   Adds-gather n state line octets text = record {
     text = [];
     moves = Moves-gather State answer n state line octets;
@@ -43,11 +43,11 @@ module _ (State : Type 0) (answer : State → List ℕ → Option (State × List
   pub Adds-line : (n : ℕ) (state after : State) (line octets before text : List ℕ) (at : ℕ)
       → IsOneLine (line ++ take at octets) → at < length octets → is_newline (get_or octets at 0) ≡ true
       → AnswersLine (line_answer answer) state after (line ++ take at octets) before text
-      → Adds answer (place n state line) (place (n + 1) after []) (take (at + 1) octets) before text
+      → Adds answer (line_reading n state line) (line_reading (n + 1) after []) (take (at + 1) octets) before text
   Adds-line n state after line octets before text at h lt e a =
       rw (take_more octets at 0 lt) record {
         text = a.text;
-        moves = Moves-then State answer (place n state line) (place n state (line ++ take at octets)) (place (n + 1) after [])
+        moves = Moves-then State answer (line_reading n state line) (line_reading n state (line ++ take at octets)) (line_reading (n + 1) after [])
             (take at octets) (get_or octets at 0 ∷ []) [] a.text
             (Moves-gather State answer n state line (take at octets))
             (Moves-newline State answer n state after (line ++ take at octets) a.text (get_or octets at 0) h e a.answered);
@@ -56,39 +56,39 @@ module _ (State : Type 0) (answer : State → List ℕ → Option (State × List
 
   -- too many octets before the next newline
   pub Stops-overlong : (n : ℕ) (state : State) (line octets : List ℕ) (at : ℕ) → IsOneLine line → IsOneLine (take at octets)
-      → line_limit < length line + length (take at octets) → StopsBad answer (place n state line) octets [] n
+      → line_limit < length line + length (take at octets) → StopsBad answer (line_reading n state line) octets [] n
   Stops-overlong n state line octets at h e full =
-      subst (λ (s : List ℕ). StopsBad answer (place n state line) s [] n) (take-append-drop at octets)
-      (StopsBad-before State answer (place n state line) (take at octets) (drop at octets) [] n
+      subst (λ (s : List ℕ). StopsBad answer (line_reading n state line) s [] n) (take-append-drop at octets)
+      (StopsBad-before State answer (line_reading n state line) (take at octets) (drop at octets) [] n
       (StopsBad-overlong State answer n state line (take at octets) h e full))
 
   -- a line that is bad
   pub Stops-line : (n : ℕ) (state : State) (line octets : List ℕ) (at : ℕ)
       → IsOneLine (line ++ take at octets) → at < length octets → is_newline (get_or octets at 0) ≡ true
       → line_answer answer state (line ++ take at octets) ≡ None
-      → StopsBad answer (place n state line) octets [] n
+      → StopsBad answer (line_reading n state line) octets [] n
   Stops-line n state line octets at h lt e bad =
-      let stops : StopsBad answer (place n state line) (take (at + 1) octets) [] n =
+      let stops : StopsBad answer (line_reading n state line) (take (at + 1) octets) [] n =
       rw (take_more octets at 0 lt)
-      (Moves-then_stops State answer (place n state line) (place n state (line ++ take at octets)) (take at octets) (get_or octets at 0 ∷ [])
+      (Moves-then_stops State answer (line_reading n state line) (line_reading n state (line ++ take at octets)) (take at octets) (get_or octets at 0 ∷ [])
       [] [] n (Moves-gather State answer n state line (take at octets))
       (StopsBad-newline State answer n state (line ++ take at octets) (get_or octets at 0) h e bad)) in
-      subst (λ (s : List ℕ). StopsBad answer (place n state line) s [] n) (take-append-drop (at + 1) octets)
-      (StopsBad-before State answer (place n state line) (take (at + 1) octets) (drop (at + 1) octets) [] n stops)
+      subst (λ (s : List ℕ). StopsBad answer (line_reading n state line) s [] n) (take-append-drop (at + 1) octets)
+      (StopsBad-before State answer (line_reading n state line) (take (at + 1) octets) (drop (at + 1) octets) [] n stops)
 
   -- octets whose first line is not bad
   pub Stops-good_line : (n : ℕ) (state : State) (octets : List ℕ) (at : ℕ)
       → IsOneLine (take at octets) → at < length octets → is_newline (get_or octets at 0) ≡ true
       → (line_answer answer state (take at octets) ≡ None → ⊥)
-      → StopsBad answer (place n state []) octets [] n → ⊥
+      → StopsBad answer (line_reading n state []) octets [] n → ⊥
   Stops-good_line n state octets at h lt e good stops =
       let cut : take at octets ++ get_or octets at 0 ∷ drop (at + 1) octets ≡ octets =
       ap (λ (rest : List ℕ). take at octets ++ rest) (sym (drop_more octets at 0 lt)) ∙ take-append-drop at octets in
       StopsBad-good_line State answer n state (take at octets) (drop (at + 1) octets) (get_or octets at 0) h e good
-      (subst (λ (s : List ℕ). StopsBad answer (place n state []) s [] n) (sym cut) stops)
+      (subst (λ (s : List ℕ). StopsBad answer (line_reading n state []) s [] n) (sym cut) stops)
 
   -- some of a piece was run; of its text some was written, and the rest is held back
-  pub record Fed (from here : Place State) (piece rest held : List ℕ) (old new : Option (List ℕ)) : Type 0 where
+  pub record Fed (from here : LineReading State) (piece rest held : List ℕ) (old new : Option (List ℕ)) : Type 0 where
     pub done : List ℕ
     pub text : List ℕ
     pub written : List ℕ
@@ -97,7 +97,7 @@ module _ (State : Type 0) (answer : State → List ℕ → Option (State × List
     pub whole : text ≡ written ++ held
     pub appended : Appends old new written
 
-  pub Fed-none : (here : Place State) (piece : List ℕ) (old : Option (List ℕ)) → Fed here here piece piece [] old old
+  pub Fed-none : (here : LineReading State) (piece : List ℕ) (old : Option (List ℕ)) → Fed here here piece piece [] old old
   Fed-none here piece old = record {
     done = [];
     text = [];
@@ -108,7 +108,7 @@ module _ (State : Type 0) (answer : State → List ℕ → Option (State × List
     appended = Appends-none old;
   }
 
-  pub Fed-adds : (from here there : Place State) (piece rest front back held later : List ℕ) (old new : Option (List ℕ))
+  pub Fed-adds : (from here there : LineReading State) (piece rest front back held later : List ℕ) (old new : Option (List ℕ))
       → Fed from here piece rest held old new → front ++ back ≡ rest → Adds answer here there front held later
       → Fed from there piece back later old new
   Fed-adds from here there piece rest front back held later old new f e a = record {
@@ -122,7 +122,7 @@ module _ (State : Type 0) (answer : State → List ℕ → Option (State × List
     appended = f.appended;
   }
 
-  pub Fed-spills : (from here : Place State) (piece rest held later : List ℕ) (old new newer : Option (List ℕ))
+  pub Fed-spills : (from here : LineReading State) (piece rest held later : List ℕ) (old new newer : Option (List ℕ))
       → Fed from here piece rest held old new → Spills held later new newer → Fed from here piece rest later old newer
   Fed-spills from here piece rest held later old new newer f s = record {
     done = f.done;
@@ -135,12 +135,12 @@ module _ (State : Type 0) (answer : State → List ℕ → Option (State × List
   }
 
   -- what was held back was written: all of the text was
-  whole_text : (from here : Place State) (piece rest held : List ℕ) (old new newer : Option (List ℕ)) (f : Fed from here piece rest held old new)
+  whole_text : (from here : LineReading State) (piece rest held : List ℕ) (old new newer : Option (List ℕ)) (f : Fed from here piece rest held old new)
       → Appends new newer held → Appends old newer f.text
   whole_text from here piece rest held old new newer f a =
       subst (λ (s : List ℕ). Appends old newer s) (sym f.whole) (Appends-more old new newer f.written held f.appended a)
 
-  pub Fed-runs : (from here : Place State) (piece rest held : List ℕ) (old new newer : Option (List ℕ))
+  pub Fed-runs : (from here : LineReading State) (piece rest held : List ℕ) (old new newer : Option (List ℕ))
       → Fed from here piece rest held old new → rest ≡ [] → Appends new newer held → Runs answer from here piece old newer
   Fed-runs from here piece rest held old new newer f e a =
       let all : f.done ≡ piece = sym (f.cut ∙ ap (λ (s : List ℕ). f.done ++ s) e ∙ append-nil f.done) in record {
@@ -149,7 +149,7 @@ module _ (State : Type 0) (answer : State → List ℕ → Option (State × List
         appended = whole_text from here piece rest held old new newer f a;
       }
 
-  pub Fed-stops : (from here : Place State) (piece rest held : List ℕ) (n : ℕ) (old new newer : Option (List ℕ))
+  pub Fed-stops : (from here : LineReading State) (piece rest held : List ℕ) (n : ℕ) (old new newer : Option (List ℕ))
       → Fed from here piece rest held old new → Appends new newer held → StopsBad answer here rest [] n
       → RunsBad answer from piece n old newer
   Fed-stops from here piece rest held n old new newer f a b = record {
@@ -160,14 +160,14 @@ module _ (State : Type 0) (answer : State → List ℕ → Option (State × List
     appended = whole_text from here piece rest held old new newer f a;
   }
 
-  breaks_off : (from here : Place State) (piece rest held : List ℕ) (old new : Option (List ℕ)) (f : Fed from here piece rest held old new)
+  breaks_off : (from here : LineReading State) (piece rest held : List ℕ) (old new : Option (List ℕ)) (f : Fed from here piece rest held old new)
       → Breaks answer from piece f.text
   breaks_off from here piece rest held old new f =
       subst (λ (s : List ℕ). Breaks answer from s f.text) (sym f.cut)
       (Breaks-shorter State answer from (f.done ++ rest) f.text []
       (Moves-then_breaks State answer from here f.done rest f.text [] f.moves (Breaks-none State answer here rest)))
 
-  pub Fed-part : (from here : Place State) (piece rest held : List ℕ) (old new newer : Option (List ℕ))
+  pub Fed-part : (from here : LineReading State) (piece rest held : List ℕ) (old new newer : Option (List ℕ))
       → Fed from here piece rest held old new → Appends new newer held → RunsPart answer from piece old newer
   Fed-part from here piece rest held old new newer f a = record {
     written = f.text;
@@ -175,7 +175,7 @@ module _ (State : Type 0) (answer : State → List ℕ → Option (State × List
     appended = whole_text from here piece rest held old new newer f a;
   }
 
-  pub Fed-lost : (from here : Place State) (piece rest held : List ℕ) (old new newer : Option (List ℕ))
+  pub Fed-lost : (from here : LineReading State) (piece rest held : List ℕ) (old new newer : Option (List ℕ))
       → Fed from here piece rest held old new → LostWithin held new newer → RunsLost answer from piece old newer
   Fed-lost from here piece rest held old new newer f l =
       let parts : f.text ≡ (f.written ++ l.written) ++ l.begins.0 =

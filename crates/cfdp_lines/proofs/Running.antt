@@ -6,7 +6,7 @@ use Rattle.std.proofs.Math.Seq.{take-append_seam, take-append-add}
 use Rattle.std.specs.Io.KnownBytes.{Keeps, Consumes, IsAtEnd}
 use Rattle.cfdp_lines.specs.Lines.{line_limit, input_limit, lines_of, settled_lines, IsOneLine}
 use Rattle.cfdp_lines.specs.Report.{Report, report, wrote, empty_report, stopped_at, script_report, limited_report}
-use Rattle.cfdp_lines.specs.Session.{Place, place, report_at, StopsBad}
+use Rattle.cfdp_lines.specs.Session.{LineReading, line_reading, report_at, StopsBad}
 use Rattle.cfdp_lines.specs.code.Session.{Runs, RunsBad, RunsPart, RunsLost, Finishes, FinishesBad, FinishesLost}
 use Rattle.cfdp_streams.specs.Streams.{KeptOrLost, Begins, ReadsOff, ReadsAtMost}
 use Rattle.cfdp_lines.specs.Outcome.{WholeRun, BadRun, LongRun, PartRun, LostRun}
@@ -53,34 +53,34 @@ Consumes-begun a (Some b) x p = (b, p)
 
 module _ (State : Type 0) (answer : State → List ℕ → Option (State × List ℕ)) where
   -- some pieces were read and run, and this many octets may still come
-  pub record Running (start : State) (here : Place State) (left : ℕ) (input unread old new : Option (List ℕ)) : Type 0 where
+  pub record Running (start : State) (here : LineReading State) (left : ℕ) (input unread old new : Option (List ℕ)) : Type 0 where
     pub octets : List ℕ
     pub consumed : Consumes input unread octets
-    pub runs : Runs answer (place 1 start []) here octets old new
+    pub runs : Runs answer (line_reading 1 start []) here octets old new
     pub within : length octets + left ≡ input_limit
 
-  pub Running-none : (start : State) (input old : Option (List ℕ)) → Running start (place 1 start []) input_limit input input old old
+  pub Running-none : (start : State) (input old : Option (List ℕ)) → Running start (line_reading 1 start []) input_limit input input old old
   Running-none start input old = record {
     octets = [];
     consumed = Consumes-none input;
-    runs = Runs-none State answer (place 1 start []) old;
+    runs = Runs-none State answer (line_reading 1 start []) old;
     within = refl;
   }
 
   -- a piece was read and run
-  pub Running-more : (start : State) (here there : Place State) (left later : ℕ) (input unread rest old new newer : Option (List ℕ))
+  pub Running-more : (start : State) (here there : LineReading State) (left later : ℕ) (input unread rest old new newer : Option (List ℕ))
       (piece : List ℕ) → Running start here left input unread old new → Consumes unread rest piece
       → Runs answer here there piece new newer → length piece + later ≡ left → Running start there later input rest old newer
   Running-more start here there left later input unread rest old new newer piece r c g fits = record {
     octets = r.octets ++ piece;
     consumed = Consumes-more input unread rest r.octets piece r.consumed c;
-    runs = Runs-then State answer (place 1 start []) here there r.octets piece old new newer r.runs g;
+    runs = Runs-then State answer (line_reading 1 start []) here there r.octets piece old new newer r.runs g;
     within = omega (arith, length-append r.octets piece, r.within);
   }
 
   -- what is reported of the octets read so far, if nothing follows them
-  report_so_far : (start : State) (here : Place State) (octets written : List ℕ)
-      → (rest : List ℕ) → report_at answer true (place 1 start []) (octets ++ rest) ≡ wrote written (report_at answer true here rest)
+  report_so_far : (start : State) (here : LineReading State) (octets written : List ℕ)
+      → (rest : List ℕ) → report_at answer true (line_reading 1 start []) (octets ++ rest) ≡ wrote written (report_at answer true here rest)
       → Begins (script_report answer start (octets ++ rest)).text written
   report_so_far start here octets written rest e = ((report_at answer true here rest).text, ap (λ (r : Report). r.text) e)
 
@@ -89,7 +89,7 @@ module _ (State : Type 0) (answer : State → List ℕ → Option (State × List
   begun_by start octets written b = rw append-nil at b
 
   -- the reader failed, or the writer is as it was and memory was refused
-  pub Running-fails : (start : State) (here : Place State) (left most : ℕ) (input unread rest old new newer : Option (List ℕ))
+  pub Running-fails : (start : State) (here : LineReading State) (left most : ℕ) (input unread rest old new newer : Option (List ℕ))
       → Running start here left input unread old new → KeptOrLost unread rest → Keeps new newer → input_limit ≤ most
       → PartRun answer start most input rest old newer
   Running-fails start here left most input unread rest old new newer r k w enough = record {
@@ -102,7 +102,7 @@ module _ (State : Type 0) (answer : State → List ℕ → Option (State × List
   }
 
   -- the same, when a piece was read that was not run
-  pub Running-stops : (start : State) (here : Place State) (left most : ℕ) (input unread rest old new newer : Option (List ℕ))
+  pub Running-stops : (start : State) (here : LineReading State) (left most : ℕ) (input unread rest old new newer : Option (List ℕ))
       (piece : List ℕ) → Running start here left input unread old new → Consumes unread rest piece → Keeps new newer
       → length piece + input_limit ≤ left + most → PartRun answer start most input rest old newer
   Running-stops start here left most input unread rest old new newer piece r c w fits = record {
@@ -116,11 +116,11 @@ module _ (State : Type 0) (answer : State → List ℕ → Option (State × List
 
   -- a piece was read and run in part
 
-  pub Running-part : (start : State) (here : Place State) (left : ℕ) (input unread rest old new newer : Option (List ℕ))
+  pub Running-part : (start : State) (here : LineReading State) (left : ℕ) (input unread rest old new newer : Option (List ℕ))
       (piece : List ℕ) → Running start here left input unread old new → Consumes unread rest piece
       → RunsPart answer here piece new newer → length piece ≤ left → PartRun answer start input_limit input rest old newer
   Running-part start here left input unread rest old new newer piece r c g fits =
-      let breaks = Moves-then_breaks State answer (place 1 start []) here r.octets piece r.runs.written g.written r.runs.moves g.breaks in
+      let breaks = Moves-then_breaks State answer (line_reading 1 start []) here r.octets piece r.runs.written g.written r.runs.moves g.breaks in
       record {
         octets = r.octets ++ piece;
         written = r.runs.written ++ g.written;
@@ -130,11 +130,11 @@ module _ (State : Type 0) (answer : State → List ℕ → Option (State × List
         appended = Appends-more old new newer r.runs.written g.written r.runs.appended g.appended;
       }
 
-  pub Running-lost : (start : State) (here : Place State) (left : ℕ) (input unread rest old new newer : Option (List ℕ))
+  pub Running-lost : (start : State) (here : LineReading State) (left : ℕ) (input unread rest old new newer : Option (List ℕ))
       (piece : List ℕ) → Running start here left input unread old new → Consumes unread rest piece
       → RunsLost answer here piece new newer → length piece ≤ left → LostRun answer start input_limit input rest old newer
   Running-lost start here left input unread rest old new newer piece r c g fits =
-      let breaks = Moves-then_breaks State answer (place 1 start []) here r.octets piece r.runs.written g.written r.runs.moves g.breaks in
+      let breaks = Moves-then_breaks State answer (line_reading 1 start []) here r.octets piece r.runs.written g.written r.runs.moves g.breaks in
       record {
         octets = r.octets ++ piece;
         written = r.runs.written ++ g.written;
@@ -146,7 +146,7 @@ module _ (State : Type 0) (answer : State → List ℕ → Option (State × List
 
   -- a bad line
 
-  reads_at_most : (start : State) (here : Place State) (left : ℕ) (input unread rest old new : Option (List ℕ)) (piece : List ℕ)
+  reads_at_most : (start : State) (here : LineReading State) (left : ℕ) (input unread rest old new : Option (List ℕ)) (piece : List ℕ)
       → Running start here left input unread old new → Consumes unread rest piece → length piece ≤ left
       → ReadsAtMost input_limit input rest
   reads_at_most start here left input unread rest old new piece r c fits = record {
@@ -157,7 +157,7 @@ module _ (State : Type 0) (answer : State → List ℕ → Option (State × List
 
   -- a line that is bad whatever follows is one of those that are run
   limited_report-bad : (start : State) (read more written : List ℕ) (n : ℕ) → length read ≤ input_limit
-      → StopsBad answer (place 1 start []) read written n
+      → StopsBad answer (line_reading 1 start []) read written n
       → limited_report answer start (read ++ more) ≡ wrote written (stopped_at n)
   limited_report-bad start read more written n fits bad =
       let later : ℕ = input_limit - length read in
@@ -170,14 +170,14 @@ module _ (State : Type 0) (answer : State → List ℕ → Option (State × List
         | false ↦ bad.stops true more
       ]
 
-  pub Running-bad : (start : State) (here : Place State) (left n : ℕ) (input unread rest old new newer : Option (List ℕ))
+  pub Running-bad : (start : State) (here : LineReading State) (left n : ℕ) (input unread rest old new newer : Option (List ℕ))
       (piece : List ℕ) → Running start here left input unread old new → Consumes unread rest piece
       → RunsBad answer here piece n new newer → length piece ≤ left → BadRun answer start n input rest old newer
   Running-bad start here left n None unread rest old new newer piece r c g fits =
       (reads_at_most start here left None unread rest old new piece r c fits, tt)
   Running-bad start here left n (Some input) unread rest old new newer piece r c g fits =
-      let bad = Runs-then_bad State answer (place 1 start []) here r.octets piece [] n old new newer r.runs g in
-      let stops : StopsBad answer (place 1 start []) (r.octets ++ piece) bad.written n = rw append-nil at bad.stops in
+      let bad = Runs-then_bad State answer (line_reading 1 start []) here r.octets piece [] n old new newer r.runs g in
+      let stops : StopsBad answer (line_reading 1 start []) (r.octets ++ piece) bad.written n = rw append-nil at bad.stops in
       let begun = Consumes-begun input rest (r.octets ++ piece) (Consumes-more (Some input) unread rest r.octets piece r.consumed c) in
       let whole : script_report answer start input ≡ wrote bad.written (stopped_at n) =
       ap (script_report answer start) begun.1 ∙ stops.stops true begun.0 in
@@ -190,13 +190,13 @@ module _ (State : Type 0) (answer : State → List ℕ → Option (State × List
 
   -- the end of the input
 
-  whole_report : (start : State) (here : Place State) (input octets written : List ℕ) (r : Report) → input ≡ octets
-      → ((rest : List ℕ) → report_at answer true (place 1 start []) (octets ++ rest) ≡ wrote written (report_at answer true here rest))
+  whole_report : (start : State) (here : LineReading State) (input octets written : List ℕ) (r : Report) → input ≡ octets
+      → ((rest : List ℕ) → report_at answer true (line_reading 1 start []) (octets ++ rest) ≡ wrote written (report_at answer true here rest))
       → report_at answer true here [] ≡ r → script_report answer start input ≡ wrote written r
   whole_report start here input octets written r e g f =
       ap (script_report answer start) (e ∙ sym (append-nil octets)) ∙ g [] ∙ ap (wrote written) f
 
-  pub Running-whole : (start : State) (here : Place State) (left : ℕ) (input unread rest old new newer : Option (List ℕ))
+  pub Running-whole : (start : State) (here : LineReading State) (left : ℕ) (input unread rest old new newer : Option (List ℕ))
       → Running start here left input unread old new → Consumes unread rest [] → IsAtEnd rest
       → Finishes answer here new newer → WholeRun answer start input old newer
   Running-whole start here left None unread rest old new newer r c e f = tt
@@ -216,7 +216,7 @@ module _ (State : Type 0) (answer : State → List ℕ → Option (State × List
       → limited_report answer start input ≡ script_report answer start input
   limited_report-whole start input fits = let short : nat_lt input_limit (length input) ≡ false = search rules in rw short refl
 
-  pub Running-ends_bad : (start : State) (here : Place State) (left n : ℕ) (input unread rest old new newer : Option (List ℕ))
+  pub Running-ends_bad : (start : State) (here : LineReading State) (left n : ℕ) (input unread rest old new newer : Option (List ℕ))
       → Running start here left input unread old new → Consumes unread rest [] → IsAtEnd rest
       → FinishesBad answer here n new newer → BadRun answer start n input rest old newer
   Running-ends_bad start here left n None unread rest old new newer r c e f =
@@ -232,7 +232,7 @@ module _ (State : Type 0) (answer : State → List ℕ → Option (State × List
         rw (whole, limited) (refl, refl, rw append-nil (Appends-then_keeps old new newer r.runs.written r.runs.appended f.kept)),
       )
 
-  pub Running-ends_lost : (start : State) (here : Place State) (left : ℕ) (input unread rest old new newer : Option (List ℕ))
+  pub Running-ends_lost : (start : State) (here : LineReading State) (left : ℕ) (input unread rest old new newer : Option (List ℕ))
       → Running start here left input unread old new → Consumes unread rest []
       → FinishesLost answer here new newer → LostRun answer start input_limit input rest old newer
   Running-ends_lost start here left input unread rest old new newer r c f =
@@ -260,8 +260,8 @@ module _ (State : Type 0) (answer : State → List ℕ → Option (State × List
       rw (over, cut) refl
 
   -- nothing is settled of the line that is being read
-  settled_report : (start : State) (here : Place State) (octets written : List ℕ)
-      → report_at answer false (place 1 start []) (octets ++ []) ≡ wrote written (report_at answer false here [])
+  settled_report : (start : State) (here : LineReading State) (octets written : List ℕ)
+      → report_at answer false (line_reading 1 start []) (octets ++ []) ≡ wrote written (report_at answer false here [])
       → IsOneLine here.line → length here.line ≤ line_limit
       → report answer 1 start (settled_lines octets) ≡ wrote written empty_report
   settled_report start here octets written e one_line fits =
@@ -269,7 +269,7 @@ module _ (State : Type 0) (answer : State → List ℕ → Option (State × List
       ∙ ap (λ (s : List ℕ). wrote written (report answer here.number here.state (settled_lines s))) (append-nil here.line)
       ∙ ap (λ (lines : List (List ℕ)). wrote written (report answer here.number here.state lines)) (settled_lines-none here.line one_line fits)
 
-  pub Running-long : (start : State) (here : Place State) (input unread rest old new : Option (List ℕ)) (piece : List ℕ)
+  pub Running-long : (start : State) (here : LineReading State) (input unread rest old new : Option (List ℕ)) (piece : List ℕ)
       → Running start here 0 input unread old new → Consumes unread rest piece → 0 < length piece
       → IsOneLine here.line → length here.line ≤ line_limit → LongRun answer start input old new
   Running-long start here None unread rest old new piece r c some one_line fits = tt
@@ -291,5 +291,5 @@ module _ (State : Type 0) (answer : State → List ℕ → Option (State × List
   pub PartRun-none : (start : State) (most : ℕ) (input old : Option (List ℕ)) → input_limit ≤ most
       → PartRun answer start most input input old old
   PartRun-none start most input old enough =
-      Running-fails start (place 1 start []) input_limit most input input input old old old (Running-none start input old) (KeptOrLost-same input)
+      Running-fails start (line_reading 1 start []) input_limit most input input input old old old (Running-none start input old) (KeptOrLost-same input)
       (Keeps-same old) enough

@@ -32,7 +32,7 @@ pub const COMMENT: u8 = b'#';
 /// A script that is being run: what it does, the octets so far of the line that is being read, and the text that is not
 /// written yet.
 #[derive(Drop)]
-pub(crate) struct Session<S> {
+pub(crate) struct LineSession<S> {
     pub(crate) script: S,
     pub(crate) line: Vec<u8>,
     /// The number of that line, counted from 1.
@@ -63,8 +63,8 @@ fn answer_line<S: Script>(
     script.line(alloc, line, text)
 }
 
-impl<S: Script> Session<S> {
-    ghost use Rattle.cfdp_lines.specs.code.Places.{session_place};
+impl<S: Script> LineSession<S> {
+    ghost use Rattle.cfdp_lines.specs.code.SessionReading.{session_reading};
 
     /// Before the first octet.
     pub(crate) fn new(alloc: Global, script: S) -> Self
@@ -73,7 +73,7 @@ impl<S: Script> Session<S> {
         ensures number { result.number ≡ 1 }
         ensures text { result.text.items ≡ [] }
     {
-        Session {
+        LineSession {
             script,
             line: Vec::new(alloc),
             number: 1,
@@ -162,13 +162,14 @@ impl<S: Script> Session<S> {
         ensures some { IfOk result (λ n. 0 < n) }
         ensures count { IfOk result (λ n. n ≤ length octets.now) }
         ensures number { OnOk result (self.new.number ≤ self.old.number + 1) }
-        ensures ok { IfOk result (λ n. Adds S.answer (session_place S.state self.old) (session_place S.state self.new)
+        ensures ok { IfOk result (λ n. Adds S.answer (session_reading S.state self.old)
+            (session_reading S.state self.new)
             (take n octets.now) self.old.text.items self.new.text.items) }
-        ensures bad { result ≡ Err Bad → StopsBad S.answer (session_place S.state self.old) octets.now []
+        ensures bad { result ≡ Err Bad → StopsBad S.answer (session_reading S.state self.old) octets.now []
             self.old.number }
         // Of a line that came whole, or is too long already, a bad one is reported even where memory is refused.
         ensures refused { result ≡ Err LineFault.Memory → self.old.line.items ≡ []
-            → StopsBad S.answer (session_place S.state self.old) octets.now [] self.old.number → ⊥ }
+            → StopsBad S.answer (session_reading S.state self.old) octets.now [] self.old.number → ⊥ }
         ensures kept { OnErr result (self.new.text.items ≡ self.old.text.items) }
         ensures same { OnErr result (self.new.number ≡ self.old.number) }
     {
@@ -232,15 +233,15 @@ impl<S: Script> Session<S> {
         requires empty { self.old.text.items ≡ [] }
         ensures empty { OnOk result (self.new.text.items ≡ []) }
         ensures number { OnOk result (self.new.number ≤ self.old.number + length octets.now) }
-        ensures ok { OnOk result (Runs S.answer (session_place S.state self.old) (session_place S.state self.new)
+        ensures ok { OnOk result (Runs S.answer (session_reading S.state self.old) (session_reading S.state self.new)
             octets.now (W.contents writer.old) (W.contents writer.new)) }
-        ensures bad { (n : ℕ) → result ≡ Err (BadLine n) → RunsBad S.answer (session_place S.state self.old)
+        ensures bad { (n : ℕ) → result ≡ Err (BadLine n) → RunsBad S.answer (session_reading S.state self.old)
             octets.now n (W.contents writer.old) (W.contents writer.new) }
-        ensures memory { result ≡ Err Memory → RunsPart S.answer (session_place S.state self.old)
+        ensures memory { result ≡ Err Memory → RunsPart S.answer (session_reading S.state self.old)
             octets.now (W.contents writer.old) (W.contents writer.new) }
         // Memory was refused to a line that is not bad, as far as it came whole.
-        ensures refused { result ≡ Err Memory → RefusesMemory S.answer (session_place S.state self.old) octets.now }
-        ensures write { result ≡ Err Write → RunsLost S.answer (session_place S.state self.old)
+        ensures refused { result ≡ Err Memory → RefusesMemory S.answer (session_reading S.state self.old) octets.now }
+        ensures write { result ≡ Err Write → RunsLost S.answer (session_reading S.state self.old)
             octets.now (W.contents writer.old) (W.contents writer.new) }
         ensures well { result ≢ Err Write → W.failed writer.new ≡ W.failed writer.old }
         ensures fails { result ≡ Err Write → W.failed writer.new ≡ true }
@@ -268,14 +269,14 @@ impl<S: Script> Session<S> {
         writer: &mut W,
     ) -> Result<(), RunFault>
         requires { self.old.text.items ≡ [] }
-        ensures ok { OnOk result (Finishes S.answer (session_place S.state self.old)
+        ensures ok { OnOk result (Finishes S.answer (session_reading S.state self.old)
             (W.contents writer.old) (W.contents writer.new)) }
-        ensures bad { (n : ℕ) → result ≡ Err (BadLine n) → FinishesBad S.answer (session_place S.state self.old)
+        ensures bad { (n : ℕ) → result ≡ Err (BadLine n) → FinishesBad S.answer (session_reading S.state self.old)
             n (W.contents writer.old) (W.contents writer.new) }
         ensures memory { result ≡ Err Memory → Keeps (W.contents writer.old) (W.contents writer.new) }
         ensures refused { result ≡ Err Memory
             → line_answer S.answer (S.state self.old.script) self.old.line.items ≡ None → ⊥ }
-        ensures write { result ≡ Err Write → FinishesLost S.answer (session_place S.state self.old)
+        ensures write { result ≡ Err Write → FinishesLost S.answer (session_reading S.state self.old)
             (W.contents writer.old) (W.contents writer.new) }
         ensures well { result ≢ Err Write → W.failed writer.new ≡ W.failed writer.old }
         ensures fails { result ≡ Err Write → W.failed writer.new ≡ true }

@@ -7,7 +7,7 @@ ghost use Rattle.cfdp_lines.specs.declared.faults.RunFault.TheVariants.{Read, Wr
 
 use crate::faults::RunFault;
 use crate::script::Script;
-use crate::session::Session;
+use crate::session::LineSession;
 use cfdp_streams::{ScriptIn, ScriptOut, read_piece};
 use std::alloc::Global;
 
@@ -59,7 +59,7 @@ where
     ensures well_read { result ≢ Err Read → R.failed reader.new ≡ R.failed reader.old }
     ensures well_written { result ≢ Err Write → W.failed writer.new ≡ W.failed writer.old }
 {
-    let mut session = Session::new(alloc, script);
+    let mut session = LineSession::new(alloc, script);
     let mut buffer = [0u8; PIECE];
     let mut left = INPUT_LIMIT;
     'pieces: loop {

@@ -7,7 +7,7 @@ use Rattle.std.proofs.lemmas.List.Folds.{list_any-append}
 use Rattle.cfdp_transactions.specs.declared.event.Event.{Event}
 use Rattle.cfdp_transactions.specs.World.{World}
 use Rattle.cfdp_transactions.specs.Writable.{IsReadable, FitsReply, OutcomesFit}
-use Rattle.cfdp_engine.specs.declared.entry.Entry.{Entry}
+use Rattle.cfdp_engine.specs.declared.entry.JournalEntry.{JournalEntry}
 use Rattle.cfdp_engine.specs.declared.receipt.Receipt.{Receipt}
 use Rattle.cfdp_engine.specs.Journal.{IsHistory, journal_events, replies_of}
 use Rattle.cfdp_engine.specs.Seats.{Seated, receipts_in, is_number_taken, SeatsDiffer, AreEntered, AllEntered, IsReconciled}
@@ -50,13 +50,13 @@ differ before (s ∷ ss) apart = (none_has (before ++ s ∷ []) ss s.number (tak
 -- ---- one index
 
 -- at this index is one of the receipts, and then it is the first; or none does
-record PassesOne (J : List Entry) (number place : ℕ) (e : Entry) (rs : List Receipt) : Type 0 where
+record PassesOne (J : List JournalEntry) (number place : ℕ) (e : JournalEntry) (rs : List Receipt) : Type 0 where
   left : List Receipt
   entered : AreEntered J number (place + 1) left
   readable : AllByRecursion IsReadable (receipt_events left)
   either : (rs ≡ left) ⊎ ((length rs ≡ length left + 1) × (e.seat ≡ number) × IsReadable e.event × (receipt_events rs ≡ e.event ∷ receipt_events left))
 
-pass_here : (J : List Entry) (number place : ℕ) (e : Entry) (r : Receipt) (rs : List Receipt) → slice_get J place ≡ Some e → place ≡ r.place
+pass_here : (J : List JournalEntry) (number place : ℕ) (e : JournalEntry) (r : Receipt) (rs : List Receipt) → slice_get J place ≡ Some e → place ≡ r.place
     → AreEntered J number place (r ∷ rs) → AllByRecursion IsReadable (receipt_events (r ∷ rs)) → PassesOne J number place e (r ∷ rs)
 pass_here J number place e r rs at same entered readable =
     let is : e ≡ record { seat = number; event = r.event; reply = r.reply } =
@@ -67,13 +67,13 @@ pass_here J number place e r rs at same entered readable =
       readable = readable.1;
       either = inr (
         omega arith,
-        ap (λ (x : Entry). x.seat) is,
-        subst IsReadable (sym (ap (λ (x : Entry). x.event) is)) readable.0,
-        ap (λ (event : Event). event ∷ receipt_events rs) (sym (ap (λ (x : Entry). x.event) is)),
+        ap (λ (x : JournalEntry). x.seat) is,
+        subst IsReadable (sym (ap (λ (x : JournalEntry). x.event) is)) readable.0,
+        ap (λ (event : Event). event ∷ receipt_events rs) (sym (ap (λ (x : JournalEntry). x.event) is)),
       );
     }
 
-pass_before : (J : List Entry) (number place : ℕ) (e : Entry) (r : Receipt) (rs : List Receipt) → place < r.place
+pass_before : (J : List JournalEntry) (number place : ℕ) (e : JournalEntry) (r : Receipt) (rs : List Receipt) → place < r.place
     → AreEntered J number place (r ∷ rs) → AllByRecursion IsReadable (receipt_events (r ∷ rs)) → PassesOne J number place e (r ∷ rs)
 pass_before J number place e r rs before entered readable = record {
   left = r ∷ rs;
@@ -82,7 +82,7 @@ pass_before J number place e r rs before entered readable = record {
   either = inl refl;
 }
 
-pass_one : (J : List Entry) (number place : ℕ) (e : Entry) (rs : List Receipt) → slice_get J place ≡ Some e
+pass_one : (J : List JournalEntry) (number place : ℕ) (e : JournalEntry) (rs : List Receipt) → slice_get J place ≡ Some e
     → AreEntered J number place rs → AllByRecursion IsReadable (receipt_events rs) → PassesOne J number place e rs
 pass_one J number place e [] at entered readable = record { left = []; entered = tt; readable = tt; either = inl refl }
 pass_one J number place e (r ∷ rs) at entered readable =
@@ -94,19 +94,20 @@ pass_one J number place e (r ∷ rs) at entered readable =
 -- ---- what a seat was informed of, and what the journal has of it
 
 -- of these entries, those of each seat have the events of its receipts
-abbrev Told : List Entry → List Seated → Type 0
+abbrev Told : List JournalEntry → List Seated → Type 0
 Told rest seats = AllByRecursion (λ s. events_by rest s ≡ receipt_events s.receipts) seats
 
-told_other : (e : Entry) (rest : List Entry) (s : Seated) (left : List Receipt) → s.receipts ≡ left → (e.seat ≢ s.number)
+told_other : (e : JournalEntry) (rest : List JournalEntry) (s : Seated) (left : List Receipt) → s.receipts ≡ left → (e.seat ≢ s.number)
     → events_by rest (record { number = s.number; receipts = left }) ≡ receipt_events left → events_by (e ∷ rest) s ≡ receipt_events s.receipts
 told_other e rest s left same other told =
-    let others = filter (λ (x : Entry). x.seat == s.number) rest in
+    let others = filter (λ (x : JournalEntry). x.seat == s.number) rest in
     ap (λ (b : Bool). journal_events (cond b (e ∷ others) others)) (ne_eqb e.seat s.number other) ∙ told ∙ ap receipt_events (sym same)
 
-told_own : (e : Entry) (rest : List Entry) (s : Seated) (left : List Receipt) → receipt_events s.receipts ≡ e.event ∷ receipt_events left → (e.seat ≡ s.number)
+told_own : (e : JournalEntry) (rest : List JournalEntry) (s : Seated) (left : List Receipt) → receipt_events s.receipts ≡ e.event ∷ receipt_events left →
+    (e.seat ≡ s.number)
     → events_by rest (record { number = s.number; receipts = left }) ≡ receipt_events left → events_by (e ∷ rest) s ≡ receipt_events s.receipts
 told_own e rest s left same own told =
-    let others = filter (λ (x : Entry). x.seat == s.number) rest in
+    let others = filter (λ (x : JournalEntry). x.seat == s.number) rest in
     ap (λ (b : Bool). journal_events (cond b (e ∷ others) others)) (eq-eqb e.seat s.number own)
     ∙ ap (λ (events : List Event). e.event ∷ events) told
     ∙ sym same
@@ -114,22 +115,22 @@ told_own e rest s left same own told =
 -- ---- all seats
 
 -- their receipts, at indexes that are not before this one
-abbrev EachFrom : List Entry → ℕ → List Seated → Type 0
+abbrev EachFrom : List JournalEntry → ℕ → List Seated → Type 0
 EachFrom J place [] = ⊤
 EachFrom J place (s ∷ ss) = AreEntered J s.number place s.receipts × EachFrom J place ss
 
-record Passes (J : List Entry) (place : ℕ) (e : Entry) (seats : List Seated) : Type 0 where
+record Passes (J : List JournalEntry) (place : ℕ) (e : JournalEntry) (seats : List Seated) : Type 0 where
   left : List Seated
   entered : EachFrom J (place + 1) left
   readable : AllByRecursion HasReadable left
   differ : Differ left
   none : (number : ℕ) → NoneHas number seats → NoneHas number left
   either : (receipts_in seats ≡ receipts_in left) ⊎ ((receipts_in seats ≡ receipts_in left + 1) × (NoneHas e.seat seats → ⊥) × IsReadable e.event)
-  foreign : (rest : List Entry) → NoneHas e.seat seats → Told rest left → Told (e ∷ rest) seats
-  own : (rest : List Entry) → receipts_in seats ≡ receipts_in left + 1 → Told rest left → Told (e ∷ rest) seats
+  foreign : (rest : List JournalEntry) → NoneHas e.seat seats → Told rest left → Told (e ∷ rest) seats
+  own : (rest : List JournalEntry) → receipts_in seats ≡ receipts_in left + 1 → Told rest left → Told (e ∷ rest) seats
 
-pass_foreign : (J : List Entry) (place : ℕ) (e : Entry) (s : Seated) (ss : List Seated) (one : PassesOne J s.number place e s.receipts)
-    (more : Passes J place e ss) (rest : List Entry) → NoneHas e.seat (s ∷ ss)
+pass_foreign : (J : List JournalEntry) (place : ℕ) (e : JournalEntry) (s : Seated) (ss : List Seated) (one : PassesOne J s.number place e s.receipts)
+    (more : Passes J place e ss) (rest : List JournalEntry) → NoneHas e.seat (s ∷ ss)
     → Told rest (record { number = s.number; receipts = one.left } ∷ more.left) → Told (e ∷ rest) (s ∷ ss)
 pass_foreign J place e s ss one more rest none told =
     elim one.either [
@@ -137,8 +138,8 @@ pass_foreign J place e s ss one more rest none told =
       | inr here ↦ absurd (none.0 (sym here.1))
     ]
 
-pass_own : (J : List Entry) (place : ℕ) (e : Entry) (s : Seated) (ss : List Seated) → NoneHas s.number ss
-    → (one : PassesOne J s.number place e s.receipts) (more : Passes J place e ss) (rest : List Entry)
+pass_own : (J : List JournalEntry) (place : ℕ) (e : JournalEntry) (s : Seated) (ss : List Seated) → NoneHas s.number ss
+    → (one : PassesOne J s.number place e s.receipts) (more : Passes J place e ss) (rest : List JournalEntry)
     → receipts_in (s ∷ ss) ≡ length one.left + receipts_in more.left + 1
     → Told rest (record { number = s.number; receipts = one.left } ∷ more.left) → Told (e ∷ rest) (s ∷ ss)
 pass_own J place e s ss apart one more rest counted told =
@@ -158,7 +159,7 @@ pass_own J place e s ss apart one more rest counted told =
       )
     ]
 
-pass_either : (J : List Entry) (place : ℕ) (e : Entry) (s : Seated) (ss : List Seated) → NoneHas s.number ss
+pass_either : (J : List JournalEntry) (place : ℕ) (e : JournalEntry) (s : Seated) (ss : List Seated) → NoneHas s.number ss
     → (one : PassesOne J s.number place e s.receipts) (more : Passes J place e ss)
     → (receipts_in (s ∷ ss) ≡ length one.left + receipts_in more.left)
     ⊎ ((receipts_in (s ∷ ss) ≡ length one.left + receipts_in more.left + 1) × (NoneHas e.seat (s ∷ ss) → ⊥) × IsReadable e.event)
@@ -176,7 +177,7 @@ pass_either J place e s ss apart one more =
       ]
     ]
 
-pass : (J : List Entry) (place : ℕ) (e : Entry) (seats : List Seated) → slice_get J place ≡ Some e → EachFrom J place seats
+pass : (J : List JournalEntry) (place : ℕ) (e : JournalEntry) (seats : List Seated) → slice_get J place ≡ Some e → EachFrom J place seats
     → AllByRecursion HasReadable seats → Differ seats → Passes J place e seats
 pass J place e [] at entered readable apart =
     record {
@@ -206,7 +207,7 @@ pass J place e (s ∷ ss) at entered readable apart =
 -- ---- all indexes
 
 -- after the last index there is no receipt
-none_behind : (J : List Entry) (number place : ℕ) (rs : List Receipt) → ((i : ℕ) → slice_get J (place + i) ≡ None)
+none_behind : (J : List JournalEntry) (number place : ℕ) (rs : List Receipt) → ((i : ℕ) → slice_get J (place + i) ≡ None)
     → AreEntered J number place rs → length rs ≡ 0
 none_behind J number place [] end entered = refl
 none_behind J number place (r ∷ rs) end entered =
@@ -215,18 +216,19 @@ none_behind J number place (r ∷ rs) end entered =
     let none : slice_get J r.place ≡ None = subst (λ (i : ℕ). slice_get J i ≡ None) at (end (r.place - place)) in
     let here = entered.0.here in absurd cc
 
-none_left : (J : List Entry) (place : ℕ) (seats : List Seated) → ((i : ℕ) → slice_get J (place + i) ≡ None) → EachFrom J place seats → receipts_in seats ≡ 0
+none_left : (J : List JournalEntry) (place : ℕ) (seats : List Seated) → ((i : ℕ) → slice_get J (place + i) ≡ None) → EachFrom J place seats → receipts_in seats
+    ≡ 0
 none_left J place [] end entered = refl
 none_left J place (s ∷ ss) end entered =
     let one = none_behind J s.number place s.receipts end entered.0 in
     let more = none_left J place ss end entered.1 in omega arith
 
 -- there are at most as many receipts as entries are left, and if there are as many, each of these is one of them
-record Covered (rest : List Entry) (seats : List Seated) : Type 0 where
+record Covered (rest : List JournalEntry) (seats : List Seated) : Type 0 where
   few : receipts_in seats ≤ length rest
   readable : receipts_in seats ≡ length rest → AllByRecursion IsReadable (journal_events rest)
 
-covered_one : (J : List Entry) (place : ℕ) (e : Entry) (rest : List Entry) (seats : List Seated) (p : Passes J place e seats)
+covered_one : (J : List JournalEntry) (place : ℕ) (e : JournalEntry) (rest : List JournalEntry) (seats : List Seated) (p : Passes J place e seats)
     → Covered rest p.left → Covered (e ∷ rest) seats
 covered_one J place e rest seats p more =
     let few = more.few in
@@ -235,7 +237,7 @@ covered_one J place e rest seats p more =
       | inr here ↦ let counted = here.0 in record { few = omega arith; readable = λ all. (here.2, more.readable (omega arith)) }
     ]
 
-covered : (J : List Entry) (place : ℕ) (rest : List Entry) (seats : List Seated) → ((i : ℕ) → slice_get J (place + i) ≡ slice_get rest i)
+covered : (J : List JournalEntry) (place : ℕ) (rest : List JournalEntry) (seats : List Seated) → ((i : ℕ) → slice_get J (place + i) ≡ slice_get rest i)
     → EachFrom J place seats → AllByRecursion HasReadable seats → Differ seats → Covered rest seats
 covered J place [] seats at entered readable apart =
     let none = none_left J place seats at entered in
@@ -247,7 +249,7 @@ covered J place (e ∷ rest) seats at entered readable apart =
     (λ i. let next : place + 1 + i ≡ place + suc i = omega arith in ap (λ (k : ℕ). slice_get J k) next ∙ at (suc i))
     p.entered p.readable p.differ)
 
-each_from : (J : List Entry) (seats : List Seated) → AllEntered J seats → EachFrom J 0 seats
+each_from : (J : List JournalEntry) (seats : List Seated) → AllEntered J seats → EachFrom J 0 seats
 each_from J [] entered = tt
 each_from J (s ∷ ss) entered = (entered.0, each_from J ss entered.1)
 
@@ -260,7 +262,7 @@ none_told [] none = tt
 none_told (s ∷ ss) none = (sym (no_receipts s.receipts (omega arith)), none_told ss (omega arith))
 
 -- if there are as many, each seat's entries are its receipts
-told : (J : List Entry) (place : ℕ) (rest : List Entry) (seats : List Seated) → ((i : ℕ) → slice_get J (place + i) ≡ slice_get rest i)
+told : (J : List JournalEntry) (place : ℕ) (rest : List JournalEntry) (seats : List Seated) → ((i : ℕ) → slice_get J (place + i) ≡ slice_get rest i)
     → EachFrom J place seats → AllByRecursion HasReadable seats → Differ seats → receipts_in seats ≡ length rest → Told rest seats
 told J place [] seats at entered readable apart all = none_told seats all
 told J place (e ∷ rest) seats at entered readable apart all =
@@ -275,11 +277,11 @@ told J place (e ∷ rest) seats at entered readable apart all =
           p.own rest counted (told J (place + 1) rest p.left behind p.entered p.readable p.differ (omega arith))
     ]
 
-from_first : (J : List Entry) (i : ℕ) → slice_get J (0 + i) ≡ slice_get J i
+from_first : (J : List JournalEntry) (i : ℕ) → slice_get J (0 + i) ≡ slice_get J i
 from_first J i = let same : 0 + i ≡ i = omega arith in ap (λ (k : ℕ). slice_get J k) same
 
 -- what the seats were informed of is what the journal has of them
-handed_by : (J : List Entry) (number : ℕ) (files : List (List Said)) (seats : List Seated) (dropped : List ℕ) → Told J seats
+handed_by : (J : List JournalEntry) (number : ℕ) (files : List (List Said)) (seats : List Seated) (dropped : List ℕ) → Told J seats
     → AreHanded (λ s. receipt_events s.receipts) number files seats dropped → AreHanded (events_by J) number files seats dropped
 handed_by J number [] [] [] known handed = tt
 handed_by J number (said ∷ files) (seat ∷ seats) (dropped ∷ others) known handed = (
@@ -289,7 +291,7 @@ handed_by J number (said ∷ files) (seat ∷ seats) (dropped ∷ others) known 
 )
 handed_by J number files seats others known handed = absurd handed
 
-handed_in : (J : List Entry) (files : List (List Said)) (seats : List Seated) (dropped : List ℕ) → IsReconciled J seats
+handed_in : (J : List JournalEntry) (files : List (List Said)) (seats : List Seated) (dropped : List ℕ) → IsReconciled J seats
     → AllByRecursion HasReadable seats → AreHanded (λ s. receipt_events s.receipts) 0 files seats dropped → AreHanded (events_by J) 0 files seats dropped
 handed_in J files seats dropped reconciled readable handed =
     handed_by J 0 files seats dropped
@@ -297,7 +299,7 @@ handed_in J files seats dropped reconciled readable handed =
     handed
 
 -- where the seats are those that were asked
-pub handed_by_same : (J : List Entry) (files : List (List Said)) (seats asked : List Seated) (dropped : List ℕ) → IsReconciled J seats
+pub handed_by_same : (J : List JournalEntry) (files : List (List Said)) (seats asked : List Seated) (dropped : List ℕ) → IsReconciled J seats
     → seats ≡ asked → AllByRecursion HasReadable asked → AreHanded (λ s. receipt_events s.receipts) 0 files asked dropped
     → AreHanded (events_by J) 0 files seats dropped
 handed_by_same J files seats asked dropped reconciled same readable handed =
@@ -305,7 +307,7 @@ handed_by_same J files seats asked dropped reconciled same readable handed =
     (subst (λ (ss : List Seated). AreHanded (λ s. receipt_events s.receipts) 0 files ss dropped) (sym same) handed)
 
 -- what seats handed in may come from PDUs that were read: so may all of a journal that is theirs, and its replies can be written
-pub replies_fit : OutcomesFit → (J : List Entry) (W : World) (seats : List Seated) → IsHistory J W → IsReconciled J seats
+pub replies_fit : OutcomesFit → (J : List JournalEntry) (W : World) (seats : List Seated) → IsHistory J W → IsReconciled J seats
     → AllByRecursion HasReadable seats → AllByRecursion FitsReply (replies_of J)
 replies_fit law J W seats history reconciled readable =
     let all = covered J 0 J seats (from_first J) (each_from J seats reconciled.entered) readable

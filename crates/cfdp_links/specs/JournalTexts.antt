@@ -9,17 +9,17 @@
 use Rattle.std.specs.Prelude.{ℕ, ◌+◌, List, [], ◌∷◌, ◌++◌, length, codes}
 use Rattle.cfdp_transactions.specs.Events.{about}
 use Rattle.cfdp_transactions.specs.World.{World}
-use Rattle.cfdp_engine.specs.declared.entry.Entry.{Entry}
+use Rattle.cfdp_engine.specs.declared.entry.JournalEntry.{JournalEntry}
 use Rattle.cfdp_engine.specs.Seats.{Seated}
 use Rattle.cfdp_texts.specs.Replies.{number_text, labelled, word, line, reply_line, listing_text}
 
-abbrev pub entry_text : ℕ → Entry → List ℕ
-entry_text place entry = number_text place ++ labelled (codes " ") entry.seat
+abbrev pub entry_text : ℕ → JournalEntry → List ℕ
+entry_text index entry = number_text index ++ labelled (codes " ") entry.seat
     ++ word (reply_line (about entry.event) entry.reply)
 
-abbrev pub entry_texts : ℕ → List Entry → List ℕ
-entry_texts place [] = []
-entry_texts place (entry ∷ entries) = entry_text place entry ++ entry_texts (place + 1) entries
+abbrev pub entry_texts : ℕ → List JournalEntry → List ℕ
+entry_texts index [] = []
+entry_texts index (entry ∷ entries) = entry_text index entry ++ entry_texts (index + 1) entries
 
 abbrev pub seat_text : Seated → ℕ → List ℕ
 seat_text seat dropped =
@@ -30,6 +30,6 @@ abbrev pub seat_texts : List Seated → List ℕ → List ℕ
 seat_texts (seat ∷ seats) (dropped ∷ others) = seat_text seat dropped ++ seat_texts seats others
 seat_texts seats others = []
 
-abbrev pub journal_text : List Entry → List Seated → List ℕ → World → List ℕ
+abbrev pub journal_text : List JournalEntry → List Seated → List ℕ → World → List ℕ
 journal_text J seats dropped W =
     entry_texts 0 J ++ seat_texts seats dropped ++ line (labelled (codes "journal ") (length J)) ++ listing_text W

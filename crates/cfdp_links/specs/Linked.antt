@@ -24,7 +24,7 @@ use Rattle.std.specs.List.{AllByRecursion}
 use Rattle.cfdp_transactions.specs.declared.event.Event.{Event}
 use Rattle.cfdp_transactions.specs.World.{World}
 use Rattle.cfdp_transactions.specs.Writable.{IsReadable}
-use Rattle.cfdp_engine.specs.declared.entry.Entry.{Entry}
+use Rattle.cfdp_engine.specs.declared.entry.JournalEntry.{JournalEntry}
 use Rattle.cfdp_engine.specs.Journal.{IsHistory, journal_events}
 use Rattle.cfdp_engine.specs.Seats.{Seated, IsReconciled}
 use Rattle.cfdp_engine.specs.Sharing.{receipt_events}
@@ -78,11 +78,11 @@ AreHanded events number (said ∷ files) (seat ∷ seats) (dropped ∷ others) =
     (seat.number ≡ number) × Handed said (events seat) dropped × AreHanded events (number + 1) files seats others
 AreHanded events number files seats others = ⊥
 
-abbrev pub events_by : List Entry → Seated → List Event
+abbrev pub events_by : List JournalEntry → Seated → List Event
 events_by journal seat = journal_events (filter (λ e. e.seat == seat.number) journal)
 
 pub record IsLinked (files : Files) (text : List ℕ) : Type 0 where
-  pub journal : List Entry
+  pub journal : List JournalEntry
   pub seats : List Seated
   pub dropped : List ℕ
   pub world : World

@@ -1,4 +1,4 @@
-//! The text that `links` writes of an engine that is closed.
+//! The text that `links` writes of a journal that is closed.
 ghost use Rattle.std.specs.Prelude.{◌≡◌, ◌↔◌, IsOk, IfOk, OnErr, Err};
 ghost use Rattle.std.specs.List.{AllByRecursion};
 ghost use Rattle.cfdp_transactions.specs.Writable.{FitsReply};
@@ -9,13 +9,13 @@ ghost use Rattle.cfdp_links.specs.Linked.{HasReadable};
 ghost use Rattle.cfdp_lines.specs.declared.faults.LinkFault.TheVariants.{Memory, ReceiptsDiffer};
 
 use crate::journal_text::text_of;
-use cfdp_engine::{Closed, Entry, Journaled, Seat, close};
+use cfdp_engine::{Closed, JournalEntry, Journaled, Seat, close};
 use cfdp_lines::LinkFault;
 use cfdp_transactions::{Config, Core, laws};
 use cfdp_tree::TreeStore;
 use std::alloc::Global;
 
-/// What is left of the engine, where the receipts of the seats are its journal, and it has this configuration.
+/// What is left of the journaled core, where the receipts of the seats are its journal, and it has this configuration.
 ///
 /// # Errors
 ///
@@ -46,7 +46,7 @@ pub fn reconcile(
 
 /// The replies of a journal can be written, where its events are those of seats that handed in what may have been read.
 /// Does nothing.
-fn replies_fit(core: &Core<TreeStore>, journal: &[Entry], seats: &[Seat])
+fn replies_fit(core: &Core<TreeStore>, journal: &[JournalEntry], seats: &[Seat])
     requires history { IsHistory journal.now core.now.world }
     requires reconciled { IsReconciled journal.now seats.now }
     requires readable { AllByRecursion HasReadable seats.now }
@@ -55,7 +55,7 @@ fn replies_fit(core: &Core<TreeStore>, journal: &[Entry], seats: &[Seat])
     laws::outcomes_fit();
 }
 
-/// The text of an engine that is closed.
+/// The text of a journal that is closed.
 ///
 /// # Errors
 ///

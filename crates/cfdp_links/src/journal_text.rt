@@ -7,7 +7,7 @@ ghost use Rattle.cfdp_links.specs.JournalTexts.{entry_text, entry_texts, journal
 ghost use Rattle.cfdp_texts.specs.Replies.{labelled, line};
 
 use cfdp_actions::Filestore;
-use cfdp_engine::{Entry, Seat};
+use cfdp_engine::{JournalEntry, Seat};
 use cfdp_texts::{push_labelled, push_number, write_listing, write_reply};
 use cfdp_transactions::Core;
 use std::alloc::{AllocError, Global};
@@ -15,14 +15,14 @@ use std::alloc::{AllocError, Global};
 /// Appends the line of the entry with this number.
 fn push_entry(
     alloc: Global,
-    place: u64,
-    entry: &Entry,
+    index: u64,
+    entry: &JournalEntry,
     text: &mut Vec<u8>,
 ) -> Result<(), AllocError>
     requires { FitsReply entry.now.reply }
-    ensures { OnOk result (text.new.items ≡ text.old.items ++ entry_text place entry.now) }
+    ensures { OnOk result (text.new.items ≡ text.old.items ++ entry_text index entry.now) }
 {
-    push_number(place, text)?;
+    push_number(index, text)?;
     push_labelled(b" ", u64::from(entry.seat), text)?;
     text.push(b' ')?;
     let event = entry.event.event();
@@ -30,12 +30,16 @@ fn push_entry(
 }
 
 /// Appends the lines of the entries, in order.
-fn push_entries(alloc: Global, entries: &[Entry], text: &mut Vec<u8>) -> Result<(), AllocError>
+fn push_entries(
+    alloc: Global,
+    entries: &[JournalEntry],
+    text: &mut Vec<u8>,
+) -> Result<(), AllocError>
     requires { AllByRecursion FitsReply (replies_of entries.now) }
     ensures { OnOk result (text.new.items ≡ text.old.items ++ entry_texts 0 entries.now) }
 {
-    for (place, entry) in entries.iter().enumerate() {
-        push_entry(alloc, place as u64, entry, text)?;
+    for (index, entry) in entries.iter().enumerate() {
+        push_entry(alloc, index as u64, entry, text)?;
     }
     Ok(())
 }
@@ -54,8 +58,8 @@ fn push_seat(seat: &Seat, dropped: u64, text: &mut Vec<u8>) -> Result<(), AllocE
 fn push_seats(seats: &[Seat], dropped: &[u64], text: &mut Vec<u8>) -> Result<(), AllocError>
     ensures { OnOk result (text.new.items ≡ text.old.items ++ seat_texts seats.now dropped.now) }
 {
-    for (place, seat) in seats.iter().enumerate() {
-        let Some(dropped) = dropped.get(place) else {
+    for (index, seat) in seats.iter().enumerate() {
+        let Some(dropped) = dropped.get(index) else {
             break;
         };
         push_seat(seat, *dropped, text)?;
@@ -75,7 +79,7 @@ fn push_count(count: usize, text: &mut Vec<u8>) -> Result<(), AllocError>
 pub(crate) fn text_of<S: Filestore>(
     alloc: Global,
     core: &Core<S>,
-    journal: &[Entry],
+    journal: &[JournalEntry],
     seats: &[Seat],
     dropped: &[u64],
 ) -> Result<Vec<u8>, AllocError>

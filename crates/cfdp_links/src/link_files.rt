@@ -90,8 +90,8 @@ pub fn read_files(alloc: Global, scripts: &[Vec<u8>]) -> Result<Prepared, LinkFa
 {
     let mut setup = Setup::new();
     let mut files = Vec::new(alloc);
-    for (place, script) in scripts.iter().enumerate() {
-        if let Err(fault) = read_next(alloc, place as u8, script, &mut setup, &mut files) {
+    for (index, script) in scripts.iter().enumerate() {
+        if let Err(fault) = read_next(alloc, index as u8, script, &mut setup, &mut files) {
             return Err(fault);
         }
     }

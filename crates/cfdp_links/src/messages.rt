@@ -56,8 +56,8 @@ pub fn are_same(taken: &[Message], due: &[Message]) -> bool
     if taken.len() != due.len() {
         return false;
     }
-    for (place, message) in taken.iter().enumerate() {
-        if !is_same(message, &due[place]) {
+    for (index, message) in taken.iter().enumerate() {
+        if !is_same(message, &due[index]) {
             return false;
         }
     }

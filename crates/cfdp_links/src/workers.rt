@@ -56,8 +56,8 @@ fn feed<R: Wait>(
     inboxes: Vec<Sender<Message, Global>>,
 ) -> Result<(), AllocError> {
     for turn in 0..longest(files) {
-        for (place, file) in files.iter().enumerate() {
-            if let (Some(message), Some(inbox)) = (file.get(turn), inboxes.get(place)) {
+        for (index, file) in files.iter().enumerate() {
+            if let (Some(message), Some(inbox)) = (file.get(turn), inboxes.get(index)) {
                 let _ = inbox.send(rt, copy_of(alloc, message)?);
             }
         }
@@ -108,8 +108,8 @@ pub fn run_all<R: Threads + Wait + Sync, G: Gate + Sync>(
         {
             let mut inboxes = Vec::with_capacity(alloc, files.len())?;
             let mut workers = Vec::with_capacity(alloc, files.len())?;
-            for place in 0..files.len() {
-                let number = place as u8;
+            for index in 0..files.len() {
+                let number = index as u8;
                 let (to, inbox) = bounded(alloc, INBOX)?;
                 inboxes.push(to)?;
                 let started = scope.spawn_with(Numbered(number), move || {

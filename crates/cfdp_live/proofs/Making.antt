@@ -7,7 +7,7 @@ use Rattle.std.proofs.Math.Bool.{or-false}
 use Rattle.std.proofs.lemmas.List.{append-nil, drop_all}
 use Rattle.cfdp_receiver.specs.declared.mib.Mib.{Mib}
 use Rattle.cfdp_receiver.specs.State.{State, AnswerFields, Input, Expire}
-use Rattle.cfdp_receiver.specs.Machine.{MachineFields, AnswerParts, answer_in}
+use Rattle.cfdp_receiver.specs.StateMachine.{StateMachineFields, AnswerParts, answer_in}
 use Rattle.cfdp_receiver.specs.Sent.{as_sent}
 use Rattle.cfdp_receiver.specs.Turning.{turn, after_input, after_all, parts}
 use Rattle.cfdp_run.specs.Playing.{is_nothing, next_settled, passing, settled_after, settling}

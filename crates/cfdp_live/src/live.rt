@@ -2,7 +2,7 @@
 
 ghost use Rattle.std.specs.Prelude.{◌≡◌, ◌≢◌, ◌≤◌, ◌∷◌, [], length, true, false, max, Ok, IfOk, OnOk};
 ghost use Rattle.cfdp_receiver.specs.Heard.{heard};
-ghost use Rattle.cfdp_receiver.specs.Machine.{answer_in};
+ghost use Rattle.cfdp_receiver.specs.StateMachine.{answer_in};
 ghost use Rattle.cfdp_receiver.specs.Sent.{longest_sealed};
 ghost use Rattle.cfdp_receiver.specs.State.{Expire, Finish, Work};
 ghost use Rattle.cfdp_receiver.specs.Turning.{parts};

@@ -4,7 +4,7 @@ ghost use Rattle.std.specs.Prelude.{◌≡◌, ◌++◌, ◌∷◌, ◌||◌, �
 ghost use Rattle.std.specs.List.{list_any};
 ghost use Rattle.cfdp_actions.specs.Listed.{vector_octets};
 ghost use Rattle.cfdp_receiver.specs.declared.answer.Became.TheVariants.{Replied};
-ghost use Rattle.cfdp_receiver.specs.Machine.{answer_in};
+ghost use Rattle.cfdp_receiver.specs.StateMachine.{answer_in};
 ghost use Rattle.cfdp_receiver.specs.Sent.{as_sent, longest_sealed, pdus_of};
 ghost use Rattle.cfdp_reports.specs.Reports.{indication_lines};
 ghost use Rattle.cfdp_live.specs.Living.{Out, made_of_answer, is_end, nothing, refusal_line, with_more};

@@ -1,6 +1,6 @@
 //! A channel between a sender and a receiver, which loses, repeats and reorders PDUs.
 
-use crate::fault::Fault;
+use crate::fault::LossyFault;
 use crate::random::Random;
 use crate::tally::{Tally, count};
 
@@ -101,7 +101,7 @@ impl Channel {
         now: u64,
         toward: Toward,
         octets: Vec<u8>,
-    ) -> Result<(), Fault> {
+    ) -> Result<(), LossyFault> {
         let due = now.saturating_add(self.delay(random));
         self.under_way.push(Pdu {
             toward,
@@ -119,7 +119,7 @@ impl Channel {
         now: u64,
         toward: Toward,
         octets: Vec<u8>,
-    ) -> Result<(), Fault> {
+    ) -> Result<(), LossyFault> {
         if self.loses(random, toward) {
             self.may_lose = self.may_lose.saturating_sub(1);
             count(&mut self.lost);

@@ -6,7 +6,7 @@ use thiserror::Error;
 
 /// What is not as it has to be.
 #[derive(Clone, Copy, Debug, Error)]
-pub enum Wrong {
+pub enum LossyFailure {
     #[error("the receiver was not made")]
     NotMade,
     #[error("a PDU is longer than it may be")]
@@ -43,36 +43,36 @@ pub enum Wrong {
 
 /// Why a run ends before its last transfer.
 #[derive(Drop)]
-pub enum Fault {
+pub enum LossyFault {
     /// Something is wrong.
-    Wrong(Wrong),
+    Wrong(LossyFailure),
     /// There was no memory, or nothing could be printed.
     Memory,
 }
 
-impl From<AllocError> for Fault {
-    fn from(_refused: AllocError) -> Fault {
-        Fault::Memory
+impl From<AllocError> for LossyFault {
+    fn from(_refused: AllocError) -> LossyFault {
+        LossyFault::Memory
     }
 }
 
-impl<T: Drop> From<AllocFailed<T>> for Fault {
-    fn from(_refused: AllocFailed<T>) -> Fault {
-        Fault::Memory
+impl<T: Drop> From<AllocFailed<T>> for LossyFault {
+    fn from(_refused: AllocFailed<T>) -> LossyFault {
+        LossyFault::Memory
     }
 }
 
-impl From<Wrong> for Fault {
-    fn from(wrong: Wrong) -> Fault {
-        Fault::Wrong(wrong)
+impl From<LossyFailure> for LossyFault {
+    fn from(wrong: LossyFailure) -> LossyFault {
+        LossyFault::Wrong(wrong)
     }
 }
 
-impl From<WriteFault> for Fault {
-    fn from(fault: WriteFault) -> Fault {
+impl From<WriteFault> for LossyFault {
+    fn from(fault: WriteFault) -> LossyFault {
         match fault {
-            WriteFault::TooLong => Fault::Wrong(Wrong::TooLong),
-            WriteFault::Memory => Fault::Memory,
+            WriteFault::TooLong => LossyFault::Wrong(LossyFailure::TooLong),
+            WriteFault::Memory => LossyFault::Memory,
         }
     }
 }

@@ -18,13 +18,13 @@ mod tally;
 mod transfers;
 
 use channel::Mode;
-use fault::Fault;
+use fault::LossyFault;
 use std::alloc::Global;
 use std::env;
 use std::process::ExitCode;
 use std::rt::Env;
 use tally::Tally;
-use transfers::Transfers;
+use transfers::LossyTransfers;
 
 /// What the program is asked for.
 #[derive(Clone, Copy)]
@@ -57,11 +57,11 @@ fn goes_well<R: AllocGlobal + Print + Eprint>(rt: &R, asked: Asked, mode: Mode) 
     let (ran, tally) = run(rt.alloc(), asked, mode);
     match ran {
         Ok(()) => println!(rt; "{name}: {tally}").is_ok(),
-        Err(Fault::Memory) => {
+        Err(LossyFault::Memory) => {
             let _ = eprintln!(rt; "cfdp_lossy: out of memory");
             false
         }
-        Err(Fault::Wrong(wrong)) => {
+        Err(LossyFault::Wrong(wrong)) => {
             let number = tally.transfers;
             let _ = println!(rt; "{name}: transfer {number}: {wrong}");
             false
@@ -70,8 +70,8 @@ fn goes_well<R: AllocGlobal + Print + Eprint>(rt: &R, asked: Asked, mode: Mode) 
 }
 
 /// Runs the transfers in a mode: how that ended, and what was counted.
-fn run(alloc: Global, asked: Asked, mode: Mode) -> (Result<(), Fault>, Tally) {
-    match Transfers::new(alloc, mode, asked.seed) {
+fn run(alloc: Global, asked: Asked, mode: Mode) -> (Result<(), LossyFault>, Tally) {
+    match LossyTransfers::new(alloc, mode, asked.seed) {
         Ok(mut transfers) => {
             let ran = transfers.run(alloc, asked.transfers);
             (ran, transfers.tally)

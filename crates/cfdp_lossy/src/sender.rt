@@ -5,7 +5,7 @@ ghost use Rattle.std.specs.Prelude.{◌≡◌, ◌<◌, ◌^◌, IfOk};
 ghost use Rattle.cfdp_pdus.specs.Canonical.{IsHeader};
 ghost use Rattle.cfdp_pdus.specs.Codes.{modular_checksum_type};
 
-use crate::fault::{Fault, Wrong};
+use crate::fault::{LossyFailure, LossyFault};
 use crate::random::Random;
 use cfdp_crc::{seal, unseal};
 use cfdp_directives::{
@@ -35,7 +35,7 @@ const PATIENCE: u64 = 1_500;
 
 /// How a sender is.
 #[derive(Clone, Copy)]
-pub struct Plan {
+pub struct SenderPlan {
     /// Its transaction sequence number.
     pub number: u32,
     /// How many octets its file has.
@@ -54,11 +54,11 @@ pub struct Plan {
     pub has_crc: bool,
 }
 
-impl Plan {
+impl SenderPlan {
     /// One by a seed.
-    pub fn new(random: &mut Random, number: u32, begins_log: bool) -> Plan {
+    pub fn new(random: &mut Random, number: u32, begins_log: bool) -> SenderPlan {
         let piece = (random.below(60) as u32).saturating_add(8);
-        Plan {
+        SenderPlan {
             number,
             size: random.below(1_500) as u32,
             piece,
@@ -71,7 +71,7 @@ impl Plan {
     }
 
     /// Another, of a file of many pieces.
-    pub fn in_many_pieces(self) -> Plan {
+    pub fn in_many_pieces(self) -> SenderPlan {
         let mut plan = self;
         plan.piece = 8;
         plan.size = plan.size.saturating_add(700);
@@ -158,8 +158,8 @@ pub type Pdus = Vec<Vec<u8>>;
 
 /// A sender.
 #[derive(Drop)]
-pub struct Sender {
-    plan: Plan,
+pub struct LossySender {
+    plan: SenderPlan,
     file: Vec<u8>,
     /// Its Metadata PDU was sent.
     has_begun: bool,
@@ -179,10 +179,15 @@ pub struct Sender {
     pub is_closed: bool,
 }
 
-impl Sender {
+impl LossySender {
     /// A sender that has sent nothing. It gives up after that many EOF PDUs.
-    pub fn new(alloc: Global, plan: Plan, now: u64, most_eofs: u64) -> Result<Sender, AllocError> {
-        Ok(Sender {
+    pub fn new(
+        alloc: Global,
+        plan: SenderPlan,
+        now: u64,
+        most_eofs: u64,
+    ) -> Result<LossySender, AllocError> {
+        Ok(LossySender {
             plan,
             file: plan.file(alloc)?,
             has_begun: false,
@@ -202,12 +207,12 @@ impl Sender {
     }
 
     /// Sends a PDU, with a CRC where its PDUs have one.
-    fn post(&self, mut octets: Vec<u8>, out: &mut Pdus) -> Result<(), Fault> {
+    fn post(&self, mut octets: Vec<u8>, out: &mut Pdus) -> Result<(), LossyFault> {
         if self.plan.has_crc {
             let len = octets.len();
             octets.resize(len.saturating_add(2), 0)?;
             if seal(&mut octets, len).is_err() {
-                return Err(Fault::Wrong(Wrong::TooLong));
+                return Err(LossyFault::Wrong(LossyFailure::TooLong));
             }
         }
         out.push(octets)?;
@@ -215,7 +220,7 @@ impl Sender {
     }
 
     /// Sends the Metadata PDU.
-    fn send_metadata(&self, alloc: Global, out: &mut Pdus) -> Result<(), Fault> {
+    fn send_metadata(&self, alloc: Global, out: &mut Pdus) -> Result<(), LossyFault> {
         let mut octets = Vec::new(alloc);
         write_metadata(
             &self.plan.header(),
@@ -226,10 +231,16 @@ impl Sender {
     }
 
     /// Sends a piece of the file from an offset on, up to another at most: where it ends.
-    fn send_piece(&self, alloc: Global, from: u32, to: u32, out: &mut Pdus) -> Result<u32, Fault> {
+    fn send_piece(
+        &self,
+        alloc: Global,
+        from: u32,
+        to: u32,
+        out: &mut Pdus,
+    ) -> Result<u32, LossyFault> {
         let end = to.min(from.saturating_add(self.plan.piece));
         let Some(piece) = self.file.get(from as usize..end as usize) else {
-            return Err(Fault::Wrong(Wrong::AsksBeyond));
+            return Err(LossyFault::Wrong(LossyFailure::AsksBeyond));
         };
         let data = FileData {
             offset: u64::from(from),
@@ -242,12 +253,12 @@ impl Sender {
     }
 
     /// Sends a part of the file, in its pieces.
-    fn send_part(&self, alloc: Global, range: Range, out: &mut Pdus) -> Result<(), Fault> {
+    fn send_part(&self, alloc: Global, range: Range, out: &mut Pdus) -> Result<(), LossyFault> {
         let (Ok(from), Ok(to)) = (u32::try_from(range.0), u32::try_from(range.1)) else {
-            return Err(Fault::Wrong(Wrong::AsksBeyond));
+            return Err(LossyFault::Wrong(LossyFailure::AsksBeyond));
         };
         if to <= from || self.plan.size < to {
-            return Err(Fault::Wrong(Wrong::AsksBeyond));
+            return Err(LossyFault::Wrong(LossyFailure::AsksBeyond));
         }
         let mut at = from;
         for _ in from..to {
@@ -260,7 +271,7 @@ impl Sender {
     }
 
     /// Sends the EOF PDU.
-    fn send_eof(&mut self, alloc: Global, now: u64, out: &mut Pdus) -> Result<(), Fault> {
+    fn send_eof(&mut self, alloc: Global, now: u64, out: &mut Pdus) -> Result<(), LossyFault> {
         let eof = Eof {
             condition: NO_ERROR,
             checksum: modular_checksum(&self.file),
@@ -275,7 +286,7 @@ impl Sender {
     }
 
     /// Sends the file for the first time, as much of it as goes at one moment.
-    fn begin(&mut self, alloc: Global, now: u64, out: &mut Pdus) -> Result<(), Fault> {
+    fn begin(&mut self, alloc: Global, now: u64, out: &mut Pdus) -> Result<(), LossyFault> {
         for _ in 0..self.plan.rate {
             if !self.has_begun {
                 self.send_metadata(alloc, out)?;
@@ -290,7 +301,12 @@ impl Sender {
     }
 
     /// Sends the whole file once more, as a channel may that held all PDUs back.
-    pub fn send_again(&mut self, alloc: Global, now: u64, out: &mut Pdus) -> Result<(), Fault> {
+    pub fn send_again(
+        &mut self,
+        alloc: Global,
+        now: u64,
+        out: &mut Pdus,
+    ) -> Result<(), LossyFault> {
         self.send_metadata(alloc, out)?;
         if self.plan.size > 0 {
             self.send_part(alloc, (0, u64::from(self.plan.size)), out)?;
@@ -299,7 +315,7 @@ impl Sender {
     }
 
     /// Time passes: the file is sent, or its EOF PDU again, or the sender gives up.
-    pub fn pass(&mut self, alloc: Global, now: u64, out: &mut Pdus) -> Result<(), Fault> {
+    pub fn pass(&mut self, alloc: Global, now: u64, out: &mut Pdus) -> Result<(), LossyFault> {
         if self.is_closed {
             return Ok(());
         }
@@ -318,7 +334,7 @@ impl Sender {
         Ok(())
     }
 
-    /// The next moment at which [`Sender::pass`] does something.
+    /// The next moment at which [`LossySender::pass`] does something.
     pub fn deadline(&self, now: u64) -> Option<u64> {
         if self.is_closed {
             return None;
@@ -332,10 +348,10 @@ impl Sender {
     }
 
     /// Answers a NAK PDU, in the order of its requests.
-    fn answer(&self, alloc: Global, octets: &[u8], out: &mut Pdus) -> Result<(), Fault> {
+    fn answer(&self, alloc: Global, octets: &[u8], out: &mut Pdus) -> Result<(), LossyFault> {
         let mut requests = [(0, 0); 34];
         let Ok(nak) = read_nak(octets, &mut requests) else {
-            return Err(Fault::Wrong(Wrong::Unreadable));
+            return Err(LossyFault::Wrong(LossyFailure::Unreadable));
         };
         for request in requests.iter().take(nak.count) {
             if *request == (0, 0) {
@@ -348,10 +364,15 @@ impl Sender {
     }
 
     /// Acknowledges a Finished PDU.
-    fn acknowledge(&mut self, alloc: Global, octets: &[u8], out: &mut Pdus) -> Result<(), Fault> {
+    fn acknowledge(
+        &mut self,
+        alloc: Global,
+        octets: &[u8],
+        out: &mut Pdus,
+    ) -> Result<(), LossyFault> {
         let condition = match read_pdu(alloc, octets) {
             Ok(Pdu::Finished(_, finished)) => finished.condition,
-            _ => return Err(Fault::Wrong(Wrong::Unreadable)),
+            _ => return Err(LossyFault::Wrong(LossyFailure::Unreadable)),
         };
         let ack = Ack {
             directive: directive::FINISHED,
@@ -372,18 +393,18 @@ impl Sender {
         now: u64,
         octets: &mut [u8],
         out: &mut Pdus,
-    ) -> Result<(), Fault> {
+    ) -> Result<(), LossyFault> {
         let Ok(len) = unseal(octets) else {
-            return Err(Fault::Wrong(Wrong::Unreadable));
+            return Err(LossyFault::Wrong(LossyFailure::Unreadable));
         };
         let octets = octets.get(..len).unwrap_or(&[]);
         let Ok(start) = read_start(octets) else {
-            return Err(Fault::Wrong(Wrong::Unreadable));
+            return Err(LossyFault::Wrong(LossyFailure::Unreadable));
         };
         let mut due = self.plan.header();
         due.toward_sender = true;
         if start.header != due || start.file_data {
-            return Err(Fault::Wrong(Wrong::Unreadable));
+            return Err(LossyFault::Wrong(LossyFailure::Unreadable));
         }
         self.heard_at = now;
         match start.field.first().copied() {
@@ -396,9 +417,9 @@ impl Sender {
                     Ok(())
                 }
                 Ok(_) => Ok(()),
-                Err(_) => Err(Fault::Wrong(Wrong::Unreadable)),
+                Err(_) => Err(LossyFault::Wrong(LossyFailure::Unreadable)),
             },
-            _ => Err(Fault::Wrong(Wrong::Unreadable)),
+            _ => Err(LossyFault::Wrong(LossyFailure::Unreadable)),
         }
     }
 }

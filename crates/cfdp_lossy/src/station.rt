@@ -1,9 +1,9 @@
 //! A receiving entity, and the rules that hold of what it answers.
 
 use crate::channel::Mode;
-use crate::fault::{Fault, Wrong};
+use crate::fault::{LossyFailure, LossyFault};
 use crate::random::Random;
-use crate::sender::{FILE, LOG, Pdus, Plan};
+use crate::sender::{FILE, LOG, Pdus, SenderPlan};
 use crate::tally::{Tally, count};
 use cfdp_actions::Protected;
 use cfdp_directives::TransactionStatus;
@@ -82,7 +82,7 @@ impl Sent {
 
 /// What was seen of the present transfer.
 #[derive(Clone, Copy)]
-pub struct Seen {
+pub struct SeenTransfer {
     id: TransactionId,
     header_len: usize,
     items: u64,
@@ -110,7 +110,7 @@ pub struct Station {
     room: Vec<u8>,
     /// How many NAK PDUs a sequence has at most.
     most_naks: u64,
-    seen: Seen,
+    seen: SeenTransfer,
     /// What the log has to be.
     log: Vec<u8>,
     /// There is a log.
@@ -165,16 +165,16 @@ fn mib(random: &mut Random, mode: Mode) -> Mib {
 }
 
 /// An entity with an empty filestore of 1,024 blocks.
-fn entity(alloc: Global) -> Result<Entity, Fault> {
+fn entity(alloc: Global) -> Result<Entity, LossyFault> {
     match Config::new(2, 1_024, 2_400, 2, 16, Protected::new()) {
         Ok(config) => Ok(Entity::new(alloc, config)?),
-        Err(_) => Err(Fault::Wrong(Wrong::NotMade)),
+        Err(_) => Err(LossyFault::Wrong(LossyFailure::NotMade)),
     }
 }
 
 /// Nothing was seen.
-fn nothing_seen() -> Seen {
-    Seen {
+fn nothing_seen() -> SeenTransfer {
+    SeenTransfer {
         id: TransactionId {
             source: 0,
             number: 0,
@@ -193,12 +193,12 @@ fn nothing_seen() -> Seen {
 
 impl Station {
     /// A receiver by a seed.
-    pub fn new(alloc: Global, random: &mut Random, mode: Mode) -> Result<Station, Fault> {
+    pub fn new(alloc: Global, random: &mut Random, mode: Mode) -> Result<Station, LossyFault> {
         let mib = mib(random, mode);
         let receiver = match Receiver::new(alloc, mib, entity(alloc)?) {
             Ok(receiver) => receiver,
-            Err(NotMade::Memory) => return Err(Fault::Memory),
-            Err(_) => return Err(Fault::Wrong(Wrong::NotMade)),
+            Err(NotMade::Memory) => return Err(LossyFault::Memory),
+            Err(_) => return Err(LossyFault::Wrong(LossyFailure::NotMade)),
         };
         let room = vec![in alloc; 0u8; receiver.longest()]?;
         let most_naks = 34usize.div_ceil(mib.most_requests().max(1));
@@ -218,8 +218,8 @@ impl Station {
     }
 
     /// A transfer begins.
-    pub fn begin(&mut self, plan: &Plan) {
-        self.seen = Seen {
+    pub fn begin(&mut self, plan: &SenderPlan) {
+        self.seen = SeenTransfer {
             id: plan.id(),
             header_len: header_len(&plan.header()),
             items: plan.items(),
@@ -228,7 +228,7 @@ impl Station {
     }
 
     /// What was seen of the present transfer.
-    pub fn seen(&self) -> Seen {
+    pub fn seen(&self) -> SeenTransfer {
         self.seen
     }
 
@@ -262,7 +262,7 @@ impl Station {
         answer: &Answer,
         alloc: Global,
         out: &mut Pdus,
-    ) -> Result<Sent, Fault> {
+    ) -> Result<Sent, LossyFault> {
         let mut sent = Sent {
             acks: 0,
             naks: 0,
@@ -273,11 +273,11 @@ impl Station {
             let len = match self.receiver.write(answer, number, &mut self.room) {
                 Ok(len) => len,
                 Err(NotWritten::NoMore) => break,
-                Err(NotWritten::TooShort) => return Err(Fault::Wrong(Wrong::TooLong)),
+                Err(NotWritten::TooShort) => return Err(LossyFault::Wrong(LossyFailure::TooLong)),
             };
             let octets = self.room.get(..len).unwrap_or(&[]);
             if !sent.count(octets.get(self.seen.header_len).copied()) {
-                return Err(Fault::Wrong(Wrong::TooMuch));
+                return Err(LossyFault::Wrong(LossyFailure::TooMuch));
             }
             tally.digest(octets);
             out.push(Vec::from_slice(alloc, octets)?)?;
@@ -285,7 +285,7 @@ impl Station {
         if sent.are_few(came, self.most_naks) {
             Ok(sent)
         } else {
-            Err(Fault::Wrong(Wrong::TooMuch))
+            Err(LossyFault::Wrong(LossyFailure::TooMuch))
         }
     }
 
@@ -328,10 +328,10 @@ impl Station {
     }
 
     /// The user gets an indication.
-    fn hear(&mut self, told: Indication) -> Result<(), Fault> {
+    fn hear(&mut self, told: Indication) -> Result<(), LossyFault> {
         if let Indication::TransactionFinished(_, end) = told {
             if self.seen.end.is_some() {
-                return Err(Fault::Wrong(Wrong::EndedTwice));
+                return Err(LossyFault::Wrong(LossyFailure::EndedTwice));
             }
             self.seen.end = Some(end);
         }
@@ -339,18 +339,18 @@ impl Station {
     }
 
     /// What became of an input.
-    fn look(&mut self, mode: Mode, lost: u64, became: &Became) -> Result<(), Fault> {
+    fn look(&mut self, mode: Mode, lost: u64, became: &Became) -> Result<(), LossyFault> {
         let Became::Replied(_, reply) = became else {
             return Ok(());
         };
         match reply {
             Reply::Complete if mode == Mode::Lossy && !self.is_in_time(lost) => {
-                Err(Fault::Wrong(Wrong::TooManyRounds))
+                Err(LossyFault::Wrong(LossyFailure::TooManyRounds))
             }
             Reply::Installed | Reply::Performed(_) => {
                 count(&mut self.seen.performed);
                 if self.seen.performed > self.seen.items {
-                    return Err(Fault::Wrong(Wrong::PerformedAgain));
+                    return Err(LossyFault::Wrong(LossyFailure::PerformedAgain));
                 }
                 Ok(())
             }
@@ -364,7 +364,7 @@ impl Station {
         context: &mut Context<'_>,
         came: Came,
         answer: &Answer,
-    ) -> Result<(), Fault> {
+    ) -> Result<(), LossyFault> {
         let sent = self.send(context.tally, came, answer, context.alloc, context.out)?;
         self.seen.finished = self.seen.finished.saturating_add(sent.finished);
         if sent.naks > 0 && came != Came::FileData {
@@ -378,7 +378,7 @@ impl Station {
     }
 
     /// All work is done, and each outcome taken.
-    fn settle(&mut self, context: &mut Context<'_>) -> Result<(), Fault> {
+    fn settle(&mut self, context: &mut Context<'_>) -> Result<(), LossyFault> {
         for _ in 0..MANY {
             if self.receiver.has_work() {
                 let answer = self.receiver.work(context.now);
@@ -390,32 +390,36 @@ impl Station {
                 return Ok(());
             }
         }
-        Err(Fault::Wrong(Wrong::Restless))
+        Err(LossyFault::Wrong(LossyFailure::Restless))
     }
 
     /// A PDU comes.
-    pub fn receive(&mut self, context: &mut Context<'_>, mut octets: Vec<u8>) -> Result<(), Fault> {
+    pub fn receive(
+        &mut self,
+        context: &mut Context<'_>,
+        mut octets: Vec<u8>,
+    ) -> Result<(), LossyFault> {
         let came = self.came_with(&octets);
         match self
             .receiver
             .receive(context.alloc, context.now, &mut octets)
         {
             Ok(answer) => self.note(context, came, &answer)?,
-            Err(Dropped::Pdu(PduFault::Memory)) => return Err(Fault::Memory),
-            Err(_) => return Err(Fault::Wrong(Wrong::Dropped)),
+            Err(Dropped::Pdu(PduFault::Memory)) => return Err(LossyFault::Memory),
+            Err(_) => return Err(LossyFault::Wrong(LossyFailure::Dropped)),
         }
         self.settle(context)
     }
 
     /// Time passes: each timer that is due is served.
-    pub fn pass(&mut self, context: &mut Context<'_>) -> Result<(), Fault> {
+    pub fn pass(&mut self, context: &mut Context<'_>) -> Result<(), LossyFault> {
         for _ in 0..MANY {
             let deadline = self.receiver.deadline();
             let is_due = deadline.is_some_and(|deadline| deadline <= context.now);
             let answer = self.receiver.expire(context.now);
             let is_nothing = matches!(answer.became(), Became::Nothing);
             if is_due == is_nothing {
-                return Err(Fault::Wrong(Wrong::Deadline));
+                return Err(LossyFault::Wrong(LossyFailure::Deadline));
             }
             if is_nothing {
                 return Ok(());
@@ -423,7 +427,7 @@ impl Station {
             self.note(context, Came::Expiry, &answer)?;
             self.settle(context)?;
         }
-        Err(Fault::Wrong(Wrong::Restless))
+        Err(LossyFault::Wrong(LossyFailure::Restless))
     }
 
     /// Whether a file of the filestore has these octets, and no more.
@@ -440,11 +444,16 @@ impl Station {
 
     /// The transfer is over: whether its file was delivered. Where it was, the file has its octets, and it was
     /// appended to the log once.
-    pub fn compare(&mut self, alloc: Global, plan: &Plan, file: &[u8]) -> Result<bool, Fault> {
+    pub fn compare(
+        &mut self,
+        alloc: Global,
+        plan: &SenderPlan,
+        file: &[u8],
+    ) -> Result<bool, LossyFault> {
         let is_complete = self.seen.end.is_some_and(|end| !end.incomplete);
         if is_complete {
             if !self.has(alloc, FILE, file)? {
-                return Err(Fault::Wrong(Wrong::OtherFile));
+                return Err(LossyFault::Wrong(LossyFailure::OtherFile));
             }
             if plan.begins_log {
                 self.log.clear();
@@ -453,7 +462,7 @@ impl Station {
             self.has_log = true;
         }
         if self.has_log && !self.has(alloc, LOG, &self.log)? {
-            return Err(Fault::Wrong(Wrong::OtherLog));
+            return Err(LossyFault::Wrong(LossyFailure::OtherLog));
         }
         Ok(is_complete)
     }

@@ -1,9 +1,9 @@
 //! Transfers, one after the other.
 
 use crate::channel::{Channel, Loss, Mode, Toward};
-use crate::fault::{Fault, Wrong};
+use crate::fault::{LossyFailure, LossyFault};
 use crate::random::Random;
-use crate::sender::{Pdus, Plan, Sender};
+use crate::sender::{LossySender, Pdus, SenderPlan};
 use crate::station::{Context, Station};
 use crate::tally::{Tally, count};
 use cfdp_pdus::condition::NO_ERROR;
@@ -21,7 +21,7 @@ const MANY_PDUS: u32 = 20_000;
 
 /// Transfers over a channel.
 #[derive(Drop)]
-pub struct Transfers {
+pub struct LossyTransfers {
     mode: Mode,
     random: Random,
     now: u64,
@@ -30,12 +30,12 @@ pub struct Transfers {
     pub tally: Tally,
 }
 
-impl Transfers {
+impl LossyTransfers {
     /// Before the first transfer of this seed.
-    pub fn new(alloc: Global, mode: Mode, seed: u64) -> Result<Transfers, Fault> {
+    pub fn new(alloc: Global, mode: Mode, seed: u64) -> Result<LossyTransfers, LossyFault> {
         let mut random = Random::new(seed);
         let station = Station::new(alloc, &mut random, mode)?;
-        Ok(Transfers {
+        Ok(LossyTransfers {
             mode,
             random,
             now: 0,
@@ -45,7 +45,7 @@ impl Transfers {
     }
 
     /// Runs that many transfers.
-    pub fn run(&mut self, alloc: Global, transfers: u32) -> Result<(), Fault> {
+    pub fn run(&mut self, alloc: Global, transfers: u32) -> Result<(), LossyFault> {
         for number in 0..transfers {
             if number % STRIDE == 0 {
                 self.station = Station::new(alloc, &mut self.random, self.mode)?;
@@ -57,9 +57,13 @@ impl Transfers {
     }
 
     /// A sender and a channel. One lossy channel in eight loses many PDUs of a long file.
-    fn begin(&mut self, alloc: Global, number: u32) -> Result<(Plan, Sender, Channel), Fault> {
+    fn begin(
+        &mut self,
+        alloc: Global,
+        number: u32,
+    ) -> Result<(SenderPlan, LossySender, Channel), LossyFault> {
         let begins_log = self.station.begins_log();
-        let mut plan = Plan::new(&mut self.random, number, begins_log);
+        let mut plan = SenderPlan::new(&mut self.random, number, begins_log);
         let mut loss = Loss::OneIn(self.random.below(6).saturating_add(2));
         let mut may_lose = self.random.below(7);
         if self.random.is_one_in(8) {
@@ -71,12 +75,12 @@ impl Transfers {
             may_lose = u64::MAX;
         }
         let most_eofs = if self.mode == Mode::Wild { 6 } else { u64::MAX };
-        let sender = Sender::new(alloc, plan, self.now, most_eofs)?;
+        let sender = LossySender::new(alloc, plan, self.now, most_eofs)?;
         Ok((plan, sender, Channel::new(alloc, self.mode, loss, may_lose)))
     }
 
     /// Runs a transfer.
-    fn transfer(&mut self, alloc: Global, number: u32) -> Result<(), Fault> {
+    fn transfer(&mut self, alloc: Global, number: u32) -> Result<(), LossyFault> {
         let (plan, mut sender, mut channel) = self.begin(alloc, number)?;
         self.station.begin(&plan);
         self.until_quiet(alloc, &mut sender, &mut channel)?;
@@ -87,13 +91,13 @@ impl Transfers {
         if self.station.compare(alloc, &plan, sender.file())? {
             count(&mut self.tally.complete);
         } else if self.mode == Mode::Lossy {
-            return Err(Fault::Wrong(Wrong::Incomplete));
+            return Err(LossyFault::Wrong(LossyFailure::Incomplete));
         }
         Ok(())
     }
 
     /// All rounds of a lossy channel: of EOF PDUs, of NAK sequences and of Finished PDUs.
-    fn check_rounds(&self, sender: &Sender, channel: &Channel) -> Result<(), Fault> {
+    fn check_rounds(&self, sender: &LossySender, channel: &Channel) -> Result<(), LossyFault> {
         let seen = self.station.seen();
         let rounds = sender
             .eofs
@@ -106,9 +110,9 @@ impl Transfers {
         let is_well = seen.end.is_some_and(|end| end.condition == NO_ERROR
             && end.file_status == RETAINED);
         if rounds > most {
-            Err(Fault::Wrong(Wrong::TooManyInAll))
+            Err(LossyFault::Wrong(LossyFailure::TooManyInAll))
         } else if !is_well {
-            Err(Fault::Wrong(Wrong::Incomplete))
+            Err(LossyFault::Wrong(LossyFailure::Incomplete))
         } else {
             Ok(())
         }
@@ -118,9 +122,9 @@ impl Transfers {
     fn send_again(
         &mut self,
         alloc: Global,
-        sender: &mut Sender,
+        sender: &mut LossySender,
         channel: &mut Channel,
-    ) -> Result<(), Fault> {
+    ) -> Result<(), LossyFault> {
         channel.calm();
         let mut pdus = Vec::new(alloc);
         sender.send_again(alloc, self.now, &mut pdus)?;
@@ -132,9 +136,9 @@ impl Transfers {
     fn until_quiet(
         &mut self,
         alloc: Global,
-        sender: &mut Sender,
+        sender: &mut LossySender,
         channel: &mut Channel,
-    ) -> Result<(), Fault> {
+    ) -> Result<(), LossyFault> {
         for _ in 0..MANY_MOMENTS {
             self.moment(alloc, sender, channel)?;
             let Some(next) = self.next_moment(sender, channel) else {
@@ -145,12 +149,12 @@ impl Transfers {
         if sender.is_closed && self.station.is_closed() && channel.deadline().is_none() {
             Ok(())
         } else {
-            Err(Fault::Wrong(Wrong::NotClosed))
+            Err(LossyFault::Wrong(LossyFailure::NotClosed))
         }
     }
 
     /// The next moment at which something happens.
-    fn next_moment(&self, sender: &Sender, channel: &Channel) -> Option<u64> {
+    fn next_moment(&self, sender: &LossySender, channel: &Channel) -> Option<u64> {
         let moments = [
             channel.deadline(),
             sender.deadline(self.now),
@@ -163,9 +167,9 @@ impl Transfers {
     fn moment(
         &mut self,
         alloc: Global,
-        sender: &mut Sender,
+        sender: &mut LossySender,
         channel: &mut Channel,
-    ) -> Result<(), Fault> {
+    ) -> Result<(), LossyFault> {
         self.deliver_to_receiver(alloc, channel)?;
         self.deliver_to_sender(alloc, sender, channel)?;
         let mut pdus = Vec::new(alloc);
@@ -185,7 +189,11 @@ impl Transfers {
     }
 
     /// What comes to the receiver.
-    fn deliver_to_receiver(&mut self, alloc: Global, channel: &mut Channel) -> Result<(), Fault> {
+    fn deliver_to_receiver(
+        &mut self,
+        alloc: Global,
+        channel: &mut Channel,
+    ) -> Result<(), LossyFault> {
         for _ in 0..MANY_PDUS {
             let Some(octets) = channel.next(self.now, Toward::Receiver) else {
                 return Ok(());
@@ -202,16 +210,16 @@ impl Transfers {
             self.station.receive(&mut context, octets)?;
             self.send(channel, Toward::Sender, pdus)?;
         }
-        Err(Fault::Wrong(Wrong::Restless))
+        Err(LossyFault::Wrong(LossyFailure::Restless))
     }
 
     /// What comes to the sender.
     fn deliver_to_sender(
         &mut self,
         alloc: Global,
-        sender: &mut Sender,
+        sender: &mut LossySender,
         channel: &mut Channel,
-    ) -> Result<(), Fault> {
+    ) -> Result<(), LossyFault> {
         for _ in 0..MANY_PDUS {
             let Some(mut octets) = channel.next(self.now, Toward::Sender) else {
                 return Ok(());
@@ -220,11 +228,16 @@ impl Transfers {
             sender.hear(alloc, self.now, &mut octets, &mut pdus)?;
             self.send(channel, Toward::Receiver, pdus)?;
         }
-        Err(Fault::Wrong(Wrong::Restless))
+        Err(LossyFault::Wrong(LossyFailure::Restless))
     }
 
     /// The channel takes PDUs.
-    fn send(&mut self, channel: &mut Channel, toward: Toward, pdus: Pdus) -> Result<(), Fault> {
+    fn send(
+        &mut self,
+        channel: &mut Channel,
+        toward: Toward,
+        pdus: Pdus,
+    ) -> Result<(), LossyFault> {
         for octets in pdus {
             match toward {
                 Toward::Receiver => count(&mut self.tally.sent),

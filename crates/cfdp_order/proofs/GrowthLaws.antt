@@ -3,7 +3,7 @@
 --     Grown                          what `insert` does, but for the index of the node
 --     none_can, none_split           a node can be joined with two empty orders;  no nodes are before it, and none after it
 --     grown_right, grown_left        a node inserted to the right or to the left of the top
---     placed_right, placed_left      where the node comes
+--     joined_right, joined_left      where the node comes
 use Rattle.std.proofs.Common.{◌≡◌, ℕ, ◌+◌, ◌<◌, ◌≤◌, max, List, [], ◌∷◌, ◌++◌, length, refl, sym, ap, ◌∙◌, subst, inl, inr, arith, append_assoc}
 use Rattle.std.proofs.Math.Nat.{max_comm}
 use Rattle.std.proofs.lemmas.Bool.{cases_eq, cases_lt}
@@ -100,14 +100,14 @@ module _ {old new : List Links} {node : ℕ} {order a b more : Order} (is : IsOr
         ));
       }
 
-  pub placed_right : {last : List Links} {result : Order} → Balanced new last a order.root more result → (P Q : ℕ → Type 0) → (Q order.root → ⊥) →
+  pub joined_right : {last : List Links} {result : Order} → Balanced new last a order.root more result → (P Q : ℕ → Type 0) → (Q order.root → ⊥) →
       (before after : List ℕ)
       → nodes old order ≡ before ++ after → All P before → All Q after → ((rest : List ℕ) → nodes old b ≡ rest ++ after → All P rest → nodes new more ≡ rest
       ++ node ∷ after)
       → nodes last result ≡ before ++ node ∷ after
-  placed_right balanced P Q apart before after parted less rest place =
+  joined_right balanced P Q apart before after parted less rest join =
       let s = split_right P Q (nodes old a) order.root (nodes old b) before after (sym o.listed ∙ parted) less rest apart in
-      balanced.listed ∙ (λ i. a_stays.listed i ++ order.root ∷ place s.rest s.right_is s.all i)
+      balanced.listed ∙ (λ i. a_stays.listed i ++ order.root ∷ join s.rest s.right_is s.all i)
       ∙ sym (append_assoc (nodes old a) (order.root ∷ s.rest) (node ∷ after)) ∙ (λ i. sym s.before_is i ++ node ∷ after)
 
 -- to the left
@@ -152,14 +152,14 @@ module _ {old new : List Links} {node : ℕ} {order a b more : Order} (is : IsOr
         ));
       }
 
-  pub placed_left : {last : List Links} {result : Order} → Balanced new last more order.root b result → (P Q : ℕ → Type 0) → (P order.root → ⊥) →
+  pub joined_left : {last : List Links} {result : Order} → Balanced new last more order.root b result → (P Q : ℕ → Type 0) → (P order.root → ⊥) →
       (before after : List ℕ)
       → nodes old order ≡ before ++ after → All P before → All Q after → ((rest : List ℕ) → nodes old a ≡ before ++ rest → All Q rest → nodes new more ≡ before
       ++ node ∷ rest)
       → nodes last result ≡ before ++ node ∷ after
-  placed_left balanced P Q apart before after parted less rest place =
+  joined_left balanced P Q apart before after parted less rest join =
       let s = split_left P Q (nodes old a) order.root (nodes old b) before after (sym o.listed ∙ parted) less rest apart in
-      balanced.listed ∙ (λ i. place s.rest s.left_is s.all i ++ order.root ∷ b_stays.listed i)
+      balanced.listed ∙ (λ i. join s.rest s.left_is s.all i ++ order.root ∷ b_stays.listed i)
       ∙ append_assoc before (node ∷ s.rest) (order.root ∷ nodes old b) ∙ (λ i. before ++ node ∷ sym s.after_is i)
 
 -- a node inserted into an order of none

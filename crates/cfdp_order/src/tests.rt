@@ -318,39 +318,39 @@ fn two_in_one_array(rt: HostRuntime) -> Result<(), AllocError> {
 }
 
 /// Keys that are sought among 0, 10, 20, and so on up to 90, and what comes from there on, and after it.
-struct Place {
+struct Search {
     name: &'static str,
     key: u32,
     from: Option<u16>,
     after: Option<u16>,
 }
 
-static PLACES: [Place; 5] = [
-    Place {
+static SEARCHES: [Search; 5] = [
+    Search {
         name: "the first one",
         key: 0,
         from: Some(0),
         after: Some(1),
     },
-    Place {
+    Search {
         name: "one in the middle",
         key: 40,
         from: Some(4),
         after: Some(5),
     },
-    Place {
+    Search {
         name: "between two",
         key: 41,
         from: Some(5),
         after: Some(5),
     },
-    Place {
+    Search {
         name: "the last one",
         key: 90,
         from: Some(9),
         after: None,
     },
-    Place {
+    Search {
         name: "after the last one",
         key: 91,
         from: None,
@@ -371,13 +371,13 @@ fn found_at(made: &Made, keys: &[u32], key: u32) -> (Option<u16>, Option<u16>)
 }
 
 #[test]
-fn places(rt: HostRuntime) -> Result<(), AllocError> {
+fn searches(rt: HostRuntime) -> Result<(), AllocError> {
     let keys = [0, 10, 20, 30, 40, 50, 60, 70, 80, 90];
     let made = order_of(rt.alloc(), &keys)?;
-    for place in &PLACES {
-        let (from, after) = found_at(&made, &keys, place.key);
-        assert_eq!(&rt; from, place.from, "{}", place.name);
-        assert_eq!(&rt; after, place.after, "{}", place.name);
+    for search in &SEARCHES {
+        let (from, after) = found_at(&made, &keys, search.key);
+        assert_eq!(&rt; from, search.from, "{}", search.name);
+        assert_eq!(&rt; after, search.after, "{}", search.name);
     }
     Ok(())
 }

@@ -23,7 +23,7 @@ use Rattle.std.proofs.Math.Dec.{T}
 use Rattle.std.specs.List.{insert, remove}
 use Rattle.cfdp_paths.specs.Paths.{Path, path_cmp}
 use Rattle.cfdp_paths.specs.PathMaps.{without}
-use Rattle.cfdp_paths.specs.code.PathMaps.{rank, IsPlaceOf}
+use Rattle.cfdp_paths.specs.code.PathMaps.{rank, IsIndexOf}
 use Rattle.cfdp_paths.proofs.Comparing.{path_cmp-total}
 
 pub path_antisym : IsAntisymmetric path_cmp
@@ -290,53 +290,53 @@ module _ {X : Type 0} where
             find-greater k f es p ∙ none_other k d es parts.1 (omega (arith, more)) inner
       ] refl
 
-  pub place_of : (k : Path) (es : List (Path × X)) (i : ℕ) (x : Path × X) (o : Ordering) → i ≡ rank k es → i < length es → o ≡ path_cmp (get_or es i x).0 k →
-      is_eq o ≡ true → IsPlaceOf k es i
-  place_of k es i x o place within compared same = record {
-    first = place;
+  pub index_found : (k : Path) (es : List (Path × X)) (i : ℕ) (x : Path × X) (o : Ordering) → i ≡ rank k es → i < length es → o ≡ path_cmp (get_or es i x).0 k →
+      is_eq o ≡ true → IsIndexOf k es i
+  index_found k es i x o index within compared same = record {
+    first = index;
     within = within;
     path = λ d. ap (λ (y : Path × X). y.0) (get_or_default es i d x within)
         ∙ path_antisym (get_or es i x).0 k ((Equal-is (path_cmp (get_or es i x).0 k)).0 (ap is_eq (sym compared) ∙ same));
   }
 
   -- the path of the entry there
-  path_there : (k : Path) (es : List (Path × X)) (i : ℕ) (x : Path × X) → IsPlaceOf k es i → (get_or es (rank k es) x).0 ≡ k
+  path_there : (k : Path) (es : List (Path × X)) (i : ℕ) (x : Path × X) → IsIndexOf k es i → (get_or es (rank k es) x).0 ≡ k
   path_there k es i x at = subst (λ n. (get_or es n x).0 ≡ k) at.first (at.path x)
 
-  within_there : (k : Path) (es : List (Path × X)) (i : ℕ) → IsPlaceOf k es i → rank k es < length es
+  within_there : (k : Path) (es : List (Path × X)) (i : ℕ) → IsIndexOf k es i → rank k es < length es
   within_there k es i at = omega (arith, at.first, at.within)
 
   -- the value that is at the index
-  pub value_at : (k : Path) (es : List (Path × X)) (i : ℕ) (x : Path × X) → IsPlaceOf k es i → x ≡ get_or es i x → Some x.1 ≡ find path_cmp k es
+  pub value_at : (k : Path) (es : List (Path × X)) (i : ℕ) (x : Path × X) → IsIndexOf k es i → x ≡ get_or es i x → Some x.1 ≡ find path_cmp k es
   value_at k es i x at read =
       let there_is : path_cmp (get_or es (rank k es) x).0 k ≡ Equal = ap (λ p. path_cmp p k) (path_there k es i x at) ∙ tied_itself path_cmp-total k in
       ap (λ (y : Path × X). Some y.1) read ∙ ap (λ n. Some (get_or es n x).1) at.first ∙ sym (found_at k x es (within_there k es i at) there_is)
 
-  pub placed : (k p : Path) (es fs : List (Path × X)) (i : ℕ) → p ≡ k → fs ≡ es → IsPlaceOf p fs i → IsPlaceOf k es i
-  placed k p es fs i sought same at = subst (λ q. IsPlaceOf q es i) sought (subst (λ ys. IsPlaceOf p ys i) same at)
+  pub same_index : (k p : Path) (es fs : List (Path × X)) (i : ℕ) → p ≡ k → fs ≡ es → IsIndexOf p fs i → IsIndexOf k es i
+  same_index k p es fs i sought same at = subst (λ q. IsIndexOf q es i) sought (subst (λ ys. IsIndexOf p ys i) same at)
 
   -- ---- one entry changed at its index
 
-  pub put_at : (k : Path) (v : X) (es : List (Path × X)) (i : ℕ) (x : Path × X) → IsPlaceOf k es i → x ≡ get_or es i x → set es i (x.0, v) ≡ put path_cmp k v es
+  pub put_at : (k : Path) (v : X) (es : List (Path × X)) (i : ℕ) (x : Path × X) → IsIndexOf k es i → x ≡ get_or es i x → set es i (x.0, v) ≡ put path_cmp k v es
   put_at k v es i x at read =
       ap (λ p. set es i (p, v)) (ap (λ (y : Path × X). y.0) read ∙ at.path x) ∙ ap (λ n. set es n (k, v)) at.first
       ∙ sym (put-there k x v es (within_there k es i at) (path_there k es i x at))
 
-  pub removed_at : (k : Path) (es : List (Path × X)) (i : ℕ) (x : Path × X) → is_sorted path_cmp es ≡ true → IsPlaceOf k es i → x ≡ get_or es i x → remove es i
+  pub removed_at : (k : Path) (es : List (Path × X)) (i : ℕ) (x : Path × X) → is_sorted path_cmp es ≡ true → IsIndexOf k es i → x ≡ get_or es i x → remove es i
       ≡ without k es
   removed_at k es i x s at read =
       ap (λ n. take n es ++ drop (suc n) es) at.first ∙ sym (without_at k x es s (ap is_some (sym (value_at k es i x at read))))
 
   pub put_gap : (k : Path) (v : X) (es : List (Path × X)) (i : ℕ) → i ≡ rank k es → find path_cmp k es ≡ None → insert es i (k, v) ≡ put path_cmp k v es
-  put_gap k v es i place none =
-      ap (λ n. take n es ++ (k, v) ∷ drop n es) place
+  put_gap k v es i index none =
+      ap (λ n. take n es ++ (k, v) ∷ drop n es) index
       ∙ sym (put-new k (k, v) v es (λ less same.
       true≢false (ap is_some (sym (found_at k (k, v) es less (ap (λ p. path_cmp p k) same ∙ tied_itself path_cmp-total k)) ∙ none))))
 
   pub put_between : (k p : Path) (v : X) (es fs : List (Path × X)) (i : ℕ) → p ≡ k → fs ≡ es → find path_cmp p fs ≡ None → i ≡ rank p fs → insert es i (k, v)
       ≡ put path_cmp k v es
-  put_between k p v es fs i sought same none place =
-      put_gap k v es i (place ∙ ap (λ q. rank q fs) sought ∙ ap (rank k) same) (sym (ap (λ q. find path_cmp q fs) sought ∙ ap (find path_cmp k) same) ∙ none)
+  put_between k p v es fs i sought same none index =
+      put_gap k v es i (index ∙ ap (λ q. rank q fs) sought ∙ ap (rank k) same) (sym (ap (λ q. find path_cmp q fs) sought ∙ ap (find path_cmp k) same) ∙ none)
 
   -- ---- the order is kept
 

@@ -44,17 +44,17 @@ pub first_mark : (octets : List ℕ) (i n marks : ℕ) → marks ≡ marks_of oc
     → NoneBefore (Passes is_separator octets) i (i + n) (i + count_trailing_zeros 64 marks) × Passes is_separator octets (i + count_trailing_zeros 64 marks)
 first_mark octets i n marks are within few some =
     let long = length-chunk i n octets within in
-    let place = count_trailing_zeros 64 marks in
+    let offset = count_trailing_zeros 64 marks in
     let some' : marks_of octets i n ≢ 0 = λ none. some (are ∙ none) in
-    let counted : place ≡ prefix_len (λ x. not (is_separator x)) (chunk i n octets) =
+    let counted : offset ≡ prefix_len (λ x. not (is_separator x)) (chunk i n octets) =
     ap (count_trailing_zeros 64) are ∙ trailing_mask_l is_separator 64 (chunk i n octets) (omega (arith, long, few)) (omega (arith, some')) in
-    let less : place < n = omega (arith, counted, some_marked (chunk i n octets) some', long) in (
+    let less : offset < n = omega (arith, counted, some_marked (chunk i n octets) some', long) in (
       record {
         low = omega arith;
         high = omega (arith, less);
-        before = λ k low high passes. true≢false (sym passes ∙ run_in_chunk_fails is_separator octets i n place 0 within counted k low high);
+        before = λ k low high passes. true≢false (sym passes ∙ run_in_chunk_fails is_separator octets i n offset 0 within counted k low high);
       },
-      run_in_chunk_stops is_separator octets i n place 0 within counted less,
+      run_in_chunk_stops is_separator octets i n offset 0 within counted less,
     )
 
 -- ---- the highest mark
@@ -114,29 +114,29 @@ none_counted (x ∷ octets) none =
     let other : is_separator x ≡ false = false_from_ne_true (is_separator x) (none 0 (omega arith)) in
     rw other (none_counted octets (λ k less here. none (suc k) (omega (arith, less)) here))
 
-last_counted : (octets : List ℕ) (place : ℕ) → place < length octets → is_separator (get_or octets place 0) ≡ true
-    → ((k : ℕ) → place + 1 ≤ k → k < length octets → is_separator (get_or octets k 0) ≡ true → ⊥)
-    → count_by is_separator (take place octets) + 1 ≡ count_by is_separator octets
-last_counted octets place within here after =
-    let none = none_counted (drop (place + 1) octets)
-    (λ k less there. after (place + 1 + k) (omega arith) (omega (arith, less, length-drop (place + 1) octets))
-    (ap is_separator (sym (get_or-drop (place + 1) octets k 0)) ∙ there)) in
-    omega (arith, none, count_by_more_yes is_separator octets place 0 within here, sum_by-take-drop (λ x. cond (is_separator x) 1 0) octets (place + 1))
+last_counted : (octets : List ℕ) (offset : ℕ) → offset < length octets → is_separator (get_or octets offset 0) ≡ true
+    → ((k : ℕ) → offset + 1 ≤ k → k < length octets → is_separator (get_or octets k 0) ≡ true → ⊥)
+    → count_by is_separator (take offset octets) + 1 ≡ count_by is_separator octets
+last_counted octets offset within here after =
+    let none = none_counted (drop (offset + 1) octets)
+    (λ k less there. after (offset + 1 + k) (omega arith) (omega (arith, less, length-drop (offset + 1) octets))
+    (ap is_separator (sym (get_or-drop (offset + 1) octets k 0)) ∙ there)) in
+    omega (arith, none, count_by_more_yes is_separator octets offset 0 within here, sum_by-take-drop (λ x. cond (is_separator x) 1 0) octets (offset + 1))
 
 pub last_some : (octets : List ℕ) (r : Option ℕ) → IsLastByte is_separator octets r → 1 ≤ count_by is_separator octets → IsSome r
 last_some octets None none some = absurd (omega (arith, some, none_counted octets (λ k less here. none k (omega arith) less here)))
-last_some octets (Some place) last some = refl
+last_some octets (Some offset) last some = refl
 
 -- the index of the last separator
-pub record Last (octets : List ℕ) (place : ℕ) : Type 0 where
-  pub within : place < length octets
-  pub here : get_or octets place 0 ≡ 0
-  pub count : count_by is_separator (take place octets) + 1 ≡ count_by is_separator octets
+pub record Last (octets : List ℕ) (offset : ℕ) : Type 0 where
+  pub within : offset < length octets
+  pub here : get_or octets offset 0 ≡ 0
+  pub count : count_by is_separator (take offset octets) + 1 ≡ count_by is_separator octets
 
-pub last_is : (octets : List ℕ) (r : Option ℕ) (place : ℕ) → IsLastByte is_separator octets r → r ≡ Some place → Last octets place
-last_is octets None place last is = cc
-last_is octets (Some found) place last is =
-    let same : found ≡ place = cc in
+pub last_is : (octets : List ℕ) (r : Option ℕ) (offset : ℕ) → IsLastByte is_separator octets r → r ≡ Some offset → Last octets offset
+last_is octets None offset last is = cc
+last_is octets (Some found) offset last is =
+    let same : found ≡ offset = cc in
     let whole : Last octets found = record {
       within = last.0.high;
       here = eqb-true (get_or octets found 0) 0 last.1;

@@ -188,19 +188,19 @@ module _ {X : Type 0} (p : Path) where
       → count ≤ length (between start (length es) es) → IsPartitionPoint (λ e. is_at_or_below e.0 p ≡ true) (λ e. is_at_or_below e.0 p ≡ false)
       (between start (length es) es) count
       → IsPieceOf p es start (start + count)
-  piece_of q es start count sought place within few point =
+  piece_of q es start count sought index within few point =
       let behind : between start (length es) es ≡ drop start es = between_to_end es start (length es) (omega arith) in
       let spread_is = prefix_len_of_point (λ (e : Path × X). is_at_or_below e.0 p) (between start (length es) es) count few point in
       record {
-        begins = place ∙ ap (λ r. rank r es) sought;
+        begins = index ∙ ap (λ r. rank r es) sought;
         ends = ap (λ m. start + m) (spread_is ∙ ap (spread p) behind);
         within = omega (arith, few, ap length behind, length-drop start es);
       }
 
   pub behind_parted : (q : Path) (es : List (Path × X)) (start : ℕ) → q ≡ p → start ≡ rank q es → is_sorted path_cmp es ≡ true
       → IsPartitionedBy (λ e. is_at_or_below e.0 p) (between start (length es) es)
-  behind_parted q es start sought place s =
-      let begins : start ≡ rank p es = place ∙ ap (λ r. rank r es) sought in
+  behind_parted q es start sought index s =
+      let begins : start ≡ rank p es = index ∙ ap (λ r. rank r es) sought in
       let behind : drop start es ≡ between start (length es) es = sym (between_to_end es start (length es) (omega arith)) in
       subst (IsPartitionedBy (λ e. is_at_or_below e.0 p)) behind
       (spreads_parted (drop start es) (sorted_behind es start s) (subst (λ m. BeginsAt (drop m es)) (sym begins) (begins_at_rank es)))

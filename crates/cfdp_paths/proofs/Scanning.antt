@@ -85,11 +85,11 @@ module _ (octets names : List ℕ) (count start index : ℕ) (holds_zero : Bool)
   -- an octet of the name more
   more : index < length names → (so_far names start (index + 1) ≡ so_far names start index ++ get_or names index 0 ∷ [])
   more within =
-      let place : start + (index - start) ≡ index = omega (arith, h.order) in
+      let offset : start + (index - start) ≡ index = omega (arith, h.order) in
       let one : index + 1 - start ≡ (index - start) + 1 = omega (arith, h.order) in
       ap (λ n. take n (drop start names)) one
       ∙ take_more (drop start names) (index - start) 0 (omega (arith, h.order, length-drop start names))
-      ∙ ap (λ x. so_far names start index ++ x ∷ []) (get_or-drop start names (index - start) 0 ∙ ap (λ k. get_or names k 0) place)
+      ∙ ap (λ x. so_far names start index ++ x ∷ []) (get_or-drop start names (index - start) 0 ∙ ap (λ k. get_or names k 0) offset)
 
   at_index : (x : ℕ) → index < length names → x ≡ get_or names index 0 → drop index names ≡ x ∷ drop (index + 1) names
   at_index x within read =

@@ -250,22 +250,22 @@ replace_more f octets now next i y e within written same =
 pub depth-names_of : (octets : List ℕ) → length (names_of octets) ≡ 1 + count_by is_separator octets
 depth-names_of octets = omega (arith, length-slice_split is_separator octets)
 
-pub cut_there : (octets : List ℕ) (place count left : ℕ) → place < length octets → get_or octets place 0 ≡ 0 → count_by is_separator (take place octets) + left
+pub cut_there : (octets : List ℕ) (index count left : ℕ) → index < length octets → get_or octets index 0 ≡ 0 → count_by is_separator (take index octets) + left
     ≡ count → left ≡ 1
-    → names_of (take place octets) ≡ take count (names_of octets)
-cut_there octets place count left within separates passed last =
-    let whole : take place octets ++ 0 ∷ drop (suc place) octets ≡ octets =
-    ap (λ x. take place octets ++ x ∷ drop (suc place) octets) (sym separates) ∙ ap (λ o. take place octets ++ o) (sym (drop-cons octets place 0 within))
-    ∙ take-append-drop place octets in
-    let parts : names_of octets ≡ names_of (take place octets) ++ names_of (drop (suc place) octets) =
-    ap names_of (sym whole) ∙ names_of-cut (take place octets) (drop (suc place) octets) in
-    sym (ap (take count) parts ∙ take_at (names_of (take place octets)) (names_of (drop (suc place) octets)) count
-    (omega (arith, depth-names_of (take place octets))))
+    → names_of (take index octets) ≡ take count (names_of octets)
+cut_there octets index count left within separates passed last =
+    let whole : take index octets ++ 0 ∷ drop (suc index) octets ≡ octets =
+    ap (λ x. take index octets ++ x ∷ drop (suc index) octets) (sym separates) ∙ ap (λ o. take index octets ++ o) (sym (drop-cons octets index 0 within))
+    ∙ take-append-drop index octets in
+    let parts : names_of octets ≡ names_of (take index octets) ++ names_of (drop (suc index) octets) =
+    ap names_of (sym whole) ∙ names_of-cut (take index octets) (drop (suc index) octets) in
+    sym (ap (take count) parts ∙ take_at (names_of (take index octets)) (names_of (drop (suc index) octets)) count
+    (omega (arith, depth-names_of (take index octets))))
 
-pub cut_nowhere : (octets : List ℕ) (place count left : ℕ) → length octets ≤ place → count_by is_separator (take place octets) + left ≡ count → 1 ≤ left →
+pub cut_nowhere : (octets : List ℕ) (index count left : ℕ) → length octets ≤ index → count_by is_separator (take index octets) + left ≡ count → 1 ≤ left →
     names_of octets ≡ take count (names_of octets)
-cut_nowhere octets place count left past passed some =
-    let all : count_by is_separator (take place octets) ≡ count_by is_separator octets = ap (count_by is_separator) (take_all place octets past) in
+cut_nowhere octets index count left past passed some =
+    let all : count_by is_separator (take index octets) ≡ count_by is_separator octets = ap (count_by is_separator) (take_all index octets past) in
     sym (take_all count (names_of octets) (omega (arith, depth-names_of octets)))
 
 -- ---- a walk back over the last names
@@ -274,13 +274,13 @@ pub some_separator : (octets front : List ℕ) (kept : ℕ) → names_of front �
     → kept ≤ length (names_of octets) → 1 ≤ count_by is_separator front
 some_separator octets front kept names more within = omega (arith, depth-names_of front, ap length names, length-take kept (names_of octets), more, within)
 
-pub cut_last : (octets front : List ℕ) (place kept : ℕ) → names_of front ≡ take kept (names_of octets) → kept ≤ length (names_of octets)
-    → place < length front → get_or front place 0 ≡ 0
-    → count_by is_separator (take place front) + 1 ≡ count_by is_separator front → names_of (take place front) ≡ take (kept - 1) (names_of octets)
-cut_last octets front place kept names within inside separates last =
-    let count = count_by is_separator (take place front) + 1 in
+pub cut_last : (octets front : List ℕ) (index kept : ℕ) → names_of front ≡ take kept (names_of octets) → kept ≤ length (names_of octets)
+    → index < length front → get_or front index 0 ≡ 0
+    → count_by is_separator (take index front) + 1 ≡ count_by is_separator front → names_of (take index front) ≡ take (kept - 1) (names_of octets)
+cut_last octets front index kept names within inside separates last =
+    let count = count_by is_separator (take index front) + 1 in
     let less : count ≡ kept - 1 = omega (arith, last, depth-names_of front, ap length names, length-take kept (names_of octets), within) in
-    cut_there front place count 1 inside separates refl refl
+    cut_there front index count 1 inside separates refl refl
     ∙ ap (take count) names ∙ take-take count kept (names_of octets) (omega (arith, less)) ∙ ap (λ n. take n (names_of octets)) less
 
 -- ---- the first name
@@ -290,21 +290,21 @@ names_of-last octets none =
     slice_split_none is_separator octets
     (All-from_get_or (λ x. is_separator x ≡ false) octets 0 (λ i less. false_from_ne_true (is_separator (get_or octets i 0)) (none i (omega arith) less)))
 
-pub names_of-next : (octets : List ℕ) (place behind : ℕ) → behind ≡ place + 1 → place < length octets
-    → ((k : ℕ) → 0 ≤ k → k < place → is_separator (get_or octets k 0) ≡ true → ⊥) → is_separator (get_or octets place 0) ≡ true
-    → names_of octets ≡ take place octets ∷ names_of (take (length octets - behind) (drop behind octets))
-names_of-next octets place behind e within none here =
-    let whole : take place octets ++ 0 ∷ drop (suc place) octets ≡ octets =
-    ap (λ x. take place octets ++ x ∷ drop (suc place) octets) (sym (eqb-true (get_or octets place 0) 0 here))
-    ∙ ap (λ o. take place octets ++ o) (sym (drop-cons octets place 0 within)) ∙ take-append-drop place octets in
-    let alone = names_of-last (take place octets) (λ k low less at.
-    (let inside : k < place = omega (arith, less, length-take place octets) in
-    none k low inside (ap is_separator (sym (get_or-take place octets k 0 inside)) ∙ at))) in
-    let rest : drop (suc place) octets ≡ take (length octets - behind) (drop behind octets) =
-    (let next : suc place ≡ behind = omega (arith, e) in ap (λ n. drop n octets) next
+pub names_of-next : (octets : List ℕ) (index behind : ℕ) → behind ≡ index + 1 → index < length octets
+    → ((k : ℕ) → 0 ≤ k → k < index → is_separator (get_or octets k 0) ≡ true → ⊥) → is_separator (get_or octets index 0) ≡ true
+    → names_of octets ≡ take index octets ∷ names_of (take (length octets - behind) (drop behind octets))
+names_of-next octets index behind e within none here =
+    let whole : take index octets ++ 0 ∷ drop (suc index) octets ≡ octets =
+    ap (λ x. take index octets ++ x ∷ drop (suc index) octets) (sym (eqb-true (get_or octets index 0) 0 here))
+    ∙ ap (λ o. take index octets ++ o) (sym (drop-cons octets index 0 within)) ∙ take-append-drop index octets in
+    let alone = names_of-last (take index octets) (λ k low less at.
+    (let inside : k < index = omega (arith, less, length-take index octets) in
+    none k low inside (ap is_separator (sym (get_or-take index octets k 0 inside)) ∙ at))) in
+    let rest : drop (suc index) octets ≡ take (length octets - behind) (drop behind octets) =
+    (let next : suc index ≡ behind = omega (arith, e) in ap (λ n. drop n octets) next
     ∙ sym (take_all (length octets - behind) (drop behind octets) (omega (arith, length-drop behind octets)))) in
-    ap names_of (sym whole) ∙ names_of-cut (take place octets) (drop (suc place) octets) ∙ ap (λ p. p ++ names_of (drop (suc place) octets)) alone
-    ∙ ap (λ o. take place octets ∷ names_of o) rest
+    ap names_of (sym whole) ∙ names_of-cut (take index octets) (drop (suc index) octets) ∙ ap (λ p. p ++ names_of (drop (suc index) octets)) alone
+    ∙ ap (λ o. take index octets ∷ names_of o) rest
 
 -- ---- what follows the octets of a path
 

@@ -77,11 +77,11 @@ pub(crate) fn first_names(octets: &[u8], count: usize) -> &[u8]
     ensures { names_of result.now ≡ take count (names_of octets.now) }
 {
     let mut left = count;
-    for (place, octet) in octets.iter().enumerate() {
+    for (offset, octet) in octets.iter().enumerate() {
         if *octet == SEPARATOR {
             left -= 1;
             if left == 0 {
-                return &octets[..place];
+                return &octets[..offset];
             }
         }
     }

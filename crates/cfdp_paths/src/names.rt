@@ -87,9 +87,9 @@ impl<'a> Iterator for Names<'a> {
     fn next(&mut self) -> Option<&'a [u8]> {
         let octets = self.octets?;
         match first_separator(octets) {
-            Some(place) => {
-                self.octets = Some(&octets[place + 1..]);
-                Some(&octets[..place])
+            Some(offset) => {
+                self.octets = Some(&octets[offset + 1..]);
+                Some(&octets[..offset])
             }
             None => {
                 self.octets = None;

@@ -7,7 +7,7 @@ ghost use Rattle.std.specs.List.{list_any};
 ghost use Rattle.cfdp_paths.specs.Paths.{path_cmp, same_path, is_at_or_below};
 ghost use Rattle.cfdp_paths.specs.code.Paths.{path_in};
 ghost use Rattle.cfdp_paths.specs.PathMaps.{IsOrdered, without, tree_in, rest_in, any_below, puts, moved_to, is_too_deep};
-ghost use Rattle.cfdp_paths.specs.code.PathMaps.{IsPlaceOf, IsPieceOf, rank};
+ghost use Rattle.cfdp_paths.specs.code.PathMaps.{IsIndexOf, IsPieceOf, rank};
 
 use crate::relocating::relocate;
 use crate::{Memory, Path};
@@ -72,9 +72,9 @@ impl<T: Drop> PathMap<T> {
         ensures present { IsSome (find path_cmp path self.old) → IsOk result }
     {
         match search(&self.entries, path.octets()) {
-            Ok(place) => Ok(Some(mem::replace(&mut self.entries[place].1, value))),
-            Err(place) => {
-                self.entries.insert(place, (path, value))?;
+            Ok(index) => Ok(Some(mem::replace(&mut self.entries[index].1, value))),
+            Err(index) => {
+                self.entries.insert(index, (path, value))?;
                 Ok(None)
             }
         }
@@ -94,10 +94,10 @@ impl<T: Drop> PathMap<T> {
         ensures present { IsSome (find path_cmp path.now self.old) → IsOk result }
     {
         match search(&self.entries, path.octets()) {
-            Ok(place) => Ok(Some(mem::replace(&mut self.entries[place].1, value))),
-            Err(place) => {
+            Ok(index) => Ok(Some(mem::replace(&mut self.entries[index].1, value))),
+            Err(index) => {
                 let copy = path.copy(alloc)?;
-                self.entries.insert(place, (copy, value))?;
+                self.entries.insert(index, (copy, value))?;
                 Ok(None)
             }
         }
@@ -130,8 +130,8 @@ impl<T> PathMap<T> {
         ensures old { find path_cmp path.now self.old ≡ Some result }
         ensures put { self.new ≡ put path_cmp path.now value self.old }
     {
-        let place = search(&self.entries, path.octets()).unwrap();
-        mem::replace(&mut self.entries[place].1, value)
+        let index = search(&self.entries, path.octets()).unwrap();
+        mem::replace(&mut self.entries[index].1, value)
     }
 
     /// A map with no entry. Takes no memory.
@@ -171,10 +171,10 @@ impl<T> PathMap<T> {
     fn find(&self, sought: Option<&[u8]>) -> Option<&T>
         ensures { option_copied result ≡ find path_cmp (path_in (option_copied sought.entry)) self.now }
     {
-        let Ok(place) = search(&self.entries, sought) else {
+        let Ok(index) = search(&self.entries, sought) else {
             return None;
         };
-        Some(&self.entries[place].1)
+        Some(&self.entries[index].1)
     }
 
     /// What is at and below the path, in path order: one piece of the map. Takes no memory. Cost: two searches.
@@ -198,10 +198,10 @@ impl<T> PathMap<T> {
         ensures value { result ≡ find path_cmp path.now self.old }
         ensures removed { self.new ≡ without path.now self.old }
     {
-        let Ok(place) = search(&self.entries, path.octets()) else {
+        let Ok(index) = search(&self.entries, path.octets()) else {
             return None;
         };
-        let (_, value) = self.entries.remove(place);
+        let (_, value) = self.entries.remove(index);
         Some(value)
     }
 }
@@ -222,16 +222,16 @@ fn rank<T>(entries: &[(Path, T)], sought: Option<&[u8]>) -> usize
 /// The index of the entry at the path that is looked up; where there is none, the index at which it would be.
 fn search<T>(entries: &[(Path, T)], sought: Option<&[u8]>) -> Result<usize, usize>
     requires { IsOrdered entries.now }
-    ensures found { IfOk result (λ place. IsPlaceOf (path_in (option_copied sought.entry)) entries.now place) }
+    ensures found { IfOk result (λ index. IsIndexOf (path_in (option_copied sought.entry)) entries.now index) }
     ensures absent { OnErr result (find path_cmp (path_in (option_copied sought.entry)) entries.now ≡ None) }
-    ensures place { IfErr result (λ place. place ≡ rank (path_in (option_copied sought.entry)) entries.now) }
-    ensures within { IfErr result (λ place. place ≤ length entries.now) }
+    ensures index { IfErr result (λ index. index ≡ rank (path_in (option_copied sought.entry)) entries.now) }
+    ensures within { IfErr result (λ index. index ≤ length entries.now) }
 {
-    let place = rank(entries, sought);
-    if place < entries.len() && entries[place].0.cmp_sought(sought).is_eq() {
-        return Ok(place);
+    let index = rank(entries, sought);
+    if index < entries.len() && entries[index].0.cmp_sought(sought).is_eq() {
+        return Ok(index);
     }
-    Err(place)
+    Err(index)
 }
 
 /// Whether an entry is that of another path.
@@ -261,7 +261,7 @@ pub(crate) fn put_reserved<T: Drop>(entries: &mut Vec<(Path, T)>, path: Path, va
     ensures longer { vec_len entries.new ≤ vec_len entries.old + 1 }
 {
     match search(entries, path.octets()) {
-        Ok(place) => entries[place].1 = value,
-        Err(place) => entries.insert(place, (path, value)).unwrap(),
+        Ok(index) => entries[index].1 = value,
+        Err(index) => entries.insert(index, (path, value)).unwrap(),
     }
 }

@@ -359,8 +359,8 @@ impl Path {
 /// The octets that spell the path, each one that is no printed ASCII as an escape.
 impl fmt::Debug for Path {
     fn fmt<W: fmt::Write>(&self, f: &mut fmt::Formatter<W>) -> fmt::Result {
-        for (place, name) in self.octets.split(|octet| *octet == SEPARATOR).enumerate() {
-            if place > 0 {
+        for (index, name) in self.octets.split(|octet| *octet == SEPARATOR).enumerate() {
+            if index > 0 {
                 f.write_str("/")?;
             }
             write!(f, "{}", name.escape_ascii())?;

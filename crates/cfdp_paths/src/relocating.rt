@@ -34,7 +34,7 @@ pub(crate) fn relocate<T: Drop>(
     let paths = new_paths(alloc, &entries[start..end], from, to)?;
     let moved = Vec::with_capacity(alloc, paths.len())?;
     let taken = detach(entries, start, end)?;
-    place_moved(entries, to, renamed(taken, paths, moved));
+    put_moved(entries, to, renamed(taken, paths, moved));
     Ok(())
 }
 
@@ -56,24 +56,24 @@ fn all_may_stay<T>(entries: &[(Path, T)], from: &Path, to: &Path) -> bool
 /// search, and two shifts of the entries after it.
 fn relocate_entry<T: Drop>(
     entries: &mut Vec<(Path, T)>,
-    place: usize,
+    index: usize,
     from: &Path,
     to: &Path,
 ) -> Result<(), Memory>
     requires ordered { IsOrdered entries.old.items }
-    requires piece { IsPieceOf from.now entries.old.items place (place + 1) }
+    requires piece { IsPieceOf from.now entries.old.items index (index + 1) }
     requires depth { is_too_deep from.now to.now (tree_in from.now entries.old.items) ≡ false }
     ensures ok { OnOk result (entries.new.items
         ≡ puts (rest_in from.now entries.old.items) (moved_to from.now to.now (tree_in from.now entries.old.items))) }
     ensures err { OnErr result (entries.new.items ≡ entries.old.items) }
 {
-    if entries[place].0.may_stay(from, to) {
-        relocate_entry_in_memory(entries, place, from, to);
+    if entries[index].0.may_stay(from, to) {
+        relocate_entry_in_memory(entries, index, from, to);
         return Ok(());
     }
     let alloc = *entries.allocator();
-    let path = entries[place].0.rebased(alloc, from, to)?;
-    let (_, value) = entries.remove(place);
+    let path = entries[index].0.rebased(alloc, from, to)?;
+    let (_, value) = entries.remove(index);
     put_reserved(entries, path, value);
     Ok(())
 }
@@ -82,18 +82,18 @@ fn relocate_entry<T: Drop>(
 /// has. Takes no memory.
 fn relocate_entry_in_memory<T: Drop>(
     entries: &mut Vec<(Path, T)>,
-    place: usize,
+    index: usize,
     from: &Path,
     to: &Path,
 )
     requires ordered { IsOrdered entries.old.items }
-    requires piece { IsPieceOf from.now entries.old.items place (place + 1) }
+    requires piece { IsPieceOf from.now entries.old.items index (index + 1) }
     requires depth { is_too_deep from.now to.now (tree_in from.now entries.old.items) ≡ false }
     requires short { length (joined to.now) ≤ length (joined from.now) }
     ensures { entries.new.items
         ≡ puts (rest_in from.now entries.old.items) (moved_to from.now to.now (tree_in from.now entries.old.items)) }
 {
-    let (mut path, value) = entries.remove(place);
+    let (mut path, value) = entries.remove(index);
     path.rebase(from, to);
     put_reserved(entries, path, value);
 }
@@ -117,7 +117,7 @@ fn relocate_in_memory<T: Drop>(
 {
     let mut moved = detach(entries, start, end)?;
     rebase_all(&mut moved, from, to);
-    place_moved(entries, to, moved);
+    put_moved(entries, to, moved);
     Ok(())
 }
 
@@ -197,7 +197,7 @@ fn renamed<T: Drop>(
 }
 
 /// Puts entries at and below a path, which are in path order, each at its index. There is room for them.
-fn place_moved<T: Drop>(entries: &mut Vec<(Path, T)>, to: &Path, mut moved: Vec<(Path, T)>)
+fn put_moved<T: Drop>(entries: &mut Vec<(Path, T)>, to: &Path, mut moved: Vec<(Path, T)>)
     requires ordered { IsOrdered entries.old.items }
     requires in_order { IsOrdered moved.items }
     requires below { IsTrue (list_all (λ e. is_at_or_below e.0 to.now) moved.items) }

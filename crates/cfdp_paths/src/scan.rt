@@ -47,9 +47,9 @@ fn first_of_few(octets: &[u8]) -> Option<usize>
             found => found,
         };
     }
-    for (place, octet) in octets.iter().enumerate() {
+    for (offset, octet) in octets.iter().enumerate() {
         if *octet == SEPARATOR {
-            return Some(place);
+            return Some(offset);
         }
     }
     None
@@ -93,9 +93,9 @@ fn last_of_few(octets: &[u8]) -> Option<usize>
             found => found,
         };
     }
-    for place in (0..len).rev() {
-        if octets[place] == SEPARATOR {
-            return Some(place);
+    for offset in (0..len).rev() {
+        if octets[offset] == SEPARATOR {
+            return Some(offset);
         }
     }
     None

@@ -1,5 +1,5 @@
 -- Bits and numbers in octets.
---   flag place octet        whether the bit with this number is 1, counted from 0 at the lowest
+--   flag index octet        whether the bit with this number is 1, counted from 0 at the lowest
 --   digit b                 1 for true, 0 for false
 --   IsNumber octets len x   these are len octets, and the number that they spell, the highest first, is x
 --   fss large               how many octets a file size or an offset has (CCSDS 727.0-B-5 §5.1.10)
@@ -7,7 +7,7 @@ use Rattle.std.specs.Prelude.{◌≡◌, ℕ, ◌/◌, ◌%◌, ◌^◌, ◌==�
 use Rattle.byteorder.specs.Endian.{big_number}
 
 abbrev pub flag : ℕ → ℕ → Bool
-flag place octet = octet / 2 ^ place % 2 == 1
+flag index octet = octet / 2 ^ index % 2 == 1
 
 abbrev pub digit : Bool → ℕ
 digit true = 1

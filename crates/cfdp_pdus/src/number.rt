@@ -24,11 +24,11 @@ pub fn read_number(octets: &[u8], len: usize, fault: PduFault) -> Result<(u64, &
 }
 
 /// Whether a bit is 1. The lowest bit is number 0.
-pub fn bit(octet: u8, place: u32) -> bool
-    requires { place ≤ 7 }
-    ensures { result ≡ flag place octet }
+pub fn bit(octet: u8, index: u32) -> bool
+    requires { index ≤ 7 }
+    ensures { result ≡ flag index octet }
 {
-    (octet >> place) % 2 == 1
+    (octet >> index) % 2 == 1
 }
 
 /// How many octets a file size or an offset has: 8 with the large file flag, else 4.

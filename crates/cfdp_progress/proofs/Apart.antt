@@ -10,14 +10,14 @@ use Rattle.cfdp_transactions.specs.declared.phase.Phase.TheVariants.{Receiving, 
 use Rattle.cfdp_transactions.specs.Sound.{Sound}
 use Rattle.cfdp_transactions.specs.World.{World, entry_of, index_of, next_runnable}
 use Rattle.cfdp_transactions.proofs.Finding.{found_name as entry_name}
-use Rattle.cfdp_transactions.proofs.Places.{get_same}
+use Rattle.cfdp_transactions.proofs.Indexes.{get_same}
 use Rattle.cfdp_sessions.proofs.Names.{both_of}
 
 -- the entry whose item is next
 record Runs (table : List Entry) (id : TransactionId) : Type 0 where
-  place : ℕ
+  index : ℕ
   entry : Entry
-  there : slice_get table place ≡ Some entry
+  there : slice_get table index ≡ Some entry
   named : Entries.name_of entry ≡ id
   runs : is_executing entry.phase ≡ true
 
@@ -27,8 +27,8 @@ some_id d (Some x) = x
 
 runs_by : (e : Entry) (es : List Entry) (id : TransactionId) (b : Bool) → is_executing e.phase ≡ b → (next_runnable es ≡ Some id → Runs es id) →
     (if b then Some (Entries.name_of e) else next_runnable es) ≡ Some id → Runs (e ∷ es) id
-runs_by e es id true runs later h = record { place = 0; entry = e; there = refl; named = ap (λ (o : Option TransactionId). some_id id o) h; runs = runs }
-runs_by e es id false runs later h = let r = later h in record { place = suc r.place; entry = r.entry; there = r.there; named = r.named; runs = r.runs }
+runs_by e es id true runs later h = record { index = 0; entry = e; there = refl; named = ap (λ (o : Option TransactionId). some_id id o) h; runs = runs }
+runs_by e es id false runs later h = let r = later h in record { index = suc r.index; entry = r.entry; there = r.there; named = r.named; runs = r.runs }
 
 runs_of : (table : List Entry) (id : TransactionId) → next_runnable table ≡ Some id → Runs table id
 runs_of [] id h = absurd cc
@@ -48,11 +48,11 @@ pub none_runs : (W : World) (id : TransactionId) (entry : Entry) → Sound W →
 none_runs W id entry sound here awaits h =
     let r = runs_of W.table id h in
     let k = index_of W id in
-    elim (cases_Bool (r.place == k)) [
+    elim (cases_Bool (r.index == k)) [
       | inl same ↦
-          let it : r.entry ≡ entry = get_same W.table r.place k r.entry entry r.there here (eqb-true r.place k same) in
+          let it : r.entry ≡ entry = get_same W.table r.index k r.entry entry r.there here (eqb-true r.index k same) in
           never_both entry.phase (ap (λ (x : Entry). is_executing x.phase) (sym it) ∙ r.runs) awaits
       | inr other ↦
-          sound.names r.place k r.entry entry r.there here (λ e. both_of (r.place == k) other (eq-eqb r.place k e))
+          sound.names r.index k r.entry entry r.there here (λ e. both_of (r.index == k) other (eq-eqb r.index k e))
           (r.named ∙ sym (entry_name W.table id entry here))
     ]

@@ -25,7 +25,7 @@ use Rattle.cfdp_transactions.specs.Execution.{replied, phase_before, entry_after
 use Rattle.cfdp_transactions.specs.Headline.{NextIsSound, NextIsPromised}
 use Rattle.cfdp_transactions.specs.Next.{next, run, replies}
 use Rattle.cfdp_transactions.specs.Sound.{Sound}
-use Rattle.cfdp_transactions.specs.World.{World, place_of, entry_of, index_of, next_runnable, change_at}
+use Rattle.cfdp_transactions.specs.World.{World, index_in, entry_of, index_of, next_runnable, change_at}
 use Rattle.cfdp_transactions.specs.declared.event.Event.{Event}
 use Rattle.cfdp_transactions.specs.declared.event.Event.TheVariants.{Metadata as MetadataCame, Data as DataCame, Eof as EofCame, Step, Cancel}
 use Rattle.cfdp_transactions.specs.declared.phase.Phase.{Phase}
@@ -35,8 +35,8 @@ use Rattle.cfdp_transactions.proofs.Finding.{found_name as entry_name}
 use Rattle.cfdp_transactions.proofs.Lookups.{set_own}
 use Rattle.cfdp_receiver.specs.declared.answer.Became.TheVariants as became
 use Rattle.cfdp_receiver.specs.declared.answer.Word.TheVariants as words
-use Rattle.cfdp_receiver.specs.declared.at.At.{At}
-use Rattle.cfdp_receiver.specs.declared.at.At.TheVariants.{Executing as At_executing, Over as At_over}
+use Rattle.cfdp_receiver.specs.declared.joint_phase.JointPhase.{JointPhase}
+use Rattle.cfdp_receiver.specs.declared.joint_phase.JointPhase.TheVariants.{Executing as At_executing, Over as At_over}
 use Rattle.cfdp_receiver.specs.declared.mib.Mib.{Mib}
 use Rattle.cfdp_receiver.specs.State.{State, Input, MetadataPdu, DataPdu, EofPdu, AckPdu, PromptPdu, OtherPdu, Expire, Work, Finish, CancelAsked, ForgetAsked, session_of, at_of, at_stage, at_entry, at_phase}
 use Rattle.cfdp_receiver.specs.Due as Dues
@@ -67,7 +67,7 @@ put_past : (W V : World) (id : TransactionId) (e new : Entry) → entry_of W id 
     V.table ≡ slice_set W.table (index_of W id) new → takes_data new.phase ≡ false → Past V id
 put_past W V id e new here name table past = record {
   entry = new;
-  here = ap (λ (t : List Entry). slice_get t (place_of id t)) table ∙ set_own W.table id e new (name ∙ entry_name W.table id e here) here;
+  here = ap (λ (t : List Entry). slice_get t (index_in id t)) table ∙ set_own W.table id e new (name ∙ entry_name W.table id e here) here;
   past = past;
 }
 
@@ -355,7 +355,7 @@ at_is R id s p here known =
     ∙ ap (λ (n : TransactionId). at_entry (entry_of R.world n)) (found_name R.sessions id s here)
     ∙ ap at_entry p.here
 
-no_terms : (mib : Mib) (checks : ℕ) (acknowledged : Bool) (timer : Timer) (at : At) → (at ≡ At_executing) ⊎ (at ≡ At_over) →
+no_terms : (mib : Mib) (checks : ℕ) (acknowledged : Bool) (timer : Timer) (at : JointPhase) → (at ≡ At_executing) ⊎ (at ≡ At_over) →
     Dues.terms_at mib checks acknowledged timer at ≡ None
 no_terms mib checks true timer at (inl e) = ap (Dues.terms_at mib checks true timer) e
 no_terms mib checks false timer at (inl e) = ap (Dues.terms_at mib checks false timer) e
@@ -369,7 +369,7 @@ not_due : (R : State) (now : ℕ) (id : TransactionId) (s t : SessionFields) →
     (at_phase p.entry.phase ≡ At_executing) ⊎ (at_phase p.entry.phase ≡ At_over) → s ≡ t → Dues.expiry_of (Handing.later now R) t ≡ NotDue
 not_due R now id s t here known p at it =
     let L = Handing.later now R in
-    ap (Dues.expiry_of L) (sym it) ∙ never_due L s (subst (λ (x : At). (x ≡ At_executing) ⊎ (x ≡ At_over)) (sym (at_is R id s p here known)) at)
+    ap (Dues.expiry_of L) (sym it) ∙ never_due L s (subst (λ (x : JointPhase). (x ≡ At_executing) ⊎ (x ≡ At_over)) (sym (at_is R id s p here known)) at)
 
 due_still : (R : State) (now : ℕ) (U : World) (id : TransactionId) (s : SessionFields) (due : Dues.Due) → AreDistinct R.sessions →
     session_of R id ≡ Some s → s.stage ≡ Known → (p : Past R.world id) →

@@ -22,8 +22,8 @@ use Rattle.cfdp_transactions.specs.declared.reply.Reply.{Reply}
 use Rattle.cfdp_transactions.specs.Next.{run, replies}
 use Rattle.cfdp_transactions.specs.World.{World, entry_of}
 use Rattle.cfdp_receiver.specs.declared.answer.Word.TheVariants as words
-use Rattle.cfdp_receiver.specs.declared.at.At.{At}
-use Rattle.cfdp_receiver.specs.declared.at.At.TheVariants.{Held as At_held}
+use Rattle.cfdp_receiver.specs.declared.joint_phase.JointPhase.{JointPhase}
+use Rattle.cfdp_receiver.specs.declared.joint_phase.JointPhase.TheVariants.{Held as At_held}
 use Rattle.cfdp_receiver.specs.declared.mib.Handler.{Handler}
 use Rattle.cfdp_receiver.specs.declared.mib.Handler.TheVariants as handlers
 use Rattle.cfdp_receiver.specs.declared.mib.Mib.{Mib}
@@ -353,7 +353,7 @@ open_expire R id moment count some d h served =
     let ss : (after_input R i).sessions ≡ replaced R.sessions new = ap (λ (x : Dues.Due). (Turning.due_parts L V x).sessions) due in
     let sent : (Turning.parts R i).answer.naks ≡ Turning.asks R.mib V s =
     ap (λ (x : Dues.Due). (Turning.due_parts L V x).answer.naks) due
-    ∙ ap (λ (at : At). (Turning.repeats L V s at).naks) (at_held R.world s h.held)
+    ∙ ap (λ (at : JointPhase). (Turning.repeats L V s at).naks) (at_held R.world s h.held)
     ∙ ap (λ (a : AnswerFields). a.naks)
     (cond-true s.header.acknowledged (record (Turning.said_word s words.Expired) { naks = Turning.asks R.mib V s })
     (Turning.said_word s words.Expired) h.mode) in

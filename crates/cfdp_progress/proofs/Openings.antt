@@ -17,7 +17,7 @@ use Rattle.cfdp_sessions.specs.Sessions.{SessionFields, session_id, found, repla
 use Rattle.cfdp_sessions.specs.declared.session.Stage.{Stage}
 use Rattle.cfdp_sessions.specs.declared.session.Stage.TheVariants.{Known}
 use Rattle.cfdp_sessions.proofs.Names.{found_name, replaced_self}
-use Rattle.cfdp_sessions.proofs.Places.{some_same}
+use Rattle.cfdp_sessions.proofs.Indexes.{some_same}
 use Rattle.cfdp_transactions.specs.Entry.{Entry, id_of, gaps, gaps_in, reach, reach_in, awaited}
 use Rattle.cfdp_transactions.specs.Received.{gaps_below}
 use Rattle.cfdp_transactions.specs.declared.phase.Phase.{Phase}
@@ -26,8 +26,8 @@ use Rattle.cfdp_transactions.specs.Next.{run, replies}
 use Rattle.cfdp_transactions.specs.World.{World, entry_of}
 use Rattle.cfdp_receiver.specs.declared.answer.Word.TheVariants as words
 use Rattle.cfdp_receiver.specs.declared.mib.Mib.{Mib}
-use Rattle.cfdp_receiver.specs.declared.at.At.{At}
-use Rattle.cfdp_receiver.specs.declared.at.At.TheVariants.{Awaiting as At_awaiting}
+use Rattle.cfdp_receiver.specs.declared.joint_phase.JointPhase.{JointPhase}
+use Rattle.cfdp_receiver.specs.declared.joint_phase.JointPhase.TheVariants.{Awaiting as At_awaiting}
 use Rattle.cfdp_receiver.specs.State.{State, AnswerFields, Input, MetadataPdu, DataPdu, EofPdu, AckPdu, PromptPdu, OtherPdu, Expire, Work, Finish, CancelAsked, ForgetAsked, session_of, at_of, turned_header}
 use Rattle.cfdp_receiver.specs.Due as Dues
 use Rattle.cfdp_receiver.specs.Handing as Handing
@@ -106,7 +106,7 @@ open_expire R id e eof s moment d b served =
     let core : EntryAwaits U id e eof = subst (λ (V : World). EntryAwaits V id e eof) (sym world) b.core in
     let sent : (Turning.parts R i).answer.naks ≡ Turning.sequence R.mib s.header 0 (reach e) (Turning.gaps_after 0 e) =
     ap (λ (x : Dues.Due). (Turning.due_parts L U x).answer.naks) due
-    ∙ ap (λ (at : At). (Turning.repeats L U s at).naks) (at_is R id e eof s b)
+    ∙ ap (λ (at : JointPhase). (Turning.repeats L U s at).naks) (at_is R id e eof s b)
     ∙ ap (λ (a : AnswerFields). a.naks)
     (cond-true s.header.acknowledged (record (Turning.said_word s words.Expired) { naks = Turning.asks R.mib U s })
     (Turning.said_word s words.Expired) b.acknowledged)
@@ -159,7 +159,7 @@ open_eof R id moment h came e eof r awaits =
     let left : (Turning.left_receiving L U s && (came.condition == 0)) ≡ true =
     and_from (Turning.left_receiving L U s) (came.condition == 0)
     (and_from (Dues.is_receiving_at (at_of R.world s)) (not (Dues.is_receiving_at (at_of U s))) (ap Dues.is_receiving_at r.receiving)
-    (ap (λ (at : At). not (Dues.is_receiving_at at)) waits))
+    (ap (λ (at : JointPhase). not (Dues.is_receiving_at at)) waits))
     (eq-eqb came.condition 0 r.no_error) in
     let sent : (Turning.parts R i).answer.naks ≡ Turning.sequence R.mib s.header 0 (reach e) (Turning.gaps_after 0 e) =
     ap (λ (p : Turning.Parts). p.answer.naks) parts
@@ -168,7 +168,7 @@ open_eof R id moment h came e eof r awaits =
     (and_from s.header.acknowledged (Turning.is_awaiting_at (at_of U s)) mode (ap Turning.is_awaiting_at waits))
     ∙ asks_is R.mib U s id e r.known name core.here in
     let news : Turning.is_news R.world U s ≡ true =
-    ap (λ (at : At). not (Turning.is_awaiting_at at && Turning.is_awaiting_at (at_of U s)) || not
+    ap (λ (at : JointPhase). not (Turning.is_awaiting_at at && Turning.is_awaiting_at (at_of U s)) || not
     (Turning.same_ranges (Turning.gaps_at (entry_of R.world (session_id s))) (Turning.gaps_at (entry_of U (session_id s))))) r.receiving in
     let fresh : t.timer.count ≡ 0 =
     ap (λ (y : SessionFields). y.timer.count) (cond-true (Turning.is_news R.world U s) (record s { timer = restarted L.now }) s news) in

@@ -18,10 +18,10 @@ use Rattle.cfdp_transactions.specs.declared.phase.Phase.TheVariants.{Executing}
 use Rattle.cfdp_transactions.specs.declared.reply.Reply.{Reply}
 use Rattle.cfdp_transactions.specs.Next.{next}
 use Rattle.cfdp_transactions.specs.Sound.{Sound, IsKept, longest_in}
-use Rattle.cfdp_transactions.specs.World.{World, bound, place_of, entry_of, index_of}
+use Rattle.cfdp_transactions.specs.World.{World, bound, index_in, entry_of, index_of}
 use Rattle.cfdp_transactions.proofs.Finding.{found_name as entry_name}
 use Rattle.cfdp_transactions.proofs.Lookups.{set_own}
-use Rattle.cfdp_transactions.proofs.Places.{set_set_same}
+use Rattle.cfdp_transactions.proofs.Indexes.{set_set_same}
 use Rattle.cfdp_progress.specs.Awaiting.{EntryAwaits, IsDelivered}
 use Rattle.cfdp_receiver.proofs.Small.{zeros}
 
@@ -48,7 +48,7 @@ pub data Comes (V : World) (id : TransactionId) (eof : Eof) (received : Received
 -- an entry that replaces the one of its name
 pub replaces : (W V : World) (id : TransactionId) (e new : Entry) → entry_of W id ≡ Some e → Entries.name_of new ≡ id →
     V.table ≡ slice_set W.table (index_of W id) new → entry_of V id ≡ Some new
-replaces W V id e new here name table = ap (λ (t : List Entry). slice_get t (place_of id t)) table ∙ set_own W.table id e new name here
+replaces W V id e new here name table = ap (λ (t : List Entry). slice_get t (index_in id t)) table ∙ set_own W.table id e new name here
 
 -- all octets are there
 whole_comes : (W V : World) (id : TransactionId) (eof : Eof) (e new : Entry) (received : Received) → entry_of W id ≡ Some e → Entries.name_of new ≡ id →

@@ -24,7 +24,7 @@ use Rattle.cfdp_transactions.specs.Headline.{NextIsSound, NextIsPromised}
 use Rattle.cfdp_transactions.specs.Next.{next, run}
 use Rattle.cfdp_transactions.specs.Received.{Received, kept_with, pieces, is_whole}
 use Rattle.cfdp_transactions.specs.Sound.{Sound}
-use Rattle.cfdp_transactions.specs.World.{World, bound, spare_blocks, leases_of, place_of, entry_of, index_of, change_at}
+use Rattle.cfdp_transactions.specs.World.{World, bound, spare_blocks, leases_of, index_in, entry_of, index_of, change_at}
 use Rattle.cfdp_transactions.specs.declared.event.Event.{Event}
 use Rattle.cfdp_transactions.specs.declared.event.Event.TheVariants.{Metadata as MetadataCame, Data as DataCame, Eof as EofCame, Step, Cancel, Check, Take}
 use Rattle.cfdp_transactions.specs.declared.phase.Phase.{Phase}
@@ -32,7 +32,7 @@ use Rattle.cfdp_transactions.specs.declared.phase.Phase.TheVariants.{Receiving, 
 use Rattle.cfdp_transactions.specs.declared.reply.Reply.{Reply}
 use Rattle.cfdp_transactions.proofs.Finding.{found_name as entry_name}
 use Rattle.cfdp_transactions.proofs.Lookups.{append_own}
-use Rattle.cfdp_transactions.proofs.Places.{set_set_same}
+use Rattle.cfdp_transactions.proofs.Indexes.{set_set_same}
 use Rattle.cfdp_receiver.specs.State.{begin}
 use Rattle.cfdp_receiver.specs.Turning.{after_all, all_handed}
 use Rattle.cfdp_receiver.specs.Laws.{is_known_session, knows, KnownIsEntry}
@@ -325,7 +325,7 @@ awaiting_awaits removes next_sound promised known mib W inputs id s e checks sou
     let R = after_all (begin mib W) inputs in
     let V = run W (all_handed (begin mib W) inputs) in
     let world : R.world ≡ V = hands_on (begin mib W) inputs in
-    let none : AllLack W = λ n. none_is W.config W n (ap (λ (t : List Entry). slice_get t (place_of n t)) empty) in
+    let none : AllLack W = λ n. none_is W.config W n (ap (λ (t : List Entry). slice_get t (index_in n t)) empty) in
     let all : AllLack R.world = subst AllLack (sym world) (run_lacks removes next_sound promised W (all_handed (begin mib W) inputs) sound none) in
     let l = all id e there checks phase in
     let is : is_known_session s.stage ≡ true = sym (ap knows here) ∙ sym (known mib W inputs sound empty id) ∙ ap is_some there in (

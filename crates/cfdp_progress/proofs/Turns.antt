@@ -35,8 +35,8 @@ use Rattle.cfdp_receiver.specs.declared.answer.Became.TheVariants as became
 use Rattle.cfdp_receiver.specs.declared.answer.Word.TheVariants as words
 use Rattle.cfdp_receiver.specs.declared.mib.Handler.{Handler}
 use Rattle.cfdp_receiver.specs.declared.mib.Handler.TheVariants as handlers
-use Rattle.cfdp_receiver.specs.declared.at.At.{At}
-use Rattle.cfdp_receiver.specs.declared.at.At.TheVariants.{Awaiting as At_awaiting}
+use Rattle.cfdp_receiver.specs.declared.joint_phase.JointPhase.{JointPhase}
+use Rattle.cfdp_receiver.specs.declared.joint_phase.JointPhase.TheVariants.{Awaiting as At_awaiting}
 use Rattle.cfdp_receiver.specs.State.{State, Input, MetadataPdu, DataPdu, EofPdu, AckPdu, PromptPdu, OtherPdu, Expire, Work, Finish, CancelAsked, ForgetAsked, session_of, at_of, at_stage, at_entry, at_phase}
 use Rattle.cfdp_receiver.specs.Due as Dues
 use Rattle.cfdp_receiver.specs.Handing as Handing
@@ -286,7 +286,7 @@ handler_is : (R : State) (id : TransactionId) (e : Entry) (eof : Eof) (s : Sessi
 handler_is R id e eof s b =
     ap (λ (a : Bool). Dues.handler_at R.mib a (at_of R.world s)) b.acknowledged ∙ ap (Dues.handler_at R.mib true) (at_is R id e eof s b)
 
-quiet_ignored : (R L : State) (id : TransactionId) (s : SessionFields) (again : Bool) (condition : ℕ) (checks : Bool) (at : At) (how : Handler) →
+quiet_ignored : (R L : State) (id : TransactionId) (s : SessionFields) (again : Bool) (condition : ℕ) (checks : Bool) (at : JointPhase) (how : Handler) →
     session_of R id ≡ Some s → L.sessions ≡ R.sessions → how ≡ handlers.Ignore →
     Quiet R.world id s again (run R.world (Handing.where_known s.stage (Handing.limit_events (session_id s) checks how)))
     (Turning.gives_up L s condition how at).sessions

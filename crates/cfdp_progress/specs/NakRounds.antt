@@ -30,7 +30,7 @@ use Rattle.cfdp_sessions.specs.Sessions.{SessionFields, session_id, AreDistinct}
 use Rattle.cfdp_sessions.specs.declared.session.Stage.TheVariants.{Held, Known}
 use Rattle.cfdp_transactions.specs.Entry.{Entry, id_of}
 use Rattle.cfdp_transactions.specs.Sound.{Sound}
-use Rattle.cfdp_receiver.specs.declared.at.At.TheVariants.{Receiving as At_receiving}
+use Rattle.cfdp_receiver.specs.declared.joint_phase.JointPhase.TheVariants.{Receiving as At_receiving}
 use Rattle.cfdp_receiver.specs.State.{State, Input, MetadataPdu, EofPdu, Expire, session_of, at_of}
 use Rattle.cfdp_receiver.specs.Due.{Due, Stage_due, first_due}
 use Rattle.cfdp_receiver.specs.Handing.{is_ours, later}

@@ -16,25 +16,25 @@ use Rattle.cfdp_receiver.specs.declared.answer.Became.TheVariants.{Said, Replied
 use Rattle.cfdp_receiver.specs.declared.answer.Word.TheVariants as words
 use Rattle.cfdp_receiver.specs.State.{State, CancelAsked, session_of}
 use Rattle.cfdp_receiver.specs.Handing.{of_session, where_known}
-use Rattle.cfdp_receiver.specs.Machine.{MachineFields, AnswerParts, answer_in}
-use Rattle.cfdp_receiver.specs.code.Machine.{Turns, in_world, silent}
+use Rattle.cfdp_receiver.specs.StateMachine.{StateMachineFields, AnswerParts, answer_in}
+use Rattle.cfdp_receiver.specs.code.StateMachine.{Turns, in_world, silent}
 use Rattle.cfdp_receiver.specs.Turning as Turning
 use Rattle.cfdp_receiver.proofs.Turned.{turns_by}
 
 -- the machine with other sessions
-abbrev pub with_sessions : MachineFields → List SessionFields → MachineFields
+abbrev pub with_sessions : StateMachineFields → List SessionFields → StateMachineFields
 with_sessions M ss = record M { state = record M.state { sessions = ss } }
 
-cancels_in : (M : MachineFields) (id : TransactionId) (s : SessionFields) (stage : Stage) → session_of M.state id ≡ Some s → s.stage ≡ stage →
+cancels_in : (M : StateMachineFields) (id : TransactionId) (s : SessionFields) (stage : Stage) → session_of M.state id ≡ Some s → s.stage ≡ stage →
     of_session (session_of M.state id) (Cancel id ∷ []) ≡ where_known stage (Cancel id ∷ [])
 cancels_in M id s stage here is =
     ap (λ (o : Option SessionFields). of_session o (Cancel id ∷ [])) here ∙ ap (λ (x : Stage). where_known x (Cancel id ∷ [])) is
 
-becomes_in : (M : MachineFields) (id : TransactionId) (s : SessionFields) (stage : Stage) → session_of M.state id ≡ Some s → s.stage ≡ stage →
+becomes_in : (M : StateMachineFields) (id : TransactionId) (s : SessionFields) (stage : Stage) → session_of M.state id ≡ Some s → s.stage ≡ stage →
     (rs : List Reply) → Turning.cancel_parts M.state rs id (session_of M.state id) ≡ Turning.cancel_stage M.state rs s stage
 becomes_in M id s stage here is rs = ap (Turning.cancel_parts M.state rs id) here ∙ ap (Turning.cancel_stage M.state rs s) is
 
-pub cancel_held : (M : MachineFields) (a : AnswerParts) (id : TransactionId) (s : SessionFields) (eof : Eof) → session_of M.state id ≡ Some s →
+pub cancel_held : (M : StateMachineFields) (a : AnswerParts) (id : TransactionId) (s : SessionFields) (eof : Eof) → session_of M.state id ≡ Some s →
     s.stage ≡ Held eof → a ≡ silent (Said id words.Cancelled) →
     Turns M (with_sessions M (replaced M.state.sessions (Turning.over_here M.state s 15))) a (CancelAsked M.state.now id)
 cancel_held M a id s eof here is said =
@@ -46,7 +46,7 @@ cancel_held M a id s eof here is said =
     refl refl refl refl refl
     (ap (answer_in N) said ∙ ap (λ (n : TransactionId). Turning.quiet (Said n words.Cancelled)) (sym (found_name R.sessions id s here)))
 
-pub cancel_known : (M : MachineFields) (V : World) (reply : Reply) (a : AnswerParts) (id : TransactionId) (s : SessionFields) →
+pub cancel_known : (M : StateMachineFields) (V : World) (reply : Reply) (a : AnswerParts) (id : TransactionId) (s : SessionFields) →
     session_of M.state id ≡ Some s → s.stage ≡ Known → next M.state.world (Cancel id) ≡ (V, reply) →
     a ≡ silent (Replied id reply) → Turns M (in_world V M) a (CancelAsked M.state.now id)
 cancel_known M V reply a id s here is told said =
@@ -70,7 +70,7 @@ idle_parts : (R : State) (rs : List Reply) (s : SessionFields) (stage : Stage) �
 idle_parts R rs s stage (inl e) = ap (Turning.cancel_stage R rs s) e.1
 idle_parts R rs s stage (inr e) = ap (Turning.cancel_stage R rs s) e
 
-pub cancel_idle : (M : MachineFields) (a : AnswerParts) (id : TransactionId) (s : SessionFields) → session_of M.state id ≡ Some s → IsIdle s.stage →
+pub cancel_idle : (M : StateMachineFields) (a : AnswerParts) (id : TransactionId) (s : SessionFields) → session_of M.state id ≡ Some s → IsIdle s.stage →
     a ≡ silent (Said id words.Idle) → Turns M M a (CancelAsked M.state.now id)
 cancel_idle M a id s here idle said =
     let R = M.state in

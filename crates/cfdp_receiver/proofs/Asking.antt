@@ -37,7 +37,7 @@ use Rattle.cfdp_receiver.specs.declared.answer.Word.TheVariants as words
 use Rattle.cfdp_receiver.specs.declared.mib.Handler.{Handler}
 use Rattle.cfdp_receiver.specs.declared.mib.Handler.TheVariants as handlers
 use Rattle.cfdp_receiver.specs.declared.mib.Mib.{Mib}
-use Rattle.cfdp_receiver.specs.State.{State, AnswerFields, Input, MetadataPdu, DataPdu, EofPdu, AckPdu, PromptPdu, OtherPdu, Expire, Work, Finish, CancelAsked, ForgetAsked, now_of, session_of, is_closed, is_full, At, At_held, At_receiving, At_awaiting, At_executing, At_over, At_waiting, at_of, status_of, turned_header}
+use Rattle.cfdp_receiver.specs.State.{State, AnswerFields, Input, MetadataPdu, DataPdu, EofPdu, AckPdu, PromptPdu, OtherPdu, Expire, Work, Finish, CancelAsked, ForgetAsked, now_of, session_of, is_closed, is_full, JointPhase, At_held, At_receiving, At_awaiting, At_executing, At_over, At_waiting, at_of, status_of, turned_header}
 use Rattle.cfdp_receiver.specs.Due as Due
 use Rattle.cfdp_receiver.specs.Handing as Handing
 use Rattle.cfdp_receiver.specs.Turning as Turning
@@ -299,7 +299,7 @@ asked_again : (R : State) (N : State) (s : SessionFields) → N.mib ≡ R.mib �
 asked_again R N s mib b mode =
     subst (λ (m : Mib). Asked R.world false N (session_id s) (Turning.asks m N.world s)) mib (asked_session R.world N (session_id s) s b mode)
 
-asked_repeats : (R : State) (N : State) (s : SessionFields) (at : At) → N.mib ≡ R.mib → Becomes N (session_id s) s →
+asked_repeats : (R : State) (N : State) (s : SessionFields) (at : JointPhase) → N.mib ≡ R.mib → Becomes N (session_id s) s →
     Asked R.world false N (session_id s) (Turning.repeats R N.world s at).naks
 asked_repeats R N s At_waiting mib b = Asks_none refl
 asked_repeats R N s At_held mib b = if_answer R.world N (session_id s) s.header.acknowledged _ _ (asked_again R N s mib b) refl
@@ -308,7 +308,7 @@ asked_repeats R N s (At_awaiting made) mib b = if_answer R.world N (session_id s
 asked_repeats R N s At_executing mib b = if_answer R.world N (session_id s) s.header.acknowledged _ _ (asked_again R N s mib b) refl
 asked_repeats R N s At_over mib b = if_answer R.world N (session_id s) s.header.acknowledged _ _ (asked_again R N s mib b) refl
 
-asked_gives_up : (R : State) (V : World) (s : SessionFields) (condition : ℕ) (how : Handler) (at : At) →
+asked_gives_up : (R : State) (V : World) (s : SessionFields) (condition : ℕ) (how : Handler) (at : JointPhase) →
     AskedIn R V false (session_id s) (Turning.gives_up R s condition how at)
 asked_gives_up R V s condition handlers.Ignore at = Asks_none refl
 asked_gives_up R V s condition handlers.Cancel At_waiting = Asks_none refl

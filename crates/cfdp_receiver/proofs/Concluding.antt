@@ -13,8 +13,8 @@ use Rattle.cfdp_sessions.specs.declared.session.Ending.{Ending}
 use Rattle.cfdp_sessions.specs.declared.session.Stage.{Stage}
 use Rattle.cfdp_sessions.specs.declared.session.Stage.TheVariants.{Held, Known, Over, Waiting}
 use Rattle.cfdp_sessions.proofs.Names.{both_of, member_found, gone, replaced_self}
-use Rattle.cfdp_sessions.proofs.Places.{found_by_name}
-use Rattle.cfdp_transactions.specs.Engine.{outcome_when_over, where_any, outcome_in}
+use Rattle.cfdp_sessions.proofs.Indexes.{found_by_name}
+use Rattle.cfdp_transactions.specs.CoreFields.{outcome_when_over, where_any, outcome_in}
 use Rattle.cfdp_transactions.specs.Entry.{Entry, is_live}
 use Rattle.cfdp_transactions.specs.Needs.{Follows}
 use Rattle.cfdp_transactions.specs.Next.{next}
@@ -31,13 +31,13 @@ use Rattle.cfdp_receiver.specs.declared.answer.Conclusion.{Conclusion}
 use Rattle.cfdp_receiver.specs.declared.answer.Indication.TheVariants as tells
 use Rattle.cfdp_receiver.specs.declared.answer.Word.{Word}
 use Rattle.cfdp_receiver.specs.declared.answer.Word.TheVariants as words
-use Rattle.cfdp_receiver.specs.State.{At, At_held, At_receiving, At_awaiting, At_executing, At_over, At_waiting}
+use Rattle.cfdp_receiver.specs.State.{JointPhase, At_held, At_receiving, At_awaiting, At_executing, At_over, At_waiting}
 use Rattle.cfdp_receiver.specs.State.{State, Finish, at_of, at_stage, at_entry}
 use Rattle.cfdp_receiver.specs.Due.{first_over, is_over}
 use Rattle.cfdp_receiver.specs.Handing.{take_of, where_known}
 use Rattle.cfdp_receiver.specs.Laws.{AreKnown, is_known_session, knows}
-use Rattle.cfdp_receiver.specs.Machine.{MachineFields, AnswerParts, answer_in, finished_by}
-use Rattle.cfdp_receiver.specs.code.Machine.{Concludes, Turns, at_moment, in_world, silent}
+use Rattle.cfdp_receiver.specs.StateMachine.{StateMachineFields, AnswerParts, answer_in, finished_by}
+use Rattle.cfdp_receiver.specs.code.StateMachine.{Concludes, Turns, at_moment, in_world, silent}
 use Rattle.cfdp_receiver.specs.Turning as Turning
 use Rattle.cfdp_receiver.proofs.Asked.{with_sessions}
 use Rattle.cfdp_receiver.proofs.Knowing.{phase_over}
@@ -57,7 +57,7 @@ pub over_later : (W : World) (ss : List SessionFields) (i : ℕ) (s : SessionFie
     first_over W (drop i ss) ≡ first_over W (drop (suc i) ss)
 over_later W ss i s e over = ap (first_over W) (drop_at ss i s e) ∙ cond-false (is_over (at_of W s)) (Some s) (first_over W (drop (suc i) ss)) over
 
-pub not_over : (at : At) → (at ≡ At_over → ⊥) → is_over at ≡ false
+pub not_over : (at : JointPhase) → (at ≡ At_over → ⊥) → is_over at ≡ false
 not_over At_held other = refl
 not_over At_receiving other = refl
 not_over (At_awaiting made) other = refl
@@ -132,7 +132,7 @@ over_stage R s first stage =
 
 -- ---- the turn
 
-pub finish_none : (M : MachineFields) (a : AnswerParts) (now : ℕ) → first_over M.state.world M.state.sessions ≡ None → a ≡ silent Nothing →
+pub finish_none : (M : StateMachineFields) (a : AnswerParts) (now : ℕ) → first_over M.state.world M.state.sessions ≡ None → a ≡ silent Nothing →
     Turns (at_moment now M) (at_moment now M) a (Finish now)
 finish_none M a now none said =
     let L = at_moment now M in
@@ -152,7 +152,8 @@ no_entry None e = refl
 no_entry (Some entry) e = absurd cc
 
 -- of a transaction that is not in the core
-pub finish_over : (M N : MachineFields) (a : AnswerParts) (now : ℕ) (s : SessionFields) (ending : Ending) → AreDistinct M.state.sessions → AreKnown M.state →
+pub finish_over : (M N : StateMachineFields) (a : AnswerParts) (now : ℕ) (s : SessionFields) (ending : Ending) → AreDistinct M.state.sessions → AreKnown M.state
+    →
     first_over M.state.world M.state.sessions ≡ Some s → s.stage ≡ Over ending → Concludes (at_moment now M) N a s (Turning.stage_outcome s (Over ending)) →
     Turns (at_moment now M) N a (Finish now)
 finish_over M N a now s ending d known first is c =
@@ -169,7 +170,7 @@ finish_over M N a now s ending d known first is c =
     c.world c.mib c.now c.sessions c.closed c.answer
 
 -- of one that the core knows
-pub finish_taken : (M N : MachineFields) (a : AnswerParts) (now : ℕ) (s : SessionFields) (o : Outcome) (V : World) (reply : Reply) →
+pub finish_taken : (M N : StateMachineFields) (a : AnswerParts) (now : ℕ) (s : SessionFields) (o : Outcome) (V : World) (reply : Reply) →
     first_over M.state.world M.state.sessions ≡ Some s → s.stage ≡ Known → Some o ≡ outcome_in M.state.world (session_id s) →
     next M.state.world (Take (session_id s)) ≡ (V, reply) →
     Concludes (at_moment now (in_world V M)) N a s (caused_outcome s o) → Turns (at_moment now M) N a (Finish now)
@@ -203,7 +204,7 @@ closes_by R s o abandoned sent acked =
     cond-false s.is_abandoned _ _ abandoned ∙ cond-false (not o.send) _ _ (ap not sent) ∙ cond-true (not s.header.acknowledged) _ _ (ap not acked)
 
 -- by the parts that the definitions give in this case
-concludes_by : (M N : MachineFields) (a : AnswerParts) (s : SessionFields) (o : Outcome) (p : Turning.Parts) → Turning.finish_session M.state s o ≡ p →
+concludes_by : (M N : StateMachineFields) (a : AnswerParts) (s : SessionFields) (o : Outcome) (p : Turning.Parts) → Turning.finish_session M.state s o ≡ p →
     N.state.world ≡ M.state.world → N.state.mib ≡ M.state.mib → N.state.now ≡ M.state.now →
     N.state.sessions ≡ p.sessions → N.state.closed ≡ p.closed → answer_in N a ≡ p.answer →
     Concludes M N a s o
@@ -217,7 +218,7 @@ concludes_by M N a s o p parts world mib now sessions closed answer = record {
 }
 
 -- it waits for the acknowledgement
-pub concludes_waiting : (M : MachineFields) (index : ℕ) (a : AnswerParts) (s : SessionFields) (o : Outcome) → slice_get M.state.sessions index ≡ Some s →
+pub concludes_waiting : (M : StateMachineFields) (index : ℕ) (a : AnswerParts) (s : SessionFields) (o : Outcome) → slice_get M.state.sessions index ≡ Some s →
     s.is_abandoned ≡ false → o.send ≡ true → s.header.acknowledged ≡ true → a ≡ ended_and_sent (session_id s) (Turning.conclusion_of o) words.Finished →
     Concludes M (with_sessions M (replaced M.state.sessions (Turning.waits_for_ack M.state s o))) a s o
 concludes_waiting M index a s o at abandoned sent acked said =
@@ -229,7 +230,7 @@ concludes_waiting M index a s o at abandoned sent acked said =
     (replaced_self R.sessions new (session_id s) (found_by_name R.sessions index s at) refl))
 
 -- the machine once the transaction is closed whose Finished PDU has these octets
-abbrev pub closed_with : MachineFields → TransactionId → List ℕ → MachineFields
+abbrev pub closed_with : StateMachineFields → TransactionId → List ℕ → StateMachineFields
 closed_with M id octets = record {
   state = record M.state { sessions = without_session M.state.sessions id; closed = with_name M.state.closed id };
   concluded =
@@ -237,7 +238,7 @@ closed_with M id octets = record {
 }
 
 -- it is closed, and the Finished PDU is sent once
-pub concludes_closed : (M : MachineFields) (a : AnswerParts) (s : SessionFields) (o : Outcome) → AreDistinct M.state.sessions →
+pub concludes_closed : (M : StateMachineFields) (a : AnswerParts) (s : SessionFields) (o : Outcome) → AreDistinct M.state.sessions →
     s.is_abandoned ≡ false → o.send ≡ true → s.header.acknowledged ≡ false →
     a ≡ ended_and_sent (session_id s) (Turning.conclusion_of o) words.Closed → Concludes M (closed_with M (session_id s) (finished_octets o)) a s o
 concludes_closed M a s o d abandoned sent acked said =

@@ -18,10 +18,10 @@ use Rattle.cfdp_transactions.specs.declared.phase.Phase.{Phase}
 use Rattle.cfdp_transactions.specs.declared.phase.Phase.TheVariants.{Awaiting, Executing, Ended}
 use Rattle.cfdp_transactions.specs.declared.reply.Reply.{Reply}
 use Rattle.cfdp_transactions.specs.Next.{next, run}
-use Rattle.cfdp_transactions.specs.World.{World, bound, place_of, entry_of, index_of}
+use Rattle.cfdp_transactions.specs.World.{World, bound, index_in, entry_of, index_of}
 use Rattle.cfdp_transactions.proofs.Finding.{found_name as entry_name}
 use Rattle.cfdp_transactions.proofs.Lookups.{set_own}
-use Rattle.cfdp_transactions.proofs.Places.{set_set_same}
+use Rattle.cfdp_transactions.proofs.Indexes.{set_set_same}
 use Rattle.cfdp_transactions.proofs.Received.OctetsAndGaps.{first_stays}
 use Rattle.cfdp_receiver.specs.Laws.{piece_events, AnsweredIsDelivered}
 use Rattle.cfdp_retransmission.proofs.Losing.{there_or_not}
@@ -79,7 +79,7 @@ idle_rest W h (p ∷ ps) d =
 -- an entry that is put at its index
 pub placed : (W V : World) (h : Header) (e new : Entry) → entry_of W (id_of h) ≡ Some e → Entries.name_of new ≡ id_of h → V.table
     ≡ slice_set W.table (index_of W (id_of h)) new → entry_of V (id_of h) ≡ Some new
-placed W V h e new here name table = ap (λ (t : List Entry). slice_get t (place_of (id_of h) t)) table ∙ set_own W.table (id_of h) e new name here
+placed W V h e new here name table = ap (λ (t : List Entry). slice_get t (index_in (id_of h) t)) table ∙ set_own W.table (id_of h) e new name here
 
 -- ---- an entry that waits for octets
 

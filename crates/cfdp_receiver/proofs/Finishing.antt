@@ -20,7 +20,7 @@ use Rattle.cfdp_transactions.specs.Writable.{finished_octets}
 use Rattle.cfdp_transactions.specs.Next.{run, replies}
 use Rattle.cfdp_receiver.specs.declared.mib.Handler.{Handler}
 use Rattle.cfdp_receiver.specs.declared.mib.Handler.TheVariants as handlers
-use Rattle.cfdp_receiver.specs.State.{State, AnswerFields, Input, MetadataPdu, DataPdu, EofPdu, AckPdu, PromptPdu, OtherPdu, Expire, Work, Finish, CancelAsked, ForgetAsked, now_of, session_of, is_closed, is_full, At, At_held, At_receiving, At_awaiting, At_executing, At_over, At_waiting, at_phase, at_entry, at_stage, at_of}
+use Rattle.cfdp_receiver.specs.State.{State, AnswerFields, Input, MetadataPdu, DataPdu, EofPdu, AckPdu, PromptPdu, OtherPdu, Expire, Work, Finish, CancelAsked, ForgetAsked, now_of, session_of, is_closed, is_full, JointPhase, At_held, At_receiving, At_awaiting, At_executing, At_over, At_waiting, at_phase, at_entry, at_stage, at_of}
 use Rattle.cfdp_receiver.specs.Due as Due
 use Rattle.cfdp_receiver.specs.Handing as Handing
 use Rattle.cfdp_receiver.specs.Turning as Turning
@@ -90,7 +90,7 @@ quiet_cancel : (R : State) (rs : List Reply) (id : TransactionId) (s : Option Se
 quiet_cancel R rs id None = refl
 quiet_cancel R rs id (Some s) = quiet_cancel_stage R rs s s.stage
 
-quiet_gives_up : (R : State) (s : SessionFields) (condition : ℕ) (how : Handler) (at : At) → Quiet (Turning.gives_up R s condition how at)
+quiet_gives_up : (R : State) (s : SessionFields) (condition : ℕ) (how : Handler) (at : JointPhase) → Quiet (Turning.gives_up R s condition how at)
 quiet_gives_up R s condition handlers.Ignore at = refl
 quiet_gives_up R s condition handlers.Cancel At_waiting = refl
 quiet_gives_up R s condition handlers.Cancel At_held = refl
@@ -132,7 +132,7 @@ asked_quiet : (b : Bool) (a c : AnswerFields) → a.finished ≡ [] → c.finish
 asked_quiet true a c ha hc = ha
 asked_quiet false a c ha hc = hc
 
-repeats_at : (R : State) (V : World) (s : SessionFields) (at : At) → at_of R.world s ≡ at → Repeated s (Turning.repeats R V s at).finished
+repeats_at : (R : State) (V : World) (s : SessionFields) (at : JointPhase) → at_of R.world s ≡ at → Repeated s (Turning.repeats R V s at).finished
 repeats_at R V s At_waiting e = inr (waits_stage s.stage (entry_of R.world (session_id s)) e, refl)
 repeats_at R V s At_held e = inl (asked_quiet s.header.acknowledged _ _ refl refl)
 repeats_at R V s At_receiving e = inl (asked_quiet s.header.acknowledged _ _ refl refl)

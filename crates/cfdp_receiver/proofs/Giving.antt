@@ -19,16 +19,16 @@ use Rattle.cfdp_receiver.specs.declared.answer.Word.{Word}
 use Rattle.cfdp_receiver.specs.declared.mib.Handler.{Handler}
 use Rattle.cfdp_receiver.specs.declared.mib.Handler.TheVariants as handlers
 use Rattle.cfdp_receiver.specs.declared.answer.Word.TheVariants as words
-use Rattle.cfdp_receiver.specs.State.{State, Expire, At, At_held, At_receiving, At_awaiting, At_executing, At_over, At_waiting, at_of, at_stage, at_entry, at_phase}
+use Rattle.cfdp_receiver.specs.State.{State, Expire, JointPhase, At_held, At_receiving, At_awaiting, At_executing, At_over, At_waiting, at_of, at_stage, at_entry, at_phase}
 use Rattle.cfdp_receiver.specs.Due.{Stage_due, fault_at, first_due, handler_at}
 use Rattle.cfdp_receiver.specs.Handing.{due_events, limit_events, makes_checks, where_known}
-use Rattle.cfdp_receiver.specs.Machine.{MachineFields, AnswerParts, answer_in, listed}
-use Rattle.cfdp_receiver.specs.code.Machine.{Turns, silent}
+use Rattle.cfdp_receiver.specs.StateMachine.{StateMachineFields, AnswerParts, answer_in, listed}
+use Rattle.cfdp_receiver.specs.code.StateMachine.{Turns, silent}
 use Rattle.cfdp_receiver.specs.Turning as Turning
 use Rattle.cfdp_receiver.proofs.Turned.{turns_by}
 use Rattle.cfdp_receiver.proofs.Finishing.{waits_entry, waits_phase}
 
-pub fault_small : (acknowledged : Bool) (at : At) → fault_at acknowledged at < 16
+pub fault_small : (acknowledged : Bool) (at : JointPhase) → fault_at acknowledged at < 16
 fault_small true At_held = omega arith
 fault_small true At_receiving = omega arith
 fault_small true (At_awaiting made) = omega arith
@@ -42,14 +42,14 @@ fault_small false At_executing = omega arith
 fault_small false At_over = omega arith
 fault_small false At_waiting = omega arith
 
-abbrev pub with_lists : MachineFields → World → List SessionFields → ClosedFields → MachineFields
+abbrev pub with_lists : StateMachineFields → World → List SessionFields → ClosedFields → StateMachineFields
 with_lists M V ss closed = record M { state = record M.state { world = V; sessions = ss; closed = closed } }
 
 -- what is handed on at the limit of a session's timer
-abbrev pub given_up : SessionFields → At → Handler → List Event
+abbrev pub given_up : SessionFields → JointPhase → Handler → List Event
 given_up s at how = where_known s.stage (limit_events (session_id s) (makes_checks s.header.acknowledged at) how)
 
-pub limit_turns : (M N : MachineFields) (a : AnswerParts) (s : SessionFields) (at : At) (condition : ℕ) (how : Handler)
+pub limit_turns : (M N : StateMachineFields) (a : AnswerParts) (s : SessionFields) (at : JointPhase) (condition : ℕ) (how : Handler)
     (V : World) (ss : List SessionFields) (closed : ClosedFields) →
     first_due M.state M.state.sessions ≡ Stage_due s true → at ≡ at_of M.state.world s → condition ≡ fault_at s.header.acknowledged at →
     handler_at M.state.mib s.header.acknowledged at ≡ how → N ≡ with_lists M V ss closed → V ≡ run M.state.world (given_up s at how) →
@@ -61,19 +61,19 @@ limit_turns M N a s at condition how V ss closed due here cause handler is world
     turns_by M N a (Expire R.now) (given_up s at how) (λ (U : World) (rs : List Reply). Turning.gives_up R s condition how at)
     (
     ap (due_events R) due
-    ∙ ap (λ (x : At). given_up s x (handler_at R.mib ack x)) (sym here)
+    ∙ ap (λ (x : JointPhase). given_up s x (handler_at R.mib ack x)) (sym here)
     ∙ ap (given_up s at) handler
     )
     (λ (U : World) (rs : List Reply).
     ap (Turning.due_parts R U) due
-    ∙ ap (λ (x : At). Turning.gives_up R s (fault_at ack x) (handler_at R.mib ack x) x) (sym here)
+    ∙ ap (λ (x : JointPhase). Turning.gives_up R s (fault_at ack x) (handler_at R.mib ack x) x) (sym here)
     ∙ ap (λ (k : ℕ). Turning.gives_up R s k (handler_at R.mib ack at) at) (sym cause)
     ∙ ap (λ (h : Handler). Turning.gives_up R s condition h at) handler)
-    (ap (λ (m : MachineFields). m.state.world) is ∙ world)
-    (ap (λ (m : MachineFields). m.state.mib) is)
-    (ap (λ (m : MachineFields). m.state.now) is)
-    (ap (λ (m : MachineFields). m.state.sessions) is ∙ sessions)
-    (ap (λ (m : MachineFields). m.state.closed) is ∙ names)
+    (ap (λ (m : StateMachineFields). m.state.world) is ∙ world)
+    (ap (λ (m : StateMachineFields). m.state.mib) is)
+    (ap (λ (m : StateMachineFields). m.state.now) is)
+    (ap (λ (m : StateMachineFields). m.state.sessions) is ∙ sessions)
+    (ap (λ (m : StateMachineFields). m.state.closed) is ∙ names)
     answer
 
 -- ---- by how far the transaction is
@@ -119,12 +119,12 @@ abandon_events : (id : TransactionId) (checks : Bool) → limit_events id checks
 abandon_events id true = refl
 abandon_events id false = refl
 
-pub moved_abandoned : (W : World) (s : SessionFields) (at : At) →
+pub moved_abandoned : (W : World) (s : SessionFields) (at : JointPhase) →
     run W (where_known s.stage (CancelCame (session_id s) ∷ [])) ≡ run W (given_up s at handlers.Abandon)
 moved_abandoned W s at =
     ap (λ (es : List Event). run W (where_known s.stage es)) (sym (abandon_events (session_id s) (makes_checks s.header.acknowledged at)))
 
-pub moved_cancelled : (W : World) (s : SessionFields) (at : At) → makes_checks s.header.acknowledged at ≡ false →
+pub moved_cancelled : (W : World) (s : SessionFields) (at : JointPhase) → makes_checks s.header.acknowledged at ≡ false →
     run W (where_known s.stage (CancelCame (session_id s) ∷ [])) ≡ run W (given_up s at handlers.Cancel)
 moved_cancelled W s at none = ap (λ (b : Bool). run W (where_known s.stage (limit_events (session_id s) b handlers.Cancel))) (sym none)
 
@@ -134,7 +134,7 @@ moved_checked W s made mode e =
     ap (λ (stage : Stage). run W (where_known stage (CheckCame (session_id s) ∷ []))) (sym (known_awaiting s.stage (entry_of W (session_id s)) made e))
     ∙ ap (λ (b : Bool). run W (where_known s.stage (limit_events (session_id s) (makes_checks b (At_awaiting made)) handlers.Cancel))) (sym mode)
 
-checks_none : (at : At) → makes_checks true at ≡ false
+checks_none : (at : JointPhase) → makes_checks true at ≡ false
 checks_none At_held = refl
 checks_none At_receiving = refl
 checks_none (At_awaiting made) = refl
@@ -142,7 +142,7 @@ checks_none At_executing = refl
 checks_none At_over = refl
 checks_none At_waiting = refl
 
-pub no_checks : (acknowledged : Bool) (at : At) → ((made : ℕ) → at ≡ At_awaiting made → ⊥) → makes_checks acknowledged at ≡ false
+pub no_checks : (acknowledged : Bool) (at : JointPhase) → ((made : ℕ) → at ≡ At_awaiting made → ⊥) → makes_checks acknowledged at ≡ false
 no_checks true at other = checks_none at
 no_checks false At_held other = refl
 no_checks false At_receiving other = refl
@@ -151,7 +151,7 @@ no_checks false At_executing other = refl
 no_checks false At_over other = refl
 no_checks false At_waiting other = refl
 
-pub acknowledged_none : (acknowledged : Bool) (at : At) → acknowledged ≡ true → makes_checks acknowledged at ≡ false
+pub acknowledged_none : (acknowledged : Bool) (at : JointPhase) → acknowledged ≡ true → makes_checks acknowledged at ≡ false
 acknowledged_none true at e = checks_none at
 acknowledged_none false at e = absurd cc
 
@@ -161,11 +161,11 @@ awaiting_not_waiting made e = absurd cc
 awaiting_not_held : (made : ℕ) → At_awaiting made ≡ At_held → ⊥
 awaiting_not_held made e = absurd cc
 
-pub awaits : (at : At) (made : ℕ) → at ≡ At_awaiting made → (at ≡ At_waiting → ⊥) × (at ≡ At_held → ⊥)
+pub awaits : (at : JointPhase) (made : ℕ) → at ≡ At_awaiting made → (at ≡ At_waiting → ⊥) × (at ≡ At_held → ⊥)
 awaits at made e = (λ w. awaiting_not_waiting made (sym e ∙ w), λ h. awaiting_not_held made (sym e ∙ h))
 
 -- what becomes of the session
-pub puts_cancelled : (R : State) (s : SessionFields) (condition : ℕ) (at : At) → (at ≡ At_waiting → ⊥) → (at ≡ At_held → ⊥) →
+pub puts_cancelled : (R : State) (s : SessionFields) (condition : ℕ) (at : JointPhase) → (at ≡ At_waiting → ⊥) → (at ≡ At_held → ⊥) →
     Turning.gives_up R s condition handlers.Cancel at ≡ Turning.replaces_one R (record s { cause = Some condition }) (Turning.said_word s words.Faulted)
 puts_cancelled R s condition At_held w h = absurd (h refl)
 puts_cancelled R s condition At_receiving w h = refl
@@ -174,7 +174,7 @@ puts_cancelled R s condition At_executing w h = refl
 puts_cancelled R s condition At_over w h = refl
 puts_cancelled R s condition At_waiting w h = absurd (w refl)
 
-pub puts_abandoned : (R : State) (s : SessionFields) (condition : ℕ) (at : At) → (at ≡ At_waiting → ⊥) → (at ≡ At_held → ⊥) →
+pub puts_abandoned : (R : State) (s : SessionFields) (condition : ℕ) (at : JointPhase) → (at ≡ At_waiting → ⊥) → (at ≡ At_held → ⊥) →
     Turning.gives_up R s condition handlers.Abandon at ≡ Turning.replaces_one R (record s { is_abandoned = true }) (Turning.abandoned_told s condition)
 puts_abandoned R s condition At_held w h = absurd (h refl)
 puts_abandoned R s condition At_receiving w h = refl
@@ -185,11 +185,12 @@ puts_abandoned R s condition At_waiting w h = absurd (w refl)
 
 -- ---- what is said
 
-pub told_word : (N : MachineFields) (s : SessionFields) (id : TransactionId) (a : AnswerParts) (word : Word) → id ≡ session_id s → a ≡ silent (Said id word) →
+pub told_word : (N : StateMachineFields) (s : SessionFields) (id : TransactionId) (a : AnswerParts) (word : Word) → id ≡ session_id s → a ≡ silent
+    (Said id word) →
     answer_in N a ≡ Turning.said_word s word
 told_word N s id a word name e = ap (answer_in N) e ∙ ap (λ (x : TransactionId). Turning.quiet (Said x word)) name
 
-pub told_abandoned : (N : MachineFields) (s : SessionFields) (id : TransactionId) (a b : AnswerParts) (condition : ℕ) →
+pub told_abandoned : (N : StateMachineFields) (s : SessionFields) (id : TransactionId) (a b : AnswerParts) (condition : ℕ) →
     id ≡ session_id s → b ≡ silent (Said id words.Faulted) → a ≡ record b { indications = listed (Some (Abandoned id condition)) } →
     answer_in N a ≡ Turning.abandoned_told s condition
 told_abandoned N s id a b condition name word e =

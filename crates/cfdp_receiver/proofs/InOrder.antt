@@ -18,8 +18,8 @@ use Rattle.cfdp_receiver.specs.declared.answer.Indication.TheVariants.{FileSegme
 use Rattle.cfdp_receiver.specs.State.{State, DataPdu, AnswerFields, at_of, session_of}
 use Rattle.cfdp_receiver.specs.Due.{is_receiving_at}
 use Rattle.cfdp_receiver.specs.Handing.{is_ours, of_session, where_known}
-use Rattle.cfdp_receiver.specs.Machine.{MachineFields, AnswerParts, answer_in}
-use Rattle.cfdp_receiver.specs.code.Machine.{Turns, machine_heard, in_world, silent}
+use Rattle.cfdp_receiver.specs.StateMachine.{StateMachineFields, AnswerParts, answer_in}
+use Rattle.cfdp_receiver.specs.code.StateMachine.{Turns, machine_heard, in_world, silent}
 use Rattle.cfdp_receiver.specs.Turning.{asks_at_once, asks_stage, progress_at, data_parts, foreign, is_immediate, is_kept_by, is_known, keeps, quiet, takes_piece}
 use Rattle.cfdp_receiver.proofs.Turned.{turns_by}
 
@@ -30,7 +30,7 @@ told_of reply h p = if is_kept_by reply then FileSegmentRecv (id_of h) p.offset 
 abbrev with_naks : AnswerFields → List NakFields → AnswerFields
 with_naks a naks = record a { naks = naks }
 
-pub only_kept : (M N : MachineFields) (a : AnswerParts) (h : Header) (p : FileDataFields) (s : SessionFields) →
+pub only_kept : (M N : StateMachineFields) (a : AnswerParts) (h : Header) (p : FileDataFields) (s : SessionFields) →
     is_ours M.state h ≡ true → session_of M.state (id_of h) ≡ Some s → s.stage ≡ Known →
     N ≡ machine_heard M.state.world (in_world (next M.state.world (DataCame h p)).0 M) s →
     asks_at_once M.state (next M.state.world (DataCame h p)).0 s ≡ [] →
@@ -51,11 +51,11 @@ only_kept M N a h p s ours found known hears none answers =
     cond-true (is_ours R h) (data_parts R V rs h p (session_of R (id_of h))) (keeps R (quiet (foreign h))) ours
     ∙ ap (data_parts R V rs h p) found
     ∙ cond-true (is_known s.stage) (takes_piece R V rs h p s) _ (ap is_known known))
-    (ap (λ (X : MachineFields). X.state.world) hears)
-    (ap (λ (X : MachineFields). X.state.mib) hears)
-    (ap (λ (X : MachineFields). X.state.now) hears)
-    (ap (λ (X : MachineFields). X.state.sessions) hears)
-    (ap (λ (X : MachineFields). X.state.closed) hears)
+    (ap (λ (X : StateMachineFields). X.state.world) hears)
+    (ap (λ (X : StateMachineFields). X.state.mib) hears)
+    (ap (λ (X : StateMachineFields). X.state.now) hears)
+    (ap (λ (X : StateMachineFields). X.state.sessions) hears)
+    (ap (λ (X : StateMachineFields). X.state.closed) hears)
     (ap (answer_in N) answers ∙ ap (with_naks (record last { indications = told_of reply h p })) (sym none))
 
 none_if : (b acknowledged receiving some : Bool) (naks : List NakFields) → b ≡ false → (if b && acknowledged && receiving && some then naks else []) ≡ []

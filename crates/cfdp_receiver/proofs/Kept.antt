@@ -6,23 +6,23 @@ use Rattle.cfdp_status.specs.declared.transaction.TransactionId.{TransactionId}
 use Rattle.cfdp_retransmission.specs.Timers.{restarted}
 use Rattle.cfdp_sessions.specs.Sessions.{SessionFields, session_id, found, replaced, AreDistinct}
 use Rattle.cfdp_sessions.proofs.Names.{found_name}
-use Rattle.cfdp_sessions.proofs.Places.{set_replaced}
+use Rattle.cfdp_sessions.proofs.Indexes.{set_replaced}
 use Rattle.cfdp_transactions.specs.World.{World}
-use Rattle.cfdp_transactions.proofs.Places.{set_get_same}
+use Rattle.cfdp_transactions.proofs.Indexes.{set_get_same}
 use Rattle.cfdp_receiver.specs.State.{at_of}
 use Rattle.cfdp_receiver.specs.Due.{is_receiving_at}
-use Rattle.cfdp_receiver.specs.Machine.{MachineFields}
-use Rattle.cfdp_receiver.specs.code.Machine.{AtIndex, machine_heard, with_session}
+use Rattle.cfdp_receiver.specs.StateMachine.{StateMachineFields}
+use Rattle.cfdp_receiver.specs.code.StateMachine.{AtIndex, machine_heard, with_session}
 use Rattle.cfdp_receiver.specs.Turning.{is_news, roused}
 
 pub kept : (ss : List SessionFields) (i : ℕ) (s : SessionFields) → AreDistinct ss → slice_get ss i ≡ Some s → replaced ss s ≡ ss
 kept ss i s distinct at = sym (set_replaced ss i s s distinct at refl) ∙ set_get_same ss i s at
 
-abbrev put : MachineFields → List SessionFields → MachineFields
+abbrev put : StateMachineFields → List SessionFields → StateMachineFields
 put M ss = record M { state = record M.state { sessions = ss } }
 
 -- what is no news to a session leaves it
-pub no_news : (U : World) (M : MachineFields) (i : ℕ) (s : SessionFields) → AreDistinct M.state.sessions → slice_get M.state.sessions i ≡ Some s →
+pub no_news : (U : World) (M : StateMachineFields) (i : ℕ) (s : SessionFields) → AreDistinct M.state.sessions → slice_get M.state.sessions i ≡ Some s →
     is_news U M.state.world s ≡ false → M ≡ machine_heard U M s
 no_news U M i s distinct at quiet =
     sym (
@@ -38,7 +38,7 @@ named ss id None same = tt
 named ss id (Some k) same = λ s at. found_name ss id s (same ∙ at)
 
 -- a session that is not in Receiving is not roused
-pub not_roused : (M : MachineFields) (i : ℕ) (s : SessionFields) → AreDistinct M.state.sessions → slice_get M.state.sessions i ≡ Some s →
+pub not_roused : (M : StateMachineFields) (i : ℕ) (s : SessionFields) → AreDistinct M.state.sessions → slice_get M.state.sessions i ≡ Some s →
     is_receiving_at (at_of M.state.world s) ≡ false → M ≡ with_session M (roused M.state s)
 not_roused M i s distinct at quiet =
     sym (

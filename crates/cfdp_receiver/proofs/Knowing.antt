@@ -23,7 +23,7 @@ use Rattle.cfdp_transactions.specs.Events.{about, is_take}
 use Rattle.cfdp_transactions.specs.Entries.{OnlyTakeRemoves, TakeRemoves}
 use Rattle.cfdp_transactions.specs.Next.{next, run, replies}
 use Rattle.cfdp_transactions.specs.Sound.{Sound}
-use Rattle.cfdp_transactions.specs.World.{World, place_of, entry_of, index_of, next_runnable}
+use Rattle.cfdp_transactions.specs.World.{World, index_in, entry_of, index_of, next_runnable}
 use Rattle.cfdp_retransmission.specs.Timers.{restarted, passed}
 use Rattle.cfdp_retransmission.specs.declared.timer.Expiry.TheVariants.{Again}
 use Rattle.cfdp_sessions.specs.Sessions.{SessionFields, session_id, found, without_session, AreDistinct}
@@ -34,7 +34,7 @@ use Rattle.cfdp_receiver.specs.declared.answer.Became.TheVariants as became
 use Rattle.cfdp_receiver.specs.declared.answer.Word.TheVariants as words
 use Rattle.cfdp_receiver.specs.declared.mib.Handler.{Handler}
 use Rattle.cfdp_receiver.specs.declared.mib.Handler.TheVariants as handlers
-use Rattle.cfdp_receiver.specs.State.{State, begin, AnswerFields, Input, MetadataPdu, DataPdu, EofPdu, AckPdu, PromptPdu, OtherPdu, Expire, Work, Finish, CancelAsked, ForgetAsked, now_of, session_of, status_of, is_closed, is_full, At, At_held, At_receiving, At_awaiting, At_executing, At_over, At_waiting, at_phase, at_entry, at_stage, at_of}
+use Rattle.cfdp_receiver.specs.State.{State, begin, AnswerFields, Input, MetadataPdu, DataPdu, EofPdu, AckPdu, PromptPdu, OtherPdu, Expire, Work, Finish, CancelAsked, ForgetAsked, now_of, session_of, status_of, is_closed, is_full, JointPhase, At_held, At_receiving, At_awaiting, At_executing, At_over, At_waiting, at_phase, at_entry, at_stage, at_of}
 use Rattle.cfdp_receiver.specs.Due as Dues
 use Rattle.cfdp_receiver.specs.Handing as Handing
 use Rattle.cfdp_receiver.specs.Turning as Turning
@@ -340,7 +340,7 @@ at_waits (OverStage ending) o e = refl
 at_waits Waiting o e = refl
 
 -- what becomes of a session at a limit, where its entry stayed
-gives_by : (R : State) (s : SessionFields) (condition : ℕ) (how : Handler) (at : At) (es : List Event) → AreDistinct R.sessions → Knows R (session_id s)
+gives_by : (R : State) (s : SessionFields) (condition : ℕ) (how : Handler) (at : JointPhase) (es : List Event) → AreDistinct R.sessions → Knows R (session_id s)
     (Some s) →
     at_of R.world s ≡ at →
     is_there (run R.world es) (session_id s) ≡ is_known_session s.stage → Fits R (session_id s) es (λ V rs. Turning.gives_up R s condition how at)
@@ -374,7 +374,8 @@ gives_by R s condition handlers.Abandon At_executing es d k is now = fits_put R 
 gives_by R s condition handlers.Abandon At_over es d k is now = fits_put R (session_id s) s es (λ V rs. record s { is_abandoned = true }) (λ V rs. silent) k.0
     (λ V rs. refl) now
 
-fits_gives_up : Laws → (R : State) (s : SessionFields) (condition : ℕ) (checks : Bool) (how : Handler) (at : At) → Sound R.world → AreDistinct R.sessions →
+fits_gives_up : Laws → (R : State) (s : SessionFields) (condition : ℕ) (checks : Bool) (how : Handler) (at : JointPhase) → Sound R.world →
+    AreDistinct R.sessions →
     Knows R (session_id s) (Some s) → at_of R.world s ≡ at →
     Fits R (session_id s) (Handing.where_known s.stage (Handing.limit_events (session_id s) checks how)) (λ V rs. Turning.gives_up R s condition how at)
 fits_gives_up laws R s condition checks how at sound d k is =
@@ -560,4 +561,4 @@ known_all laws next_sound promised R (i ∷ is) sound d known =
 pub known_is_entry : OnlyTakeRemoves → TakeRemoves → NextIsSound → NextIsPromised → KnownIsEntry
 known_is_entry only_take takes next_sound promised mib W inputs sound none =
     let laws : Laws = record { only_take = only_take; takes = takes } in
-    known_all laws next_sound promised (begin mib W) inputs sound tt (λ id. ap (λ (t : List Entry). is_some (slice_get t (place_of id t))) none)
+    known_all laws next_sound promised (begin mib W) inputs sound tt (λ id. ap (λ (t : List Entry). is_some (slice_get t (index_in id t))) none)

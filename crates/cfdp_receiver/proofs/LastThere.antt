@@ -25,11 +25,11 @@ use Rattle.cfdp_transactions.specs.Next.{for_us, next, run}
 use Rattle.cfdp_transactions.specs.Received.{Received, kept_with, pieces, is_whole, brought, staged_of}
 use Rattle.cfdp_transactions.specs.ReceivedLaws.{octet_at}
 use Rattle.cfdp_transactions.specs.Sound.{Each}
-use Rattle.cfdp_transactions.specs.World.{World, place_of, spare_blocks, leases_of, bound, index_of, entry_of, change_at, free_slot}
+use Rattle.cfdp_transactions.specs.World.{World, index_in, spare_blocks, leases_of, bound, index_of, entry_of, change_at, free_slot}
 use Rattle.cfdp_transactions.proofs.Finding.{found_name}
 use Rattle.cfdp_transactions.proofs.Lookups.{set_own}
 use Rattle.cfdp_transactions.proofs.Received.OctetsAndGaps.{first_stays}
-use Rattle.cfdp_transactions.proofs.Places.{set_each, append_each, remove_place, before, get_set_same, set_set_same}
+use Rattle.cfdp_transactions.proofs.Indexes.{set_each, append_each, remove_index, before, get_set_same, set_set_same}
 use Rattle.cfdp_transactions.proofs.Promises.Carried.{some_same}
 use Rattle.cfdp_retransmission.proofs.Arriving.{stays}
 
@@ -93,7 +93,7 @@ module _ (W : World) (all : Each LastThere W.table) where
     cancelled_last = cond_both (is_live e.phase) _ _ Stays (λ _. ends_last e 15) (λ _. all)
 
     taken_last : Stays (taken_out W k (Some e))
-    taken_last = cond_both (is_live e.phase) _ _ Stays (λ _. all) (λ _ j d here. all (before k j) d (sym (remove_place W.table k j) ∙ here))
+    taken_last = cond_both (is_live e.phase) _ _ Stays (λ _. all) (λ _ j d here. all (before k j) d (sym (remove_index W.table k j) ∙ here))
 
     check_last : (phase : Phase) → Stays (check_at phase W k e)
     check_last (Awaiting checks) =
@@ -235,7 +235,7 @@ module _ (W : World) (id : TransactionId) (e : Entry) (here : entry_of W id ≡ 
   -- a world whose table has this entry instead of that one
   put_joined : (U : World) (new : Entry) (reply : Reply) → name_of new ≡ id → U.table ≡ slice_set W.table k new → Joined low new → JoinedIn id low (U, reply)
   put_joined U new reply name table j now there =
-      let own : entry_of U id ≡ Some new = ap (λ (t : List Entry). slice_get t (place_of id t)) table ∙ set_own W.table id e new name here in
+      let own : entry_of U id ≡ Some new = ap (λ (t : List Entry). slice_get t (index_in id t)) table ∙ set_own W.table id e new name here in
       subst (Joined low) (some_same new now (sym own ∙ there)) j
 
   named : name_of e ≡ id

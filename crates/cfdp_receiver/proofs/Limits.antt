@@ -25,7 +25,7 @@ use Rattle.cfdp_receiver.specs.declared.answer.Became.TheVariants as became
 use Rattle.cfdp_receiver.specs.declared.answer.Word.TheVariants as words
 use Rattle.cfdp_receiver.specs.declared.mib.Handler.{Handler}
 use Rattle.cfdp_receiver.specs.declared.mib.Handler.TheVariants as handlers
-use Rattle.cfdp_receiver.specs.State.{State, AnswerFields, Input, MetadataPdu, DataPdu, EofPdu, AckPdu, PromptPdu, OtherPdu, Expire, Work, Finish, CancelAsked, ForgetAsked, now_of, session_of, At, At_waiting, at_stage, at_of}
+use Rattle.cfdp_receiver.specs.State.{State, AnswerFields, Input, MetadataPdu, DataPdu, EofPdu, AckPdu, PromptPdu, OtherPdu, Expire, Work, Finish, CancelAsked, ForgetAsked, now_of, session_of, JointPhase, At_waiting, at_stage, at_of}
 use Rattle.cfdp_receiver.specs.Due as Dues
 use Rattle.cfdp_receiver.specs.Handing as Handing
 use Rattle.cfdp_receiver.specs.Turning as Turning
@@ -202,7 +202,7 @@ handler_waiting R false = refl
 
 expiry_waiting : (R : State) (s : SessionFields) → s.stage ≡ Waiting → Dues.expiry_of R s ≡ expiry R.mib.ack.interval R.mib.ack.limit R.now s.timer
 expiry_waiting R s w =
-    ap (λ (at : At). Dues.expiry_by R.now s.timer (Dues.terms_at R.mib R.world.config.checks s.header.acknowledged s.timer at)) (at_waiting R.world s w)
+    ap (λ (at : JointPhase). Dues.expiry_by R.now s.timer (Dues.terms_at R.mib R.world.config.checks s.header.acknowledged s.timer at)) (at_waiting R.world s w)
     ∙ ap (Dues.expiry_by R.now s.timer) (terms_waiting R s.header.acknowledged s)
 
 room_of : (R : State) (s : SessionFields) → expiry R.mib.ack.interval R.mib.ack.limit R.now s.timer ≡ Again → s.timer.count + 1 < R.mib.ack.limit
@@ -217,7 +217,7 @@ waits_again : (R : State) (V : World) (id : TransactionId) (s : SessionFields) �
 waits_again R V id s e name w again =
     let t : SessionFields = record s { timer = passed R.now s.timer Again } in
     Sent t (replaced_self R.sessions t id (s, e) name) w refl (room_of R s (sym (expiry_waiting R s w) ∙ again))
-    (ap (λ (at : At). length (Turning.repeats R V s at).finished) (at_waiting R.world s w))
+    (ap (λ (at : JointPhase). length (Turning.repeats R V s at).finished) (at_waiting R.world s w))
 
 gives_waiting : (R : State) (id : TransactionId) (s : SessionFields) (condition : ℕ) (how : Handler) → AreDistinct R.sessions → session_id s ≡ id → how
     ≢ handlers.Ignore →
@@ -230,7 +230,8 @@ waits_limit : (R : State) (V : World) (id : TransactionId) (s : SessionFields) �
     R.mib.ack.at_limit ≢ handlers.Ignore →
     Waits R id s (Turning.due_parts R V (Dues.Stage_due s true))
 waits_limit R V id s d name w ne =
-    subst (λ (at : At). Waits R id s (Turning.gives_up R s (Dues.fault_at s.header.acknowledged at) (Dues.handler_at R.mib s.header.acknowledged at) at))
+    subst (λ (at : JointPhase). Waits R id s (Turning.gives_up R s (Dues.fault_at s.header.acknowledged at)
+    (Dues.handler_at R.mib s.header.acknowledged at) at))
     (sym (at_waiting R.world s w)) (
     subst (λ (how : Handler). Waits R id s (Turning.gives_up R s (Dues.fault_at s.header.acknowledged At_waiting) how At_waiting))
     (sym (handler_waiting R s.header.acknowledged))

@@ -17,10 +17,10 @@ use Rattle.cfdp_transactions.specs.declared.phase.Phase.TheVariants as phases
 use Rattle.cfdp_transactions.specs.Entry.{Entry, takes_data}
 use Rattle.cfdp_transactions.specs.World.{entry_of}
 use Rattle.cfdp_receiver.specs.declared.mib.Mib.{Mib}
-use Rattle.cfdp_receiver.specs.State.{State, At, At_held, At_receiving, At_awaiting, At_executing, At_over, At_waiting, at_of, at_phase, at_stage}
+use Rattle.cfdp_receiver.specs.State.{State, JointPhase, At_held, At_receiving, At_awaiting, At_executing, At_over, At_waiting, at_of, at_phase, at_stage}
 use Rattle.cfdp_receiver.specs.Due.{IsSet, expiry_by, has_passed, is_receiving_at, terms_at, Due, Nothing_due, due_by, expiry_of, first_due, is_alive_due}
-use Rattle.cfdp_receiver.specs.Machine.{is_any_due}
-use Rattle.cfdp_receiver.specs.code.Machine.{IsTaking, is_expired, timer_of}
+use Rattle.cfdp_receiver.specs.StateMachine.{is_any_due}
+use Rattle.cfdp_receiver.specs.code.StateMachine.{IsTaking, is_expired, timer_of}
 use Rattle.cfdp_paths.proofs.Scanning.{or_false}
 
 -- ---- the first that is due
@@ -122,7 +122,7 @@ since_by interval limit now timer some again = elim (why interval limit now time
   | Over e due full ↦ let never : Limit ≡ Again = sym e ∙ again in absurd cc
 ]
 
-since_at : (mib : Mib) (checks : ℕ) (acknowledged : Bool) (timer : Timer) (now : ℕ) (at : At) → IsSet mib →
+since_at : (mib : Mib) (checks : ℕ) (acknowledged : Bool) (timer : Timer) (now : ℕ) (at : JointPhase) → IsSet mib →
     expiry_by now timer (terms_at mib checks acknowledged timer at) ≡ Again → timer.since + 1 ≤ now
 since_at mib checks acknowledged timer now At_held set e = since_by mib.nak.interval _ now timer set.nak e
 since_at mib checks acknowledged timer now At_receiving set e = since_by mib.inactivity.interval _ now timer set.inactivity e

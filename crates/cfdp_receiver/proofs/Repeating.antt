@@ -10,18 +10,18 @@ use Rattle.cfdp_retransmission.specs.declared.timer.Expiry.TheVariants.{Again}
 use Rattle.cfdp_retransmission.specs.Timers.{passed}
 use Rattle.cfdp_sessions.specs.Sessions.{SessionFields, session_id, replaced}
 use Rattle.cfdp_sessions.proofs.Names.{replaced_self}
-use Rattle.cfdp_sessions.proofs.Places.{found_by_name, some_same}
+use Rattle.cfdp_sessions.proofs.Indexes.{found_by_name, some_same}
 use Rattle.cfdp_transactions.specs.declared.reply.Reply.{Reply}
 use Rattle.cfdp_transactions.specs.World.{World}
 use Rattle.cfdp_transactions.specs.Next.{run}
 use Rattle.cfdp_receiver.specs.declared.answer.Became.TheVariants.{Said}
 use Rattle.cfdp_receiver.specs.declared.answer.Word.TheVariants as words
 use Rattle.cfdp_receiver.specs.declared.mib.Mib.{Mib}
-use Rattle.cfdp_receiver.specs.State.{State, Expire, At, At_held, At_receiving, At_awaiting, At_executing, At_over, At_waiting, at_of}
+use Rattle.cfdp_receiver.specs.State.{State, Expire, JointPhase, At_held, At_receiving, At_awaiting, At_executing, At_over, At_waiting, at_of}
 use Rattle.cfdp_receiver.specs.Due.{Stage_due, first_due}
 use Rattle.cfdp_receiver.specs.Handing.{due_events}
-use Rattle.cfdp_receiver.specs.Machine.{MachineFields, AnswerParts, answer_in, finished_by}
-use Rattle.cfdp_receiver.specs.code.Machine.{Turns, silent}
+use Rattle.cfdp_receiver.specs.StateMachine.{StateMachineFields, AnswerParts, answer_in, finished_by}
+use Rattle.cfdp_receiver.specs.code.StateMachine.{Turns, silent}
 use Rattle.cfdp_receiver.specs.Turning as Turning
 use Rattle.cfdp_receiver.proofs.Giving.{with_lists}
 use Rattle.cfdp_receiver.proofs.Turned.{turns_by}
@@ -67,31 +67,32 @@ asks_same mib V ss s t timer i e after = elim (at_replaced ss (record s { timer 
 
 -- ---- the turn
 
-abbrev pub again_in : MachineFields → SessionFields → World
+abbrev pub again_in : StateMachineFields → SessionFields → World
 again_in M s = run M.state.world (due_events M.state (Stage_due s false))
 
-abbrev pub again_session : MachineFields → SessionFields → SessionFields
+abbrev pub again_session : StateMachineFields → SessionFields → SessionFields
 again_session M s = record s { timer = passed M.state.now s.timer Again }
 
-abbrev pub again_made : MachineFields → SessionFields → MachineFields
+abbrev pub again_made : StateMachineFields → SessionFields → StateMachineFields
 again_made M s = with_lists M (again_in M s) (replaced M.state.sessions (again_session M s)) M.state.closed
 
-pub again_turns : (M N : MachineFields) (a : AnswerParts) (s : SessionFields) → first_due M.state M.state.sessions ≡ Stage_due s false → N ≡ again_made M s →
+pub again_turns : (M N : StateMachineFields) (a : AnswerParts) (s : SessionFields) → first_due M.state M.state.sessions ≡ Stage_due s false → N ≡ again_made M s
+    →
     answer_in (again_made M s) a ≡ Turning.repeats M.state (again_in M s) s (at_of M.state.world s) → Turns M N a (Expire M.state.now)
 again_turns M N a s due is answer =
     let R = M.state in
     turns_by M N a (Expire R.now) (due_events R (Stage_due s false)) (λ (U : World) (rs : List Reply). Turning.due_parts R U (Stage_due s false))
     (ap (due_events R) due)
     (λ (U : World) (rs : List Reply). ap (Turning.due_parts R U) due)
-    (ap (λ (m : MachineFields). m.state.world) is)
-    (ap (λ (m : MachineFields). m.state.mib) is)
-    (ap (λ (m : MachineFields). m.state.now) is)
-    (ap (λ (m : MachineFields). m.state.sessions) is)
-    (ap (λ (m : MachineFields). m.state.closed) is)
-    (ap (λ (m : MachineFields). answer_in m a) is ∙ answer)
+    (ap (λ (m : StateMachineFields). m.state.world) is)
+    (ap (λ (m : StateMachineFields). m.state.mib) is)
+    (ap (λ (m : StateMachineFields). m.state.now) is)
+    (ap (λ (m : StateMachineFields). m.state.sessions) is)
+    (ap (λ (m : StateMachineFields). m.state.closed) is)
+    (ap (λ (m : StateMachineFields). answer_in m a) is ∙ answer)
 
 -- Finished again
-pub says_finished : (M : MachineFields) (a b : AnswerParts) (s : SessionFields) (id : TransactionId) (i : ℕ) →
+pub says_finished : (M : StateMachineFields) (a b : AnswerParts) (s : SessionFields) (id : TransactionId) (i : ℕ) →
     slice_get M.state.sessions i ≡ Some s → id ≡ session_id s → b ≡ silent (Said id words.Expired) → a ≡ record b { finished = id ∷ [] } →
     at_of M.state.world s ≡ At_waiting → answer_in (again_made M s) a ≡ Turning.repeats M.state (again_in M s) s (at_of M.state.world s)
 says_finished M a b s id i e name word is waits =
@@ -102,7 +103,7 @@ says_finished M a b s id i e name word is waits =
     ∙ ap (λ (o : Option SessionFields). record (Turning.said_word s words.Expired) { finished = finished_by N o ∷ [] }) octets
     ∙ ap (Turning.repeats M.state (again_in M s) s) (sym waits)
 
-repeats_asks : (R : State) (V : World) (s : SessionFields) (at : At) → (at ≡ At_waiting → ⊥) → s.header.acknowledged ≡ true →
+repeats_asks : (R : State) (V : World) (s : SessionFields) (at : JointPhase) → (at ≡ At_waiting → ⊥) → s.header.acknowledged ≡ true →
     record (Turning.said_word s words.Expired) { naks = Turning.asks R.mib V s } ≡ Turning.repeats R V s at
 repeats_asks R V s At_held other mode = sym (cond-true s.header.acknowledged _ _ mode)
 repeats_asks R V s At_receiving other mode = sym (cond-true s.header.acknowledged _ _ mode)
@@ -112,7 +113,7 @@ repeats_asks R V s At_over other mode = sym (cond-true s.header.acknowledged _ _
 repeats_asks R V s At_waiting other mode = absurd (other refl)
 
 -- what is missing is asked for
-pub says_naks : (M : MachineFields) (a b : AnswerParts) (s : SessionFields) (id : TransactionId) (naks : List NakFields) → id ≡ session_id s →
+pub says_naks : (M : StateMachineFields) (a b : AnswerParts) (s : SessionFields) (id : TransactionId) (naks : List NakFields) → id ≡ session_id s →
     b ≡ silent (Said id words.Expired) → a ≡ record b { naks = naks } → naks ≡ Turning.asks M.state.mib (again_in M s) s →
     (at_of M.state.world s ≡ At_waiting → ⊥) → s.header.acknowledged ≡ true →
     answer_in (again_made M s) a ≡ Turning.repeats M.state (again_in M s) s (at_of M.state.world s)

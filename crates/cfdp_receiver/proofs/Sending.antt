@@ -26,7 +26,7 @@ use Rattle.cfdp_receiver.specs.declared.answer.Word.{Word}
 use Rattle.cfdp_receiver.specs.declared.answer.Word.TheVariants as words
 use Rattle.cfdp_receiver.specs.declared.mib.Handler.{Handler}
 use Rattle.cfdp_receiver.specs.declared.mib.Handler.TheVariants as handlers
-use Rattle.cfdp_receiver.specs.State.{State, AnswerFields, Input, MetadataPdu, DataPdu, EofPdu, AckPdu, PromptPdu, OtherPdu, Expire, Work, Finish, CancelAsked, ForgetAsked, now_of, session_of, is_closed, is_full, At, At_held, At_receiving, At_awaiting, At_executing, At_over, At_waiting, at_of, session_status, status_of}
+use Rattle.cfdp_receiver.specs.State.{State, AnswerFields, Input, MetadataPdu, DataPdu, EofPdu, AckPdu, PromptPdu, OtherPdu, Expire, Work, Finish, CancelAsked, ForgetAsked, now_of, session_of, is_closed, is_full, JointPhase, At_held, At_receiving, At_awaiting, At_executing, At_over, At_waiting, at_of, session_status, status_of}
 use Rattle.cfdp_receiver.specs.Due as Due
 use Rattle.cfdp_receiver.specs.Handing as Handing
 use Rattle.cfdp_receiver.specs.Turning as Turning
@@ -103,7 +103,7 @@ few_prompt : (R : State) (h : Header) (prompt : Prompt) (s : Option SessionField
 few_prompt R h prompt None = none
 few_prompt R h prompt (Some s) = if_parts (s.header.acknowledged && Turning.takes_prompts (at_of R.world s)) _ _ (few_prompted R h s prompt) none
 
-few_repeats : (R : State) (V : World) (s : SessionFields) (at : At) → Few (Turning.repeats R V s at)
+few_repeats : (R : State) (V : World) (s : SessionFields) (at : JointPhase) → Few (Turning.repeats R V s at)
 few_repeats R V s At_waiting = (omega arith, omega arith)
 few_repeats R V s At_held = if_answer s.header.acknowledged _ _ none none
 few_repeats R V s At_receiving = if_answer s.header.acknowledged _ _ none none
@@ -111,7 +111,7 @@ few_repeats R V s (At_awaiting made) = if_answer s.header.acknowledged _ _ none 
 few_repeats R V s At_executing = if_answer s.header.acknowledged _ _ none none
 few_repeats R V s At_over = if_answer s.header.acknowledged _ _ none none
 
-few_gives_up : (R : State) (s : SessionFields) (condition : ℕ) (how : Handler) (at : At) → FewIn (Turning.gives_up R s condition how at)
+few_gives_up : (R : State) (s : SessionFields) (condition : ℕ) (how : Handler) (at : JointPhase) → FewIn (Turning.gives_up R s condition how at)
 few_gives_up R s condition handlers.Ignore at = none
 few_gives_up R s condition handlers.Cancel At_waiting = none
 few_gives_up R s condition handlers.Cancel At_held = none

@@ -34,7 +34,7 @@ use Rattle.cfdp_receiver.specs.declared.answer.Became.TheVariants as became
 use Rattle.cfdp_receiver.specs.declared.mib.Handler.{Handler}
 use Rattle.cfdp_receiver.specs.declared.mib.Handler.TheVariants as handlers
 use Rattle.cfdp_receiver.specs.declared.mib.Mib.{Mib}
-use Rattle.cfdp_receiver.specs.State.{State, AnswerFields, At, At_held, At_receiving, At_awaiting, At_executing, At_over, At_waiting, at_phase, at_entry, at_stage, at_of}
+use Rattle.cfdp_receiver.specs.State.{State, AnswerFields, JointPhase, At_held, At_receiving, At_awaiting, At_executing, At_over, At_waiting, at_phase, at_entry, at_stage, at_of}
 use Rattle.cfdp_receiver.specs.Due as Dues
 use Rattle.cfdp_receiver.specs.Due.{IsSet}
 use Rattle.cfdp_receiver.specs.Handing as Handing
@@ -124,7 +124,7 @@ sum_without N R (x ∷ xs) s d m alike = elim (cases_Bool (is_same (session_id x
 fresh_by : (now interval limit : ℕ) (timer : Timer) → timer.since ≡ now → 1 ≤ interval → expiry interval limit now timer ≡ NotDue
 fresh_by now interval limit timer e some = rw (lt-ltb now (timer.since + interval) (omega (arith, e, some))) refl
 
-fresh : (mib : Mib) (checks now : ℕ) (acknowledged : Bool) (timer : Timer) (at : At) → IsSet mib → timer.since ≡ now →
+fresh : (mib : Mib) (checks now : ℕ) (acknowledged : Bool) (timer : Timer) (at : JointPhase) → IsSet mib → timer.since ≡ now →
     Dues.expiry_by now timer (Dues.terms_at mib checks acknowledged timer at) ≡ NotDue
 fresh mib checks now true timer At_held h e = fresh_by now mib.nak.interval mib.nak.limit timer e h.nak
 fresh mib checks now false timer At_held h e = fresh_by now mib.nak.interval mib.nak.limit timer e h.nak
@@ -162,10 +162,10 @@ no_alive false receiving = refl
 over_none : (R : State) (s : SessionFields) → at_of R.world s ≡ At_over → due_of R s ≡ 0
 over_none R s over =
     let terms : Dues.expiry_of R s ≡ NotDue =
-    ap (λ (at : At). Dues.expiry_by R.now s.timer (Dues.terms_at R.mib R.world.config.checks s.header.acknowledged s.timer at)) over
+    ap (λ (at : JointPhase). Dues.expiry_by R.now s.timer (Dues.terms_at R.mib R.world.config.checks s.header.acknowledged s.timer at)) over
     ∙ over_terms R s s.header.acknowledged in
     let alive : Dues.is_alive_due R s ≡ false =
-    ap (λ (at : At). s.header.acknowledged && Dues.is_receiving_at at && Dues.has_passed R.mib.keep_alive R.now s.alive_at) over
+    ap (λ (at : JointPhase). s.header.acknowledged && Dues.is_receiving_at at && Dues.has_passed R.mib.keep_alive R.now s.alive_at) over
     ∙ over_alive s.header.acknowledged (Dues.has_passed R.mib.keep_alive R.now s.alive_at) in
     omega (arith, ap is_due terms, ap one_if alive)
 
@@ -217,7 +217,7 @@ config_checked W k (Some e) = config_checked_at e.phase W k e
 abbrev in_world : State → World → State
 in_world R V = record R { world = V }
 
-abbrev due_at : State → SessionFields → ℕ → At → ℕ
+abbrev due_at : State → SessionFields → ℕ → JointPhase → ℕ
 due_at R t checks at =
     is_due (Dues.expiry_by R.now t.timer (Dues.terms_at R.mib checks t.header.acknowledged t.timer at))
     + one_if (t.header.acknowledged && Dues.is_receiving_at at && Dues.has_passed R.mib.keep_alive R.now t.alive_at)
@@ -291,7 +291,7 @@ phase_receiving Refused e = absurd cc
 phase_receiving Done e = absurd cc
 phase_receiving (Ended condition) e = absurd cc
 
-abbrev made_in : At → ℕ
+abbrev made_in : JointPhase → ℕ
 made_in (At_awaiting made) = made
 made_in at = 0
 
@@ -335,11 +335,11 @@ all_checks checks made timer full = elim (cases_Bool (nat_le checks (made + 1)))
 ]
 
 -- its timer, by how far it is
-expiry_at : (R : State) (s : SessionFields) (acknowledged : Bool) (at : At) → s.header.acknowledged ≡ acknowledged → at_of R.world s ≡ at →
+expiry_at : (R : State) (s : SessionFields) (acknowledged : Bool) (at : JointPhase) → s.header.acknowledged ≡ acknowledged → at_of R.world s ≡ at →
     Dues.expiry_of R s ≡ Dues.expiry_by R.now s.timer (Dues.terms_at R.mib R.world.config.checks acknowledged s.timer at)
 expiry_at R s acknowledged at mode is =
     ap (λ (b : Bool). Dues.expiry_by R.now s.timer (Dues.terms_at R.mib R.world.config.checks b s.timer (at_of R.world s))) mode
-    ∙ ap (λ (a : At). Dues.expiry_by R.now s.timer (Dues.terms_at R.mib R.world.config.checks acknowledged s.timer a)) is
+    ∙ ap (λ (a : JointPhase). Dues.expiry_by R.now s.timer (Dues.terms_at R.mib R.world.config.checks acknowledged s.timer a)) is
 
 -- ---- fewer are due
 
@@ -410,16 +410,16 @@ serves_again promised R s false set sound d m mode due =
     (renewed R (run R.world es) s new set refl (omega (arith, alive_un (in_world R (run R.world es)) new mode)) due)
 
 -- at the limit
-abbrev limit_events_of : State → SessionFields → Bool → At → Handler → List Event
+abbrev limit_events_of : State → SessionFields → Bool → JointPhase → Handler → List Event
 limit_events_of R s acknowledged at how = Handing.where_known s.stage (Handing.limit_events (session_id s) (Handing.makes_checks acknowledged at) how)
 
-abbrev Gives : State → SessionFields → Bool → At → Handler → Type 0
+abbrev Gives : State → SessionFields → Bool → JointPhase → Handler → Type 0
 Gives R s acknowledged at how =
     let V = run R.world (limit_events_of R s acknowledged at how) in
     Fewer R V (Turning.gives_up R s (Dues.fault_at acknowledged at) how at)
 
 -- a change of the session after which it is over
-over_put : NextIsPromised → (R : State) (s new : SessionFields) (acknowledged : Bool) (at : At) (how : Handler) (a : AnswerFields) → Sound R.world →
+over_put : NextIsPromised → (R : State) (s new : SessionFields) (acknowledged : Bool) (at : JointPhase) (how : Handler) (a : AnswerFields) → Sound R.world →
     AreDistinct R.sessions → IsMember s R.sessions →
     session_id new ≡ session_id s → at_of (run R.world (limit_events_of R s acknowledged at how)) new ≡ At_over → 1 ≤ is_due (Dues.expiry_of R s) →
     Fewer R (run R.world (limit_events_of R s acknowledged at how)) (Turning.replaces_one R new a)
@@ -428,7 +428,7 @@ over_put promised R s new acknowledged at how a sound d m name over due =
     let own : Own es (session_id s) = own_known s.stage _ (session_id s) (own_limit (session_id s) (Handing.makes_checks acknowledged at) how) in
     fewer_put R (run R.world es) s new a d m name (alike_own promised R s es sound own) (omega (arith, over_none (in_world R (run R.world es)) new over, due))
 
-gives_closed : NextIsPromised → (R : State) (s : SessionFields) (acknowledged : Bool) (at : At) (how : Handler) (a : AnswerFields) → Sound R.world →
+gives_closed : NextIsPromised → (R : State) (s : SessionFields) (acknowledged : Bool) (at : JointPhase) (how : Handler) (a : AnswerFields) → Sound R.world →
     AreDistinct R.sessions → IsMember s R.sessions →
     1 ≤ is_due (Dues.expiry_of R s) → Fewer R (run R.world (limit_events_of R s acknowledged at how)) (Turning.closes R (session_id s) a)
 gives_closed promised R s acknowledged at how a sound d m due =
@@ -436,7 +436,7 @@ gives_closed promised R s acknowledged at how a sound d m due =
     let own : Own es (session_id s) = own_known s.stage _ (session_id s) (own_limit (session_id s) (Handing.makes_checks acknowledged at) how) in
     fewer_closed R (run R.world es) s a d m (alike_own promised R s es sound own) (omega (arith, due))
 
-gives_ignored : NextIsPromised → (R : State) (s : SessionFields) (acknowledged : Bool) (at : At) (a : AnswerFields) → IsSet R.mib → Sound R.world →
+gives_ignored : NextIsPromised → (R : State) (s : SessionFields) (acknowledged : Bool) (at : JointPhase) (a : AnswerFields) → IsSet R.mib → Sound R.world →
     AreDistinct R.sessions → IsMember s R.sessions →
     1 ≤ is_due (Dues.expiry_of R s) → Fewer R (run R.world (limit_events_of R s acknowledged at handlers.Ignore))
     (Turning.replaces_one R (record s { timer = restarted R.now }) a)
@@ -468,7 +468,7 @@ silent = Turning.quiet became.Nothing
 never_due : (e : Expiry) → e ≡ NotDue → 1 ≤ is_due e → ⊥
 never_due e h due = absurd (omega (arith, ap is_due h, due))
 
-gives : NextIsPromised → (R : State) (s : SessionFields) (acknowledged : Bool) (at : At) (how : Handler) → IsSet R.mib → Sound R.world →
+gives : NextIsPromised → (R : State) (s : SessionFields) (acknowledged : Bool) (at : JointPhase) (how : Handler) → IsSet R.mib → Sound R.world →
     AreDistinct R.sessions → IsMember s R.sessions →
     s.header.acknowledged ≡ acknowledged → at_of R.world s ≡ at → Dues.expiry_of R s ≡ Limit → 1 ≤ is_due (Dues.expiry_of R s) → Gives R s acknowledged at how
 gives promised R s acknowledged at handlers.Ignore set sound d m mode is limited due = gives_ignored promised R s acknowledged at silent set sound d m due

@@ -30,7 +30,7 @@ use Rattle.cfdp_receiver.specs.declared.answer.Word.{Word}
 use Rattle.cfdp_receiver.specs.declared.answer.Word.TheVariants as words
 use Rattle.cfdp_receiver.specs.declared.mib.Handler.{Handler}
 use Rattle.cfdp_receiver.specs.declared.mib.Handler.TheVariants as handlers
-use Rattle.cfdp_receiver.specs.State.{State, begin, AnswerFields, Input, MetadataPdu, DataPdu, EofPdu, AckPdu, PromptPdu, OtherPdu, Expire, Work, Finish, CancelAsked, ForgetAsked, now_of, session_of, is_closed, is_full, At, At_held, At_receiving, At_awaiting, At_executing, At_over, At_waiting, at_of, session_status, status_of}
+use Rattle.cfdp_receiver.specs.State.{State, begin, AnswerFields, Input, MetadataPdu, DataPdu, EofPdu, AckPdu, PromptPdu, OtherPdu, Expire, Work, Finish, CancelAsked, ForgetAsked, now_of, session_of, is_closed, is_full, JointPhase, At_held, At_receiving, At_awaiting, At_executing, At_over, At_waiting, at_of, session_status, status_of}
 use Rattle.cfdp_receiver.specs.Due as Due
 use Rattle.cfdp_receiver.specs.Handing as Handing
 use Rattle.cfdp_receiver.specs.Turning as Turning
@@ -142,7 +142,7 @@ shape_prompt R h prompt (Some s) e =
     (Puts (Turning.roused R s) (Turning.prompted R h s prompt) (roused_name R s ∙ found_name R.sessions (id_of h) s e) refl)
     (said_keeps R (id_of h) h words.Idle)
 
-shape_gives_up : (R : State) (s : SessionFields) (condition : ℕ) (how : Handler) (at : At) → IsFound R.sessions (session_id s) →
+shape_gives_up : (R : State) (s : SessionFields) (condition : ℕ) (how : Handler) (at : JointPhase) → IsFound R.sessions (session_id s) →
     Shape R (session_id s) (Turning.gives_up R s condition how at)
 shape_gives_up R s condition handlers.Ignore at was = Puts _ _ refl refl
 shape_gives_up R s condition handlers.Cancel At_waiting was = Closes _ was refl

@@ -22,7 +22,7 @@ use Rattle.cfdp_transactions.specs.ReceivedLaws.{AreRuns, IsIn}
 use Rattle.cfdp_transactions.proofs.Received.OctetsAndGaps.{gaps_are_missing, gaps_are_runs}
 use Rattle.cfdp_transactions.specs.World.{World, index_of, entry_of}
 use Rattle.cfdp_transactions.specs.Sound.{Sound, IsKept, longest, longest_in}
-use Rattle.cfdp_receiver.specs.code.Machine.{IsTaking}
+use Rattle.cfdp_receiver.specs.code.StateMachine.{IsTaking}
 use Rattle.cfdp_receiver.specs.Turning.{progress_at, gaps_after}
 use Rattle.cfdp_transactions.proofs.Soundness.Needs.{data_live}
 use Rattle.cfdp_leases.proofs.Admitted.{some_is}

@@ -10,7 +10,7 @@ use Rattle.cfdp_transactions.specs.declared.phase.Phase.TheVariants.{Receiving, 
 use Rattle.cfdp_transactions.specs.World.{entry_of}
 use Rattle.cfdp_receiver.specs.State.{State, session_of, at_of, at_phase, at_stage}
 use Rattle.cfdp_receiver.specs.Laws.{AreKnown, is_known_session, knows}
-use Rattle.cfdp_receiver.specs.code.Machine.{IsTaking}
+use Rattle.cfdp_receiver.specs.code.StateMachine.{IsTaking}
 use Rattle.cfdp_receiver.specs.Turning.{takes_prompts}
 
 none_taken : (entry : Option Entry) → is_some entry ≡ false → IsTaking entry

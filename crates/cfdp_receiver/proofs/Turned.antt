@@ -9,8 +9,8 @@ use Rattle.cfdp_transactions.specs.Next.{run, replies}
 use Rattle.cfdp_receiver.specs.declared.mib.Mib.{Mib}
 use Rattle.cfdp_receiver.specs.State.{State, Input, AnswerFields, now_of}
 use Rattle.cfdp_receiver.specs.Handing.{events_of}
-use Rattle.cfdp_receiver.specs.Machine.{MachineFields, AnswerParts, answer_in}
-use Rattle.cfdp_receiver.specs.code.Machine.{Turns, at_moment}
+use Rattle.cfdp_receiver.specs.StateMachine.{StateMachineFields, AnswerParts, answer_in}
+use Rattle.cfdp_receiver.specs.code.StateMachine.{Turns, at_moment}
 use Rattle.cfdp_receiver.specs.Turning as Turning
 
 abbrev state_of : World → Mib → ℕ → List SessionFields → ClosedFields → State
@@ -28,14 +28,14 @@ same_state S W mib now ss closed w m n s c =
 abbrev pair_of : State → AnswerFields → State × AnswerFields
 pair_of S a = (S, a)
 
-pub turned : (M N : MachineFields) (a : AnswerParts) (i : Input) → Turns (at_moment (now_of i) M) N a i → Turning.turn M.state i ≡ (N.state, answer_in N a)
+pub turned : (M N : StateMachineFields) (a : AnswerParts) (i : Input) → Turns (at_moment (now_of i) M) N a i → Turning.turn M.state i ≡ (N.state, answer_in N a)
 turned M N a i t =
     let after = Turning.after_input M.state i in
     let same = same_state N.state after.world after.mib after.now after.sessions after.closed t.world t.mib t.now t.sessions t.closed in
     sym (ap (λ (S : State). pair_of S (answer_in N a)) same ∙ ap (λ (x : AnswerFields). pair_of after x) t.answer)
 
 -- by the events that are handed on, and what becomes of the sessions in the world after them
-pub turns_by : (M N : MachineFields) (a : AnswerParts) (i : Input) (es : List Event) (p : World → List Reply → Turning.Parts) →
+pub turns_by : (M N : StateMachineFields) (a : AnswerParts) (i : Input) (es : List Event) (p : World → List Reply → Turning.Parts) →
     events_of M.state i ≡ es → ((V : World) (rs : List Reply) → Turning.parts_of M.state V rs i ≡ p V rs) →
     N.state.world ≡ run M.state.world es → N.state.mib ≡ M.state.mib → N.state.now ≡ M.state.now →
     N.state.sessions ≡ (p (run M.state.world es) (replies M.state.world es)).sessions →

@@ -5,13 +5,13 @@ use Rattle.cfdp_sessions.specs.Sessions.{AreDistinct}
 use Rattle.cfdp_transactions.specs.Entry.{Entry}
 use Rattle.cfdp_transactions.specs.Headline.{NextIsSound, NextIsPromised}
 use Rattle.cfdp_transactions.specs.Sound.{Sound}
-use Rattle.cfdp_transactions.specs.World.{World, place_of}
+use Rattle.cfdp_transactions.specs.World.{World, index_in}
 use Rattle.cfdp_receiver.specs.declared.mib.Mib.{Mib}
 use Rattle.cfdp_receiver.specs.State.{State, AnswerFields, Input, begin, now_of}
 use Rattle.cfdp_receiver.specs.Handing as Handing
 use Rattle.cfdp_receiver.specs.Laws.{touched}
-use Rattle.cfdp_receiver.specs.Machine.{MachineFields, AnswerParts}
-use Rattle.cfdp_receiver.specs.code.Machine.{IsWholeReceiver, Turns, at_moment}
+use Rattle.cfdp_receiver.specs.StateMachine.{StateMachineFields, AnswerParts}
+use Rattle.cfdp_receiver.specs.code.StateMachine.{IsWholeReceiver, Turns, at_moment}
 use Rattle.cfdp_receiver.specs.Turning as Turning
 use Rattle.cfdp_receiver.proofs.Distinct.{Apart, apart_by}
 use Rattle.cfdp_receiver.proofs.Knowing.{Laws, known_after}
@@ -21,7 +21,7 @@ use Rattle.cfdp_receiver.proofs.Turned.{turned}
 
 pub whole_begin : (mib : Mib) (W : World) → W.table ≡ [] → IsWholeReceiver (begin mib W)
 whole_begin mib W none = record {
-  known = λ id. ap (λ (t : List Entry). is_some (slice_get t (place_of id t))) none;
+  known = λ id. ap (λ (t : List Entry). is_some (slice_get t (index_in id t))) none;
   over = λ id closed. refl;
   ends = none_listed W none;
 }
@@ -36,6 +36,6 @@ whole_after laws next_sound promised R i sound distinct whole =
       ends = ends_stay_there R i whole.ends;
     }
 
-pub whole_turn : (M N : MachineFields) (a : AnswerParts) (i : Input) → IsWholeReceiver (Turning.after_input M.state i) →
+pub whole_turn : (M N : StateMachineFields) (a : AnswerParts) (i : Input) → IsWholeReceiver (Turning.after_input M.state i) →
     Turns (at_moment (now_of i) M) N a i → IsWholeReceiver N.state
 whole_turn M N a i whole t = subst (λ (x : State × AnswerFields). IsWholeReceiver x.0) (turned M N a i t) whole

@@ -30,8 +30,8 @@ use Rattle.cfdp_retransmission.specs.Naks.{SegmentRequest, Nak, front_end, scope
 use Rattle.cfdp_receiver.specs.declared.receiver.NotWritten.{NotWritten}
 use Rattle.cfdp_receiver.specs.declared.receiver.NotWritten.TheVariants.{NoMore, TooShort}
 use Rattle.cfdp_receiver.specs.declared.mib.Mib.{Mib}
-use Rattle.cfdp_receiver.specs.Machine.{AnswerParts, MachineFields, finished_for, listed}
-use Rattle.cfdp_receiver.specs.code.Machine.{sequence_of}
+use Rattle.cfdp_receiver.specs.StateMachine.{AnswerParts, StateMachineFields, finished_for, listed}
+use Rattle.cfdp_receiver.specs.code.StateMachine.{sequence_of}
 use Rattle.cfdp_receiver.specs.Sent.{IsNotWritten, as_sent, pdus_of, sealed_or}
 use Rattle.cfdp_receiver.specs.code.Sent.{after_ack, nak_octets}
 use Rattle.cfdp_pdus.proofs.CanonicalSteps.{fss_small}
@@ -216,13 +216,14 @@ put_is octets old new None (Err why) found is fits len written unchanged ok err 
 regrouped : (a b c d : List (List ℕ)) → ((a ++ b) ++ c) ++ d ≡ a ++ (b ++ (c ++ d))
 regrouped a b c d = simp append_assoc
 
-by_parts : (M : MachineFields) (a : AnswerParts) → pdus_of M a ≡ map (λ (x : Header × Ack). ack_pdu x.0 x.1) a.acks ++ after_ack M a
+by_parts : (M : StateMachineFields) (a : AnswerParts) → pdus_of M a ≡ map (λ (x : Header × Ack). ack_pdu x.0 x.1) a.acks ++ after_ack M a
 by_parts M a =
     regrouped (map (λ (x : Header × Ack). ack_pdu x.0 x.1) a.acks) (map nak_octets a.naks)
     (map (λ (x : Header × KeepAlive). keep_alive_pdu x.0 x.1) a.keep_alives) (map (finished_for M) a.finished)
 
 -- where the ACK PDU is there, those after it
-pub put_next : (M : MachineFields) (a : AnswerParts) (acks : Option (Header × Ack)) (x : Header × Ack) (number : ℕ) → a.acks ≡ listed acks → acks ≡ Some x →
+pub put_next : (M : StateMachineFields) (a : AnswerParts) (acks : Option (Header × Ack)) (x : Header × Ack) (number : ℕ) → a.acks ≡ listed acks → acks ≡ Some x
+    →
     1 ≤ number → slice_get (pdus_of M a) number ≡ slice_get (after_ack M a) (number - 1)
 put_next M a acks x number view is later =
     ap (λ (xs : List (List ℕ)). slice_get xs number) (by_parts M a)

@@ -17,7 +17,7 @@ use Rattle.cfdp_sessions.specs.Sessions.{SessionFields}
 use Rattle.cfdp_transactions.specs.World.{World}
 use Rattle.cfdp_receiver.specs.declared.mib.Handler.{Handler}
 use Rattle.cfdp_receiver.specs.declared.mib.Mib.{Mib}
-use Rattle.cfdp_receiver.specs.State.{State, At, At_held, At_receiving, At_awaiting, At_executing, At_over, At_waiting, at_of}
+use Rattle.cfdp_receiver.specs.State.{State, JointPhase, At_held, At_receiving, At_awaiting, At_executing, At_over, At_waiting, at_of}
 
 -- of every management information base that was checked
 pub record IsSet (mib : Mib) : Type 0 where
@@ -31,7 +31,7 @@ pub record IsSet (mib : Mib) : Type 0 where
 abbrev pub check_limit : ℕ → ℕ → Timer → ℕ
 check_limit checks made timer = if nat_le checks (made + 1) then timer.count + 1 else timer.count + 2
 
-abbrev pub terms_at : Mib → ℕ → Bool → Timer → At → Option (ℕ × ℕ)
+abbrev pub terms_at : Mib → ℕ → Bool → Timer → JointPhase → Option (ℕ × ℕ)
 terms_at mib checks acknowledged timer At_held = Some (mib.nak.interval, mib.nak.limit)
 terms_at mib checks acknowledged timer At_receiving = Some (mib.inactivity.interval, 1)
 terms_at mib checks true timer (At_awaiting made) = Some (mib.nak.interval, mib.nak.limit)
@@ -48,7 +48,7 @@ abbrev pub expiry_of : State → SessionFields → Expiry
 expiry_of R s = expiry_by R.now s.timer (terms_at R.mib R.world.config.checks s.header.acknowledged s.timer
     (at_of R.world s))
 
-abbrev pub is_receiving_at : At → Bool
+abbrev pub is_receiving_at : JointPhase → Bool
 is_receiving_at At_receiving = true
 is_receiving_at at = false
 
@@ -75,7 +75,7 @@ abbrev pub first_due : State → List SessionFields → Due
 first_due R [] = Nothing_due
 first_due R (s ∷ ss) = due_by (expiry_of R s) (is_alive_due R s) s (first_due R ss)
 
-abbrev pub is_over : At → Bool
+abbrev pub is_over : JointPhase → Bool
 is_over At_over = true
 is_over at = false
 
@@ -83,13 +83,13 @@ abbrev pub first_over : World → List SessionFields → Option SessionFields
 first_over W [] = None
 first_over W (s ∷ ss) = if is_over (at_of W s) then Some s else first_over W ss
 
-abbrev pub fault_at : Bool → At → ℕ
+abbrev pub fault_at : Bool → JointPhase → ℕ
 fault_at acknowledged At_receiving = inactivity_detected
 fault_at acknowledged At_waiting = positive_ack_limit_reached
 fault_at false (At_awaiting made) = check_limit_reached
 fault_at acknowledged at = nak_limit_reached
 
-abbrev pub handler_at : Mib → Bool → At → Handler
+abbrev pub handler_at : Mib → Bool → JointPhase → Handler
 handler_at mib acknowledged At_receiving = mib.inactivity.at_limit
 handler_at mib acknowledged At_waiting = mib.ack.at_limit
 handler_at mib false (At_awaiting made) = mib.check.at_limit

@@ -15,7 +15,7 @@ use Rattle.cfdp_transactions.specs.declared.event.Event.TheVariants.{Metadata as
 use Rattle.cfdp_transactions.specs.World.{next_runnable}
 use Rattle.cfdp_receiver.specs.declared.mib.Handler.{Handler}
 use Rattle.cfdp_receiver.specs.declared.mib.Handler.TheVariants as handlers
-use Rattle.cfdp_receiver.specs.State.{State, Input, MetadataPdu, DataPdu, EofPdu, AckPdu, PromptPdu, OtherPdu, Expire, Work, Finish, CancelAsked, ForgetAsked, now_of, session_of, is_closed, is_full, At, At_awaiting, at_of}
+use Rattle.cfdp_receiver.specs.State.{State, Input, MetadataPdu, DataPdu, EofPdu, AckPdu, PromptPdu, OtherPdu, Expire, Work, Finish, CancelAsked, ForgetAsked, now_of, session_of, is_closed, is_full, JointPhase, At_awaiting, at_of}
 use Rattle.cfdp_receiver.specs.Due.{Due, Nothing_due, Stage_due, Alive_due, first_due, first_over, handler_at}
 
 abbrev pub is_ours : State → Header → Bool
@@ -45,7 +45,7 @@ of_session None events = []
 of_session (Some s) events = where_known s.stage events
 
 -- in unacknowledged mode the core looks whether the file is whole
-abbrev pub makes_checks : Bool → At → Bool
+abbrev pub makes_checks : Bool → JointPhase → Bool
 makes_checks false (At_awaiting made) = true
 makes_checks acknowledged at = false
 

@@ -3,7 +3,7 @@ pub mod Due
 pub mod Handing
 pub mod Turning
 pub mod Laws
-pub mod Machine
+pub mod StateMachine
 pub mod Heard
 pub mod Sent
 pub mod code

@@ -9,9 +9,9 @@ use Rattle.cfdp_directives.specs.Spelling.{ack_pdu, nak_pdu, keep_alive_pdu}
 use Rattle.cfdp_receiver.specs.declared.mib.Mib.{Mib}
 use Rattle.cfdp_receiver.specs.declared.receiver.NotWritten.{NotWritten}
 use Rattle.cfdp_receiver.specs.declared.receiver.NotWritten.TheVariants as not_written
-use Rattle.cfdp_receiver.specs.Machine.{MachineFields, AnswerParts, finished_for}
+use Rattle.cfdp_receiver.specs.StateMachine.{StateMachineFields, AnswerParts, finished_for}
 
-abbrev pub pdus_of : MachineFields → AnswerParts → List (List ℕ)
+abbrev pub pdus_of : StateMachineFields → AnswerParts → List (List ℕ)
 pdus_of M a =
     map (λ ack. ack_pdu ack.0 ack.1) a.acks
     ++ map (λ nak. nak_pdu nak.header nak.scope nak.requests) a.naks

@@ -7,7 +7,7 @@
 --     session_of R id           the session of this name, if there is one
 --     is_closed R id            the name is one of those closed last
 --     is_full R                 there are 64 sessions
---     At, at_of W s             how far a transaction is, by its session and the core
+--     JointPhase, at_of W s     how far a transaction is, by its session and the core
 --     status_of R id            what an ACK PDU says of the transaction (§5.2.4)
 --     turned_header h           the header of a PDU that is sent: toward the sender, all else as in the PDU that came
 use Rattle.std.specs.Prelude.{ℕ, Bool, true, false, nat_le, List, [], length, Option, Some, None}
@@ -29,8 +29,8 @@ use Rattle.cfdp_transactions.specs.declared.phase.Phase.{Phase}
 use Rattle.cfdp_transactions.specs.declared.phase.Phase.TheVariants.{Receiving, Awaiting, Executing, Refused, Done, Ended}
 use Rattle.cfdp_transactions.specs.Entry.{Entry}
 use Rattle.cfdp_transactions.specs.World.{World, entry_of}
-pub use Rattle.cfdp_receiver.specs.declared.at.At.{At}
-pub use Rattle.cfdp_receiver.specs.declared.at.At.TheVariants.{Held as At_held, Receiving as At_receiving, Awaiting as At_awaiting, Executing as At_executing, Over as At_over, Waiting as At_waiting}
+pub use Rattle.cfdp_receiver.specs.declared.joint_phase.JointPhase.{JointPhase}
+pub use Rattle.cfdp_receiver.specs.declared.joint_phase.JointPhase.TheVariants.{Held as At_held, Receiving as At_receiving, Awaiting as At_awaiting, Executing as At_executing, Over as At_over, Waiting as At_waiting}
 use Rattle.cfdp_receiver.specs.declared.answer.Became.{Became}
 use Rattle.cfdp_receiver.specs.declared.answer.Indication.{Indication}
 use Rattle.cfdp_receiver.specs.declared.mib.Mib.{Mib}
@@ -92,7 +92,7 @@ is_closed R id = remembers R.closed id
 abbrev pub is_full : State → Bool
 is_full R = nat_le 64 (length R.sessions)
 
-abbrev pub at_phase : Phase → At
+abbrev pub at_phase : Phase → JointPhase
 at_phase Receiving = At_receiving
 at_phase (Awaiting checks) = At_awaiting checks
 at_phase (Executing next) = At_executing
@@ -100,17 +100,17 @@ at_phase Refused = At_over
 at_phase Done = At_over
 at_phase (Ended condition) = At_over
 
-abbrev pub at_entry : Option Entry → At
+abbrev pub at_entry : Option Entry → JointPhase
 at_entry None = At_over
 at_entry (Some e) = at_phase e.phase
 
-abbrev pub at_stage : Stage → Option Entry → At
+abbrev pub at_stage : Stage → Option Entry → JointPhase
 at_stage (Held eof) entry = At_held
 at_stage Known entry = at_entry entry
 at_stage (Over ending) entry = At_over
 at_stage Waiting entry = At_waiting
 
-abbrev pub at_of : World → SessionFields → At
+abbrev pub at_of : World → SessionFields → JointPhase
 at_of W s = at_stage s.stage (entry_of W (session_id s))
 
 -- without a session: closed and remembered;  some name was forgotten

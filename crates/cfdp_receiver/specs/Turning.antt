@@ -51,7 +51,7 @@ use Rattle.cfdp_receiver.specs.declared.mib.Handler.TheVariants as handlers
 use Rattle.cfdp_receiver.specs.declared.mib.Mib.{Mib}
 use Rattle.cfdp_receiver.specs.declared.mib.NakMode.{NakMode}
 use Rattle.cfdp_receiver.specs.declared.mib.NakMode.TheVariants as modes
-use Rattle.cfdp_receiver.specs.State.{State, Input, MetadataPdu, DataPdu, EofPdu, AckPdu, PromptPdu, OtherPdu, Expire, Work, Finish, CancelAsked, ForgetAsked, now_of, AnswerFields, session_of, is_closed, is_full, At, At_held, At_receiving, At_awaiting, At_waiting, at_of, status_of, turned_header}
+use Rattle.cfdp_receiver.specs.State.{State, Input, MetadataPdu, DataPdu, EofPdu, AckPdu, PromptPdu, OtherPdu, Expire, Work, Finish, CancelAsked, ForgetAsked, now_of, AnswerFields, session_of, is_closed, is_full, JointPhase, At_held, At_receiving, At_awaiting, At_waiting, at_of, status_of, turned_header}
 use Rattle.cfdp_receiver.specs.Due.{Due, Nothing_due, Stage_due, Alive_due, first_due, first_over, fault_at, handler_at, is_receiving_at}
 use Rattle.cfdp_receiver.specs.Handing.{is_ours, later, handed}
 
@@ -128,7 +128,7 @@ asks_stage mib h low Waiting entry = []
 abbrev pub asks : Mib → World → SessionFields → List NakFields
 asks mib V s = asks_stage mib s.header 0 s.stage (entry_of V (session_id s))
 
-abbrev pub is_awaiting_at : At → Bool
+abbrev pub is_awaiting_at : JointPhase → Bool
 is_awaiting_at (At_awaiting made) = true
 is_awaiting_at at = false
 
@@ -318,7 +318,7 @@ abbrev pub ack_parts : State → Header → Ack → Option SessionFields → Par
 ack_parts R h ack None = keeps R (said_of_header h words.Idle)
 ack_parts R h ack (Some s) = ack_stage R h ack s s.stage
 
-abbrev pub takes_prompts : At → Bool
+abbrev pub takes_prompts : JointPhase → Bool
 takes_prompts At_held = true
 takes_prompts At_receiving = true
 takes_prompts (At_awaiting made) = true
@@ -346,7 +346,7 @@ prompt_parts R h prompt (Some s) =
 -- ---- timers
 
 -- below the limit: Finished again, or a NAK sequence in acknowledged mode
-abbrev pub repeats : State → World → SessionFields → At → AnswerFields
+abbrev pub repeats : State → World → SessionFields → JointPhase → AnswerFields
 repeats R V s At_waiting = record (said_word s words.Expired) { finished = s.finished ∷ [] }
 repeats R V s at = if s.header.acknowledged then record (said_word s words.Expired) { naks = asks R.mib V s }
     else said_word s words.Expired
@@ -370,7 +370,7 @@ over_here R s condition = record s {
   });
 }
 
-abbrev pub gives_up : State → SessionFields → ℕ → Handler → At → Parts
+abbrev pub gives_up : State → SessionFields → ℕ → Handler → JointPhase → Parts
 gives_up R s condition handlers.Ignore at = replaces_one R (record s { timer = restarted R.now })
     (fault_told s condition words.Ignored)
 gives_up R s condition handlers.Cancel At_waiting = closes R (session_id s) (fault_told s condition words.Faulted)

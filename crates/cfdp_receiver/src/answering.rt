@@ -4,8 +4,8 @@ ghost use Rattle.std.specs.Prelude.{◌≡◌, ◌∷◌, [], ◌<◌, ◌^◌, 
 ghost use Rattle.cfdp_pdus.specs.Bits.{fss};
 ghost use Rattle.cfdp_pdus.specs.Canonical.{IsHeader};
 ghost use Rattle.cfdp_directives.specs.Spelling.{IsSizedAck};
-ghost use Rattle.cfdp_receiver.specs.Machine.{listed};
-ghost use Rattle.cfdp_receiver.specs.code.Machine.{all_naks, silent};
+ghost use Rattle.cfdp_receiver.specs.StateMachine.{listed};
+ghost use Rattle.cfdp_receiver.specs.code.StateMachine.{all_naks, silent};
 ghost use Rattle.cfdp_receiver.specs.State.{turned_header};
 ghost use Rattle.cfdp_receiver.specs.declared.answer.Became.TheVariants.{Nothing, Said, Replied};
 
@@ -31,7 +31,7 @@ pub struct NakSequence {
 impl Model for NakSequence {
     ghost use Rattle.std.specs.Prelude.{List};
     ghost use Rattle.cfdp_directives.specs.Reading.{NakFields};
-    ghost use Rattle.cfdp_receiver.specs.code.Machine.{IsAsking, sequence_of};
+    ghost use Rattle.cfdp_receiver.specs.code.StateMachine.{IsAsking, sequence_of};
 
     ghost Value = { List NakFields };
 
@@ -55,8 +55,8 @@ pub struct Answer {
 }
 
 impl Model for Answer {
-    ghost use Rattle.cfdp_receiver.specs.Machine.{AnswerParts, listed};
-    ghost use Rattle.cfdp_receiver.specs.code.Machine.{IsSendable, all_naks};
+    ghost use Rattle.cfdp_receiver.specs.StateMachine.{AnswerParts, listed};
+    ghost use Rattle.cfdp_receiver.specs.code.StateMachine.{IsSendable, all_naks};
 
     ghost Value = { AnswerParts };
 
@@ -81,8 +81,8 @@ pub(crate) struct Unsent {
 }
 
 impl Model for Unsent {
-    ghost use Rattle.cfdp_receiver.specs.Machine.{AnswerParts, listed};
-    ghost use Rattle.cfdp_receiver.specs.code.Machine.{silent};
+    ghost use Rattle.cfdp_receiver.specs.StateMachine.{AnswerParts, listed};
+    ghost use Rattle.cfdp_receiver.specs.code.StateMachine.{silent};
 
     ghost Value = { AnswerParts };
 

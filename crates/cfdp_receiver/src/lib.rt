@@ -10,21 +10,21 @@
 
 mod answer;
 mod answering;
-mod at;
-mod coming;
-mod concluded;
+mod incoming_pdus;
+mod joint_phase;
+mod last_finished;
 pub mod laws;
-mod machine;
 mod mib;
 mod outcomes;
 mod reading;
 mod receiver;
+mod state_machine;
 mod timing;
 mod writing;
 
 pub use answer::{Became, Conclusion, Described, Indication, Word};
 pub use answering::{Answer, NakSequence};
-pub use at::At;
+pub use joint_phase::JointPhase;
 pub use mib::{Handler, Mib, MibFault, NakMode, Retries, Watch};
 pub use reading::Dropped;
 pub use receiver::{NotMade, NotWritten, Receiver};

@@ -1,7 +1,7 @@
 //! What is left to the management of a receiving entity.
 
 ghost use Rattle.std.specs.Prelude.{◌≡◌, ◌≤◌, IfNone};
-ghost use Rattle.cfdp_receiver.specs.Machine.{IsMib, mib_fault};
+ghost use Rattle.cfdp_receiver.specs.StateMachine.{IsMib, mib_fault};
 ghost use Rattle.cfdp_receiver.specs.Turning.{most_nak_requests};
 
 /// What is done at a fault (CCSDS 727.0-B-5, the fault handling procedures).

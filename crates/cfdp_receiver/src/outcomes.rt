@@ -7,14 +7,14 @@ ghost use Rattle.cfdp_transactions.specs.Writable.{IsWritable, finished_octets, 
 ghost use Rattle.cfdp_receiver.specs.State.{CancelAsked, Finish, ForgetAsked, Work};
 ghost use Rattle.cfdp_receiver.specs.Due.{first_over};
 ghost use Rattle.cfdp_receiver.specs.Laws.{AreKnown};
-ghost use Rattle.cfdp_receiver.specs.Machine.{finished_for};
-ghost use Rattle.cfdp_receiver.specs.code.Machine.{AtIndex, Concludes, Turns, at_moment};
+ghost use Rattle.cfdp_receiver.specs.StateMachine.{finished_for};
+ghost use Rattle.cfdp_receiver.specs.code.StateMachine.{AtIndex, Concludes, Turns, at_moment};
 ghost use Rattle.cfdp_receiver.specs.Turning.{conclusion_of, stage_outcome};
 
 use crate::answering::{Answer, turned};
-use crate::concluded::Concluded;
-use crate::machine::Machine;
-use crate::{At, Conclusion, Indication, Word};
+use crate::last_finished::LastFinished;
+use crate::state_machine::StateMachine;
+use crate::{Conclusion, Indication, JointPhase, Word};
 use cfdp_pdus::Finished;
 use cfdp_pdus::condition::CANCEL_REQUEST_RECEIVED;
 use cfdp_pdus::file_status::UNREPORTED;
@@ -54,7 +54,7 @@ fn conclusion_of(outcome: &Outcome) -> Conclusion
     }
 }
 
-impl Machine {
+impl StateMachine {
     /// The next item of the first transaction that has one is performed (CCSDS 727.0-B-5, the procedures at the
     /// receiving entity).
     pub(crate) fn work(&mut self) -> Answer
@@ -75,7 +75,7 @@ impl Machine {
         ensures none { IfNone result (first_over self.now.state.world self.now.state.sessions ≡ None) }
     {
         for index in 0..self.sessions.len() {
-            if self.at(self.session(index)) == At::Over {
+            if self.at(self.session(index)) == JointPhase::Over {
                 return Some(index);
             }
         }
@@ -172,7 +172,7 @@ impl Machine {
                 .with_indication(told);
         }
         self.close(index, id);
-        self.concluded = Concluded::of(octets);
+        self.last_finished = LastFinished::of(octets);
         Answer::said(id, Word::Closed)
             .with_finished(id)
             .with_indication(told)
@@ -186,7 +186,7 @@ impl Machine {
     {
         match self.sessions.find(id) {
             Some(index) => &self.session(index).finished,
-            None => self.concluded.octets(),
+            None => self.last_finished.octets(),
         }
     }
 

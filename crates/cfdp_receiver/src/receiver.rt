@@ -19,14 +19,14 @@ ghost use Rattle.cfdp_receiver.specs.State.{AckPdu, CancelAsked, DataPdu, EofPdu
 ghost use Rattle.cfdp_receiver.specs.Due.{IsSet, first_due, first_over};
 ghost use Rattle.cfdp_receiver.specs.Laws.{AreKnown, EndsThere};
 ghost use Rattle.cfdp_receiver.specs.Heard.{IsDropped, IsUnread, heard, input_at};
-ghost use Rattle.cfdp_receiver.specs.Machine.{IsNotMade, answer_in, mib_fault, has_come, is_any_due};
-ghost use Rattle.cfdp_receiver.specs.code.Machine.{AtIndex, IsInOrder, IsWholeReceiver};
+ghost use Rattle.cfdp_receiver.specs.StateMachine.{IsNotMade, answer_in, mib_fault, has_come, is_any_due};
+ghost use Rattle.cfdp_receiver.specs.code.StateMachine.{AtIndex, IsInOrder, IsWholeReceiver};
 ghost use Rattle.cfdp_receiver.specs.Sent.{IsNotWritten, as_sent, crc_len, longest_sealed, pdus_of};
 ghost use Rattle.cfdp_receiver.specs.Turning.{after_input, most_nak_requests, turn};
 
 use crate::answering::{Answer, Unsent};
-use crate::machine::Machine;
 use crate::reading::{Directed, Dropped, read_data, read_directed};
+use crate::state_machine::StateMachine;
 use crate::{Mib, MibFault};
 use cfdp_crc::{seal, unseal};
 use cfdp_directives::{Ack, Prompt, TransactionStatus};
@@ -71,16 +71,16 @@ pub enum NotWritten {
 /// ([`Receiver::whole`]).
 #[derive(Drop)]
 pub struct Receiver {
-    machine: Machine,
+    machine: StateMachine,
 }
 
 impl Model for Receiver {
     ghost use Rattle.std.specs.Coded.{codes};
-    ghost use Rattle.cfdp_transactions.specs.code.Engine.{nodes_code};
-    ghost use Rattle.cfdp_receiver.specs.Machine.{MachineFields};
-    ghost use Rattle.cfdp_receiver.specs.code.Machine.{IsWholeReceiver};
+    ghost use Rattle.cfdp_transactions.specs.code.CoreFields.{nodes_code};
+    ghost use Rattle.cfdp_receiver.specs.StateMachine.{StateMachineFields};
+    ghost use Rattle.cfdp_receiver.specs.code.StateMachine.{IsWholeReceiver};
 
-    ghost Value = { MachineFields };
+    ghost Value = { StateMachineFields };
 
     ghost coded = { Prim.hlevel (codes, nodes_code) };
 
@@ -111,7 +111,7 @@ impl Receiver {
         if entity.core().transaction_at(0).is_some() {
             return Err(NotMade::HasTransactions);
         }
-        match Machine::new(alloc, mib, entity) {
+        match StateMachine::new(alloc, mib, entity) {
             Ok(machine) => Ok(Receiver { machine }),
             Err(_) => Err(NotMade::Memory),
         }

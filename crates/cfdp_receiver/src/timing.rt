@@ -9,13 +9,13 @@ ghost use Rattle.cfdp_receiver.specs.declared.mib.Handler.TheVariants.{Ignore, C
 ghost use Rattle.cfdp_receiver.specs.State.{At_awaiting, Expire, at_of};
 ghost use Rattle.cfdp_receiver.specs.Due.{Alive_due, Stage_due, expiry_by, expiry_of, fault_at, first_due, handler_at, is_alive_due, terms_at};
 ghost use Rattle.cfdp_receiver.specs.Handing.{due_events, where_known};
-ghost use Rattle.cfdp_receiver.specs.Machine.{has_come, is_any_due};
-ghost use Rattle.cfdp_receiver.specs.code.Machine.{AtIndex, Turns, in_world, is_expired, is_within, timer_in};
+ghost use Rattle.cfdp_receiver.specs.StateMachine.{has_come, is_any_due};
+ghost use Rattle.cfdp_receiver.specs.code.StateMachine.{AtIndex, Turns, in_world, is_expired, is_within, timer_in};
 ghost use Rattle.cfdp_receiver.specs.Turning.{over_here};
 
 use crate::answering::{Answer, turned};
-use crate::machine::Machine;
-use crate::{At, Handler, Indication, Word};
+use crate::state_machine::StateMachine;
+use crate::{Handler, Indication, JointPhase, Word};
 use cfdp_pdus::condition::{
     CHECK_LIMIT_REACHED, INACTIVITY_DETECTED, NAK_LIMIT_REACHED, POSITIVE_ACK_LIMIT_REACHED,
 };
@@ -35,21 +35,21 @@ pub(crate) enum DueTimer {
     KeepAlive(usize),
 }
 
-impl Machine {
+impl StateMachine {
     /// Whether the timer of a session's stage has expired.
     pub(crate) fn expiry(&self, session: &Session) -> Expiry
         ensures { result ≡ expiry_of self.now.state session.now }
     {
         let timer = session.timer;
         match self.at(session) {
-            At::Held => self.nak_expiry(timer),
-            At::Receiving => {
+            JointPhase::Held => self.nak_expiry(timer),
+            JointPhase::Receiving => {
                 timer.expiry(u64::from(self.mib.inactivity.interval), 1, self.latest)
             }
-            At::Awaiting(_) if session.header.acknowledged => self.nak_expiry(timer),
-            At::Awaiting(made) => self.check_expiry(timer, made),
-            At::Executing | At::Over => Expiry::NotDue,
-            At::Waiting => timer.expiry(
+            JointPhase::Awaiting(_) if session.header.acknowledged => self.nak_expiry(timer),
+            JointPhase::Awaiting(made) => self.check_expiry(timer, made),
+            JointPhase::Executing | JointPhase::Over => Expiry::NotDue,
+            JointPhase::Waiting => timer.expiry(
                 u64::from(self.mib.ack.interval),
                 u64::from(self.mib.ack.limit),
                 self.latest,
@@ -91,7 +91,7 @@ impl Machine {
             return false;
         };
         session.header.acknowledged
-            && self.at(session) == At::Receiving
+            && self.at(session) == JointPhase::Receiving
             && match self.latest.checked_sub(session.alive_at) {
                 Some(elapsed) => elapsed >= u64::from(interval),
                 None => false,
@@ -104,12 +104,12 @@ impl Machine {
             session.now.header.acknowledged session.now.timer (at_of self.now.state.world session.now)) }
     {
         match self.at(session) {
-            At::Held => Some(self.mib.nak.interval),
-            At::Receiving => Some(self.mib.inactivity.interval),
-            At::Awaiting(_) if session.header.acknowledged => Some(self.mib.nak.interval),
-            At::Awaiting(_) => Some(self.mib.check.interval),
-            At::Executing | At::Over => None,
-            At::Waiting => Some(self.mib.ack.interval),
+            JointPhase::Held => Some(self.mib.nak.interval),
+            JointPhase::Receiving => Some(self.mib.inactivity.interval),
+            JointPhase::Awaiting(_) if session.header.acknowledged => Some(self.mib.nak.interval),
+            JointPhase::Awaiting(_) => Some(self.mib.check.interval),
+            JointPhase::Executing | JointPhase::Over => None,
+            JointPhase::Waiting => Some(self.mib.ack.interval),
         }
     }
 
@@ -129,7 +129,7 @@ impl Machine {
             ≡ is_alive_due (record self.now.state { now = now }) session.now }
     {
         let interval = self.mib.keep_alive?;
-        if !session.header.acknowledged || self.at(session) != At::Receiving {
+        if !session.header.acknowledged || self.at(session) != JointPhase::Receiving {
             return None;
         }
         session.alive_at.checked_add(u64::from(interval))
@@ -174,11 +174,11 @@ impl Machine {
     {
         let mut earliest = None;
         for session in self.sessions.as_slice() {
-            let moment = Machine::earlier(
+            let moment = StateMachine::earlier(
                 self.stage_deadline(session),
                 self.alive_deadline(session),
             );
-            earliest = Machine::earlier(earliest, moment);
+            earliest = StateMachine::earlier(earliest, moment);
         }
         earliest
     }
@@ -227,7 +227,7 @@ impl Machine {
         self.hand_check(index);
         self.sessions.set_timer(index, timer);
         let answer = Answer::said(id, Word::Expired);
-        if at == At::Waiting {
+        if at == JointPhase::Waiting {
             answer.with_finished(id)
         } else if acknowledged {
             answer.with_naks(self.asks(self.session(index)))
@@ -243,22 +243,25 @@ impl Machine {
             ≡ in_world (run self.old.state.world (due_events self.old.state (Stage_due s false))) self.old) }
     {
         let session = self.session(index);
-        if let (At::Awaiting(_), false) = (self.at(session), session.header.acknowledged) {
+        if let (JointPhase::Awaiting(_), false) = (self.at(session), session.header.acknowledged) {
             let id = session.name();
             self.entity.check(id);
         }
     }
 
     /// What is done at the limit of a timer (CCSDS 727.0-B-5, the fault handling procedures), and the condition code.
-    fn fault(&self, acknowledged: bool, at: At) -> (u8, Handler)
+    fn fault(&self, acknowledged: bool, at: JointPhase) -> (u8, Handler)
         ensures condition { result.0 ≡ fault_at acknowledged at }
         ensures small { result.0 < 16 }
         ensures handler { result.1 ≡ handler_at self.now.state.mib acknowledged at }
     {
         match at {
-            At::Receiving => (INACTIVITY_DETECTED, self.mib.inactivity.at_limit),
-            At::Waiting => (POSITIVE_ACK_LIMIT_REACHED, self.mib.ack.at_limit),
-            At::Awaiting(_) if !acknowledged => (CHECK_LIMIT_REACHED, self.mib.check.at_limit),
+            JointPhase::Receiving => (INACTIVITY_DETECTED, self.mib.inactivity.at_limit),
+            JointPhase::Waiting => (POSITIVE_ACK_LIMIT_REACHED, self.mib.ack.at_limit),
+            JointPhase::Awaiting(_) if !acknowledged => (
+                CHECK_LIMIT_REACHED,
+                self.mib.check.at_limit,
+            ),
             _ => (NAK_LIMIT_REACHED, self.mib.nak.at_limit),
         }
     }
@@ -298,7 +301,7 @@ impl Machine {
     }
 
     /// A fault cancels the transaction. One whose Finished PDU is not acknowledged is closed.
-    fn cancels(&mut self, index: usize, at: At, condition: u8) -> Answer
+    fn cancels(&mut self, index: usize, at: JointPhase, condition: u8) -> Answer
         requires here { index < length self.old.state.sessions }
         requires due { AtIndex self.old.state.sessions index (λ s. first_due self.old.state self.old.state.sessions
             ≡ Stage_due s true) }
@@ -312,14 +315,14 @@ impl Machine {
         let session = self.session(index);
         let id = session.name();
         match at {
-            At::Waiting => {
+            JointPhase::Waiting => {
                 self.close(index, id);
                 return Answer::said(id, Word::Faulted).with_indication(Some(Indication::Fault(
                     id, condition,
                 )));
             }
-            At::Held => self.ends_here(index, condition),
-            At::Awaiting(_) if !session.header.acknowledged => {
+            JointPhase::Held => self.ends_here(index, condition),
+            JointPhase::Awaiting(_) if !session.header.acknowledged => {
                 self.entity.check(id);
                 self.sessions.set_cause(index, condition);
             }
@@ -332,7 +335,7 @@ impl Machine {
     }
 
     /// A fault abandons the transaction: nothing more is sent.
-    fn abandons(&mut self, index: usize, at: At, condition: u8) -> Answer
+    fn abandons(&mut self, index: usize, at: JointPhase, condition: u8) -> Answer
         requires here { index < length self.old.state.sessions }
         requires due { AtIndex self.old.state.sessions index (λ s. first_due self.old.state self.old.state.sessions
             ≡ Stage_due s true) }
@@ -345,7 +348,7 @@ impl Machine {
     {
         let id = self.session(index).name();
         match at {
-            At::Waiting | At::Held => self.close(index, id),
+            JointPhase::Waiting | JointPhase::Held => self.close(index, id),
             _ => {
                 self.hand_cancel(index);
                 self.sessions.abandon(index);

@@ -2,7 +2,7 @@
 
 ghost use Rattle.std.specs.Prelude.{◌≡◌, ◌≤◌, drop, length, map, slice_get, take, IfErr, IfOk, OnErr, None, Some};
 ghost use Rattle.std.specs.Option.{option_map};
-ghost use Rattle.cfdp_receiver.specs.Machine.{MachineFields, finished_for};
+ghost use Rattle.cfdp_receiver.specs.StateMachine.{StateMachineFields, finished_for};
 ghost use Rattle.cfdp_receiver.specs.declared.receiver.NotWritten.TheVariants.{NoMore, TooShort};
 ghost use Rattle.cfdp_receiver.specs.Sent.{IsNotWritten, pdus_of};
 ghost use Rattle.cfdp_receiver.specs.code.Sent.{after_ack, after_naks, nak_octets};
@@ -11,7 +11,7 @@ ghost use Rattle.cfdp_transactions.specs.Writable.{longest_finished};
 
 use crate::NotWritten;
 use crate::answering::{Answer, NakSequence};
-use crate::machine::Machine;
+use crate::state_machine::StateMachine;
 use cfdp_directives::{Range, put_ack, put_keep_alive, put_nak};
 use cfdp_retransmission::{NakPart, next_nak};
 
@@ -73,7 +73,7 @@ impl NakSequence {
 impl Answer {
     /// How many PDUs it has, 36 at most: one ACK PDU, 33 NAK PDUs, one Keep Alive PDU and one Finished PDU.
     pub fn pdu_count(&self) -> usize
-        ensures value { (M : MachineFields) → result ≡ length (pdus_of M self.now) }
+        ensures value { (M : StateMachineFields) → result ≡ length (pdus_of M self.now) }
         ensures few { result ≤ 36 }
     {
         usize::from(self.ack.is_some())
@@ -86,7 +86,7 @@ impl Answer {
     }
 }
 
-impl Machine {
+impl StateMachine {
     /// Writes the PDU with this number of an answer, without a CRC.
     pub(crate) fn put(
         &self,

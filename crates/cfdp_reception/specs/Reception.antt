@@ -5,16 +5,16 @@
 --     pdus_in S                 the PDUs of the last answer, in order, without a CRC
 use Rattle.std.specs.Prelude.{◌≡◌, ℕ, List, [], Option, Some, None, Ok}
 use Rattle.cfdp_receiver.specs.Heard.{heard}
-use Rattle.cfdp_receiver.specs.Machine.{AnswerParts, MachineFields, answer_in}
+use Rattle.cfdp_receiver.specs.StateMachine.{AnswerParts, StateMachineFields, answer_in}
 use Rattle.cfdp_receiver.specs.Sent.{pdus_of}
 use Rattle.cfdp_receiver.specs.State.{Input, State}
 use Rattle.cfdp_receiver.specs.Turning.{turn}
 
 pub record ReceptionFields : Type 0 where
-  pub machine : MachineFields
+  pub machine : StateMachineFields
   pub answer : Option AnswerParts
 
-abbrev pub TurnsTo : State → Input → MachineFields → Option AnswerParts → Type 0
+abbrev pub TurnsTo : State → Input → StateMachineFields → Option AnswerParts → Type 0
 TurnsTo R input M None = ⊥
 TurnsTo R input M (Some a) = turn R input ≡ (M.state, answer_in M a)
 
@@ -24,7 +24,7 @@ Turned S T input = TurnsTo S.machine.state input T.machine T.answer
 abbrev pub Hears : ℕ → List ℕ → ReceptionFields → ReceptionFields → Type 0
 Hears now octets S T = (input : Input) × (heard now octets ≡ Ok input) × Turned S T input
 
-abbrev pub pdus_by : MachineFields → Option AnswerParts → List (List ℕ)
+abbrev pub pdus_by : StateMachineFields → Option AnswerParts → List (List ℕ)
 pdus_by M None = []
 pdus_by M (Some a) = pdus_of M a
 

@@ -3,7 +3,7 @@
 ghost use Rattle.std.specs.Prelude.{◌≡◌, ◌≤◌, ◌<◌, ◌^◌, ℕ, List, max, length, drop, take, slice_get, IfErr, IfOk, IsOk, OnErr, OnOk, None, Some};
 ghost use Rattle.cfdp_receiver.specs.Due.{first_due, first_over};
 ghost use Rattle.cfdp_receiver.specs.Heard.{IsDropped};
-ghost use Rattle.cfdp_receiver.specs.Machine.{has_come, is_any_due};
+ghost use Rattle.cfdp_receiver.specs.StateMachine.{has_come, is_any_due};
 ghost use Rattle.cfdp_receiver.specs.Sent.{IsNotWritten, as_sent, crc_len, longest_sealed};
 ghost use Rattle.cfdp_receiver.specs.State.{CancelAsked, Expire, Finish, ForgetAsked, Work};
 ghost use Rattle.cfdp_receiver.specs.declared.receiver.NotWritten.TheVariants.{NoMore};
@@ -26,7 +26,7 @@ pub struct Reception {
 
 impl Model for Reception {
     ghost use Rattle.std.specs.Coded.{codes};
-    ghost use Rattle.cfdp_transactions.specs.code.Engine.{nodes_code};
+    ghost use Rattle.cfdp_transactions.specs.code.CoreFields.{nodes_code};
     ghost use Rattle.cfdp_reception.specs.Reception.{ReceptionFields};
 
     ghost Value = { ReceptionFields };

@@ -1,7 +1,7 @@
 //! All lines of an answer.
 
 ghost use Rattle.std.specs.Prelude.{◌≡◌, ◌≤◌, ◌++◌, length, max, IfErr, OnOk};
-ghost use Rattle.cfdp_receiver.specs.Machine.{answer_in};
+ghost use Rattle.cfdp_receiver.specs.StateMachine.{answer_in};
 ghost use Rattle.cfdp_receiver.specs.Sent.{longest_sealed, pdus_of};
 ghost use Rattle.cfdp_reports.specs.Reports.{answer_text, send_line, send_lines, indication_lines};
 ghost use Rattle.cfdp_reports.specs.declared.answers.NotReported.TheVariants.{Memory};

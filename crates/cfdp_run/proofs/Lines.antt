@@ -2,12 +2,12 @@
 use Rattle.std.proofs.Common.{◌≡◌, ℕ, List, [], ◌∷◌, ◌++◌, Option, Some, None, Err, flat_map, refl, ap, sym, append-nil, arith}
 use Rattle.std.specs.List.{join_with_byte}
 use Rattle.cfdp_lines.proofs.Answering.{NotFew, too_few}
-use Rattle.cfdp_run.specs.declared.commands.Progress.{Progress}
-use Rattle.cfdp_run.specs.declared.words.Word.TheVariants.{Config}
+use Rattle.cfdp_run.specs.declared.commands.HeadProgress.{HeadProgress}
+use Rattle.cfdp_run.specs.declared.words.FirstWord.TheVariants.{Config}
 use Rattle.cfdp_run.specs.declared.wrong.Wrong.TheVariants.{Expected}
 use Rattle.cfdp_run.specs.Commands.{config_in}
 
-pub config_in-none : (how_far : Progress) (numbers : Option (List ℕ)) → NotFew numbers → config_in how_far numbers ≡ Err (Expected Config)
+pub config_in-none : (how_far : HeadProgress) (numbers : Option (List ℕ)) → NotFew numbers → config_in how_far numbers ≡ Err (Expected Config)
 config_in-none how_far None h = refl
 config_in-none how_far (Some []) h = refl
 config_in-none how_far (Some (a ∷ [])) h = refl

@@ -20,7 +20,7 @@ use Rattle.cfdp_transactions.specs.Restart.{put_all, CanPutAll, PutBackIsSame}
 use Rattle.cfdp_transactions.specs.Sound.{Sound}
 use Rattle.cfdp_transactions.specs.World.{World, start}
 use Rattle.cfdp_transactions.specs.Entry.{Entry as Row}
-use Rattle.cfdp_run.specs.code.Remaking.{CanCopy}
+use Rattle.cfdp_run.specs.code.Reconfigured.{CanCopy}
 use Rattle.cfdp_run.proofs.Puts.{put_all-config, can_put_all-config}
 use Rattle.cfdp_uploads.proofs.Found.{each_at}
 

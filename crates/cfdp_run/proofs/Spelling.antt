@@ -3,7 +3,7 @@ use Rattle.std.proofs.Common.{refl}
 use Rattle.cfdp_run.specs.Laws.{KeysAreRead, WordsAreRead}
 use Rattle.cfdp_run.specs.Words.{spelling_of, word_of}
 use Rattle.cfdp_run.specs.declared.settings.Key.TheVariants as key
-use Rattle.cfdp_run.specs.declared.words.Word.TheVariants as word
+use Rattle.cfdp_run.specs.declared.words.FirstWord.TheVariants as word
 
 pub words_read : WordsAreRead
 unfolding spelling_of word_of

@@ -1,6 +1,6 @@
 -- What a line of a script says, by its octets, the settings before it, and how far the head of the script is. Its texts
 -- are its words.
---     Content, LineMeaning      what a file holds that the filestore begins with;  what a line says: a command, with
+--     FileContent, LineMeaning  what a file holds that the filestore begins with;  what a line says: a command, with
 --                               octets as lists
 --     content_of, command_meaning  the same of a value of the program
 --     first_then                something, and then more by it, or what is wrong first
@@ -34,16 +34,16 @@ use Rattle.cfdp_receiver.specs.declared.mib.Mib.{Mib}
 use Rattle.cfdp_run.specs.Settings.{key_of, with_value}
 use Rattle.cfdp_run.specs.Words.{is_of_head, word_of}
 use Rattle.cfdp_run.specs.declared.settings.Key.{Key}
-use Rattle.cfdp_run.specs.declared.words.Word.{Word}
-use Rattle.cfdp_run.specs.declared.words.Word.TheVariants as word
+use Rattle.cfdp_run.specs.declared.words.FirstWord.{FirstWord}
+use Rattle.cfdp_run.specs.declared.words.FirstWord.TheVariants as word
 use Rattle.cfdp_run.specs.declared.wrong.Wrong.{Wrong}
 use Rattle.cfdp_run.specs.declared.wrong.Wrong.TheVariants as wrong
-use Rattle.cfdp_run.specs.declared.commands.Progress.{Progress}
-use Rattle.cfdp_run.specs.declared.commands.Progress.TheVariants as progress
-use Rattle.cfdp_run.specs.declared.commands.Command.{Command}
-use Rattle.cfdp_run.specs.declared.commands.Command.TheVariants as command
-use Rattle.cfdp_run.specs.declared.commands.Content.{Content as ContentValue}
-use Rattle.cfdp_run.specs.declared.commands.Content.TheVariants as content
+use Rattle.cfdp_run.specs.declared.commands.HeadProgress.{HeadProgress}
+use Rattle.cfdp_run.specs.declared.commands.HeadProgress.TheVariants as progress
+use Rattle.cfdp_run.specs.declared.commands.RunCommand.{RunCommand}
+use Rattle.cfdp_run.specs.declared.commands.RunCommand.TheVariants as command
+use Rattle.cfdp_run.specs.declared.commands.FileContent.{FileContent as ContentValue}
+use Rattle.cfdp_run.specs.declared.commands.FileContent.TheVariants as content
 use Rattle.cfdp_run.specs.declared.commands.CommandFault.{CommandFault}
 use Rattle.cfdp_run.specs.declared.commands.CommandFault.TheVariants as fault
 
@@ -74,7 +74,7 @@ content_of content.None = Nothing
 content_of (content.Octets octets) = Octets octets.items
 content_of (content.File name) = File name.now
 
-abbrev pub command_meaning : Command → LineMeaning
+abbrev pub command_meaning : RunCommand → LineMeaning
 command_meaning (command.Settings mib) = Settings mib
 command_meaning (command.Configure config) = Configure config
 command_meaning (command.Protect path) = Protect path
@@ -135,12 +135,12 @@ config_of entity blocks cap checks journal =
     config_ranged (config_fault blocks cap checks journal)
     (record { entity = entity; blocks = blocks; cap = cap; checks = checks; journal = journal; prefixes = [] })
 
-abbrev pub is_fresh : Progress → Bool
+abbrev pub is_fresh : HeadProgress → Bool
 is_fresh progress.Fresh = true
 is_fresh progress.Begun = false
 is_fresh progress.Playing = false
 
-abbrev pub config_in : Progress → Option (List ℕ) → Result Config Wrong
+abbrev pub config_in : HeadProgress → Option (List ℕ) → Result Config Wrong
 config_in how_far (Some (entity ∷ blocks ∷ cap ∷ checks ∷ journal ∷ [])) =
     if is_fresh how_far then config_of entity blocks cap checks journal else Err wrong.ConfigTooLate
 config_in how_far numbers = Err (wrong.Expected word.Config)
@@ -150,11 +150,11 @@ config_in how_far numbers = Err (wrong.Expected word.Config)
 abbrev pub path_or_wrong : Option Path → Result Path Wrong
 path_or_wrong path = ok_or path wrong.NoPath
 
-abbrev pub only_path : Word → List (List ℕ) → Result Path Wrong
+abbrev pub only_path : FirstWord → List (List ℕ) → Result Path Wrong
 only_path word (text ∷ []) = path_or_wrong (path_spelled text)
 only_path word texts = Err (wrong.Expected word)
 
-abbrev pub only_name : Word → List (List ℕ) → Result TransactionId Wrong
+abbrev pub only_name : FirstWord → List (List ℕ) → Result TransactionId Wrong
 only_name word texts = ok_or (id_by (numbers_of texts)) (wrong.Expected word)
 
 abbrev pub at_least_one : List ℕ → Option (List ℕ)
@@ -223,13 +223,13 @@ abbrev pub line_in : List (List ℕ) → Result (List ℕ) Wrong
 line_in [] = Err (wrong.Expected word.Expect)
 line_in (text ∷ texts) = Ok (join_with_byte 32 (text ∷ texts))
 
-abbrev pub says_alone : Word → LineMeaning → List (List ℕ) → Result LineMeaning Wrong
+abbrev pub says_alone : FirstWord → LineMeaning → List (List ℕ) → Result LineMeaning Wrong
 says_alone word what [] = Ok what
 says_alone word what (text ∷ texts) = Err (wrong.Expected word)
 
 -- ---- lines
 
-abbrev pub says : Mib → Progress → Word → List (List ℕ) → Result LineMeaning Wrong
+abbrev pub says : Mib → HeadProgress → FirstWord → List (List ℕ) → Result LineMeaning Wrong
 says mib how_far word.Mib texts = saying Settings (settings_in mib texts)
 says mib how_far word.Config texts = saying Configure (config_in how_far (numbers_of texts))
 says mib how_far word.Protect texts = saying Protect (only_path word.Protect texts)
@@ -242,23 +242,23 @@ says mib how_far word.List texts = says_alone word.List ListAll texts
 says mib how_far word.Expect texts = saying Expect (line_in texts)
 says mib how_far word.End texts = says_alone word.End End texts
 
-abbrev pub is_playing : Progress → Bool
+abbrev pub is_playing : HeadProgress → Bool
 is_playing progress.Fresh = false
 is_playing progress.Begun = false
 is_playing progress.Playing = true
 
-abbrev pub in_time : Mib → Progress → Word → List (List ℕ) → Result LineMeaning Wrong
+abbrev pub in_time : Mib → HeadProgress → FirstWord → List (List ℕ) → Result LineMeaning Wrong
 in_time mib how_far word texts = if is_of_head word && is_playing how_far then Err (wrong.TooLate word)
     else says mib how_far word texts
 
-abbrev pub begun_by : Mib → Progress → Option Word → List (List ℕ) → Result LineMeaning Wrong
+abbrev pub begun_by : Mib → HeadProgress → Option FirstWord → List (List ℕ) → Result LineMeaning Wrong
 begun_by mib how_far word texts = first_then (ok_or word wrong.UnknownWord) (λ known. in_time mib how_far known texts)
 
-abbrev pub texts_say : Mib → Progress → List (List ℕ) → Result (Option LineMeaning) Wrong
+abbrev pub texts_say : Mib → HeadProgress → List (List ℕ) → Result (Option LineMeaning) Wrong
 texts_say mib how_far [] = Ok None
 texts_say mib how_far (text ∷ texts) = saying Some (begun_by mib how_far (word_of text) texts)
 
-abbrev pub meaning_in : Mib → Progress → List ℕ → Result (Option LineMeaning) Wrong
+abbrev pub meaning_in : Mib → HeadProgress → List ℕ → Result (Option LineMeaning) Wrong
 meaning_in mib how_far line =
     if is_overlong line then Err wrong.TooLong
     else if is_comment line then Ok None

@@ -5,10 +5,10 @@ use Rattle.std.specs.Prelude.{◌≡◌, Some}
 use Rattle.cfdp_run.specs.Settings.{key_of, key_text}
 use Rattle.cfdp_run.specs.Words.{spelling_of, word_of}
 use Rattle.cfdp_run.specs.declared.settings.Key.{Key}
-use Rattle.cfdp_run.specs.declared.words.Word.{Word}
+use Rattle.cfdp_run.specs.declared.words.FirstWord.{FirstWord}
 
 abbrev pub WordsAreRead : Type 0
-WordsAreRead = (word : Word) → word_of (spelling_of word) ≡ Some word
+WordsAreRead = (word : FirstWord) → word_of (spelling_of word) ≡ Some word
 
 abbrev pub KeysAreRead : Type 0
 KeysAreRead = (key : Key) → key_of (key_text key) ≡ Some key

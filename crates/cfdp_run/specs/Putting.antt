@@ -5,7 +5,7 @@
 --     is_below_file F p       one of the parents is a file
 --     needed F p node         the blocks that are taken: one for each directory that is made, and those of the
 --                             directory or file
---     place_wrong F p         why nothing can be put at a path, whatever it is
+--     path_wrong F p          why nothing can be put at a path, whatever it is
 --     room_wrong W p node     why this directory or file can't be put there
 use Rattle.std.specs.Prelude.{ℕ, ◌+◌, nat_lt, Bool, if◌then◌else◌, is_some, is_none, List, map, length, Option, Some, None}
 use Rattle.std.specs.List.{filter, list_any}
@@ -35,8 +35,8 @@ is_below_file F p = list_any (λ q. is_file (node_at F q)) (ancestors p)
 abbrev pub needed : Filestore → Path → Node → ℕ
 needed F p node = length (missing F p) + weight (Some node)
 
-abbrev pub place_wrong : Filestore → Path → Option Wrong
-place_wrong F p = if is_some (node_at F p) then Some Taken else if is_below_file F p then Some ParentIsFile else None
+abbrev pub path_wrong : Filestore → Path → Option Wrong
+path_wrong F p = if is_some (node_at F p) then Some Taken else if is_below_file F p then Some ParentIsFile else None
 
 abbrev pub room_wrong : World → Path → Node → Option Wrong
 room_wrong W p node = if nat_lt (free W) (needed W.filestore p node) then Some NoRoom else None

@@ -30,14 +30,14 @@ use Rattle.cfdp_receiver.specs.declared.mib.Mib.{Mib}
 use Rattle.cfdp_run.specs.Commands.{Content, Nothing, Octets, File as FileNamed, LineMeaning, Settings, Configure, Protect, PutDirectory, PutFile, Receive, Cancel, Pass, Get, Gaps, Phase, ListAll, Expect, End, meaning_in}
 use Rattle.cfdp_run.specs.Contents.{get_line}
 use Rattle.cfdp_run.specs.Playing.{heard_inputs, heard_text, most_timers, passing, played, settled_after}
-use Rattle.cfdp_run.specs.Putting.{place_wrong, room_wrong, with_put}
+use Rattle.cfdp_run.specs.Putting.{path_wrong, room_wrong, with_put}
 use Rattle.cfdp_run.specs.Questions.{gaps_line, phase_line}
 use Rattle.cfdp_run.specs.Settings.{default_mib}
 use Rattle.cfdp_run.specs.Stops.{Stop, Ended, IsWrong, Unmet, Unread}
-use Rattle.cfdp_run.specs.declared.commands.Progress.{Progress}
-use Rattle.cfdp_run.specs.declared.commands.Progress.TheVariants as progress
-use Rattle.cfdp_run.specs.declared.words.Word.{Word}
-use Rattle.cfdp_run.specs.declared.words.Word.TheVariants as word
+use Rattle.cfdp_run.specs.declared.commands.HeadProgress.{HeadProgress}
+use Rattle.cfdp_run.specs.declared.commands.HeadProgress.TheVariants as progress
+use Rattle.cfdp_run.specs.declared.words.FirstWord.{FirstWord}
+use Rattle.cfdp_run.specs.declared.words.FirstWord.TheVariants as word
 use Rattle.cfdp_run.specs.declared.wrong.Wrong.{Wrong}
 use Rattle.cfdp_run.specs.declared.wrong.Wrong.TheVariants.{TooLate, TooManyProtected}
 
@@ -80,11 +80,11 @@ abbrev pub mib_of : ScriptStage → Mib
 mib_of (Preparing head) = head.mib
 mib_of (Playing play) = default_mib
 
-abbrev pub progress_by : Bool → Progress
+abbrev pub progress_by : Bool → HeadProgress
 progress_by true = progress.Begun
 progress_by false = progress.Fresh
 
-abbrev pub progress_of : ScriptStage → Progress
+abbrev pub progress_of : ScriptStage → HeadProgress
 progress_of (Preparing head) = progress_by head.has_begun
 progress_of (Playing play) = progress.Playing
 
@@ -129,7 +129,7 @@ put_node head p node = unless (room_wrong head.world p node)
     (Ok (record head { world = with_put head.world p node; has_begun = true }))
 
 unfoldable pub put : Head → Path → Node → Result Head Stop
-put head p node = unless (place_wrong head.world.filestore p) (put_node head p node)
+put head p node = unless (path_wrong head.world.filestore p) (put_node head p node)
 
 abbrev pub put_read : Head → Path → (name : List ℕ) → Option (List ℕ) → Result Head Stop
 put_read head p name None = Err (Unread name)
@@ -142,9 +142,9 @@ put_content files head p (FileNamed name) = put_read head p name (files name)
 
 -- a file is read only where something can be put at the path
 abbrev pub put_file : (List ℕ → Option (List ℕ)) → Head → Path → Content → Result Head Stop
-put_file files head p content = unless (place_wrong head.world.filestore p) (put_content files head p content)
+put_file files head p content = unless (path_wrong head.world.filestore p) (put_content files head p content)
 
-abbrev pub in_head : Word → ScriptStage → (Head → Result Head Stop) → Step
+abbrev pub in_head : FirstWord → ScriptStage → (Head → Result Head Stop) → Step
 in_head word (Preparing head) change = head_changed (change head)
 in_head word (Playing play) change = Err (IsWrong (TooLate word))
 

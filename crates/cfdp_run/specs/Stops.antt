@@ -6,8 +6,8 @@
 use Rattle.std.specs.Prelude.{ℕ, List}
 use Rattle.cfdp_run.specs.declared.commands.CommandFault.{CommandFault}
 use Rattle.cfdp_run.specs.declared.commands.CommandFault.TheVariants as fault
-use Rattle.cfdp_run.specs.declared.stop.Stop.{Stop as StopValue}
-use Rattle.cfdp_run.specs.declared.stop.Stop.TheVariants as stop
+use Rattle.cfdp_run.specs.declared.stop.ScriptStop.{ScriptStop as StopValue}
+use Rattle.cfdp_run.specs.declared.stop.ScriptStop.TheVariants as stop
 use Rattle.cfdp_run.specs.declared.wrong.Wrong.{Wrong}
 
 pub data Stop : Type 0 where

@@ -4,10 +4,10 @@
 --     is_of_head word       its lines come before every line of another kind
 --     word_of octets        the word that some octets spell
 use Rattle.std.specs.Prelude.{ℕ, Bool, true, false, if◌then◌else◌, List, Option, Some, None, codes, bytes_eq}
-use Rattle.cfdp_run.specs.declared.words.Word.{Word}
-use Rattle.cfdp_run.specs.declared.words.Word.TheVariants as word
+use Rattle.cfdp_run.specs.declared.words.FirstWord.{FirstWord}
+use Rattle.cfdp_run.specs.declared.words.FirstWord.TheVariants as word
 
-unfoldable pub spelling_of : Word → List ℕ
+unfoldable pub spelling_of : FirstWord → List ℕ
 spelling_of word.Mib = codes "mib"
 spelling_of word.Config = codes "config"
 spelling_of word.Protect = codes "protect"
@@ -20,7 +20,7 @@ spelling_of word.List = codes "list"
 spelling_of word.Expect = codes "expect"
 spelling_of word.End = codes "end"
 
-unfoldable pub form_of : Word → List ℕ
+unfoldable pub form_of : FirstWord → List ℕ
 form_of word.Mib = codes "mib KEY=VALUE .."
 form_of word.Config = codes "config E B C K J"
 form_of word.Protect = codes "protect PATH"
@@ -33,7 +33,7 @@ form_of word.List = codes "list"
 form_of word.Expect = codes "expect LINE"
 form_of word.End = codes "end"
 
-abbrev pub is_of_head : Word → Bool
+abbrev pub is_of_head : FirstWord → Bool
 is_of_head word.Mib = true
 is_of_head word.Config = true
 is_of_head word.Protect = true
@@ -46,7 +46,7 @@ is_of_head word.List = false
 is_of_head word.Expect = false
 is_of_head word.End = false
 
-unfoldable pub word_of : List ℕ → Option Word
+unfoldable pub word_of : List ℕ → Option FirstWord
 word_of octets =
     if bytes_eq octets (codes "mib") then Some word.Mib
     else if bytes_eq octets (codes "config") then Some word.Config

@@ -7,14 +7,14 @@ use Rattle.std.specs.Prelude.{ℕ, List, ◌++◌, codes}
 use Rattle.cfdp_run.specs.Settings.{key_text, bounds_text}
 use Rattle.cfdp_run.specs.Words.{form_of, spelling_of}
 use Rattle.cfdp_run.specs.declared.settings.Key.{Key}
-use Rattle.cfdp_run.specs.declared.words.Word.{Word}
+use Rattle.cfdp_run.specs.declared.words.FirstWord.{FirstWord}
 use Rattle.cfdp_run.specs.declared.wrong.Wrong.{Wrong}
 use Rattle.cfdp_run.specs.declared.wrong.Wrong.TheVariants as wrong
 
-abbrev pub too_late_text : Word → List ℕ
+abbrev pub too_late_text : FirstWord → List ℕ
 too_late_text word = spelling_of word ++ codes " must come before the first other line"
 
-abbrev pub expected_text : Word → List ℕ
+abbrev pub expected_text : FirstWord → List ℕ
 expected_text word = codes "expected " ++ form_of word
 
 abbrev pub values_text : Key → List ℕ

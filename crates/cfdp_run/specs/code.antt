@@ -1,4 +1,4 @@
 -- What only the proofs of the code need: no clause of a public function cites it.
-pub mod Remaking
+pub mod Reconfigured
 pub mod Scripts
 pub mod Stages

@@ -9,7 +9,7 @@ use std::alloc::AllocError;
 
 /// How far the head of a script is. It decides which lines come too late.
 #[derive(Clone, Copy, Debug, PartialEq, Eq)]
-pub enum Progress {
+pub enum HeadProgress {
     /// No `config`, `protect` or `put` came.
     Fresh,
     /// One of them came: a `config` is too late.
@@ -20,7 +20,7 @@ pub enum Progress {
 
 /// What a file holds that the filestore begins with.
 #[derive(Debug, Drop)]
-pub enum Content<'a> {
+pub enum FileContent<'a> {
     /// Nothing.
     None,
     /// These octets.
@@ -31,7 +31,7 @@ pub enum Content<'a> {
 
 /// What a line says.
 #[derive(Debug, Drop)]
-pub enum Command<'a> {
+pub enum RunCommand<'a> {
     /// `mib`: the settings are these from now on.
     Settings(Mib),
     /// `config`: the configuration is this one, with nothing protected.
@@ -41,7 +41,7 @@ pub enum Command<'a> {
     /// `put`: the filestore begins with this directory.
     PutDirectory(Path),
     /// `put`: it begins with this file.
-    PutFile(Path, Content<'a>),
+    PutFile(Path, FileContent<'a>),
     /// `at`: octets come.
     Receive {
         /// The time.

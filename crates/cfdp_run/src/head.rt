@@ -3,17 +3,17 @@
 ghost use Rattle.std.specs.Prelude.{◌≡◌, ◌≢◌, [], replicate, None, Some, Err, Ok, IfErr, IfOk, OnErr, OnOk};
 ghost use Rattle.std.specs.Option.{option_map};
 ghost use Rattle.cfdp_actions.specs.Filestore.{Directory, File};
-ghost use Rattle.cfdp_receiver.specs.Machine.{mib_fault};
-ghost use Rattle.cfdp_run.specs.Putting.{place_wrong};
+ghost use Rattle.cfdp_receiver.specs.StateMachine.{mib_fault};
+ghost use Rattle.cfdp_run.specs.Putting.{path_wrong};
 ghost use Rattle.cfdp_run.specs.Scripts.{begun, first_config, first_head, progress_by, head_protected, put_node, with_config, with_mib};
 ghost use Rattle.cfdp_run.specs.Stops.{IsWrong, NoMemory, stop_of};
 
-use crate::commands::Progress;
+use crate::commands::HeadProgress;
 use crate::play::Play;
-use crate::putting::{place_fault, put_directory, put_file};
-use crate::remaking::remade;
+use crate::putting::{path_fault, put_directory, put_file};
+use crate::reconfigured::reconfigured;
 use crate::settings::default_mib;
-use crate::stop::Stop;
+use crate::stop::ScriptStop;
 use crate::wrong::Wrong;
 use cfdp_actions::Protected;
 use cfdp_entity::Entity;
@@ -90,13 +90,13 @@ impl Head {
     }
 
     /// How far the head is.
-    pub fn progress(&self) -> Progress
+    pub fn progress(&self) -> HeadProgress
         ensures { result ≡ progress_by (head_of self.now).has_begun }
     {
         if self.has_begun {
-            Progress::Begun
+            HeadProgress::Begun
         } else {
-            Progress::Fresh
+            HeadProgress::Fresh
         }
     }
 
@@ -121,41 +121,41 @@ impl Head {
 
     /// A line `protect`.
     #[tactic(auto, unfolding(crate::specs::Scripts::head_protected))]
-    pub fn protect(&mut self, path: Path) -> Result<(), Stop>
+    pub fn protect(&mut self, path: Path) -> Result<(), ScriptStop>
         ensures ok { OnOk result (head_protected (head_of self.old) path ≡ Ok (head_of self.new)) }
         ensures err { IfErr result (λ why. head_protected (head_of self.old) path ≡ Err (stop_of why)) }
         ensures same { OnErr result (head_of self.new ≡ head_of self.old) }
     {
         let Ok(()) = self.protected.add(path) else {
-            return Err(Stop::Wrong(Wrong::TooManyProtected));
+            return Err(ScriptStop::Wrong(Wrong::TooManyProtected));
         };
         self.has_begun = true;
         Ok(())
     }
 
     /// Whether something can be put at a path.
-    pub fn place(&self, alloc: Global, path: &Path) -> Result<(), Stop>
-        ensures ok { OnOk result (place_wrong (head_of self.now).world.filestore path.now ≡ None) }
+    pub fn check_path(&self, alloc: Global, path: &Path) -> Result<(), ScriptStop>
+        ensures ok { OnOk result (path_wrong (head_of self.now).world.filestore path.now ≡ None) }
         ensures err { IfErr result (λ why. stop_of why ≢ NoMemory →
-            option_map IsWrong (place_wrong (head_of self.now).world.filestore path.now) ≡ Some (stop_of why)) }
+            option_map IsWrong (path_wrong (head_of self.now).world.filestore path.now) ≡ Some (stop_of why)) }
     {
-        match place_fault(alloc, &self.entity, path)? {
+        match path_fault(alloc, &self.entity, path)? {
             None => Ok(()),
-            Some(wrong) => Err(Stop::Wrong(wrong)),
+            Some(wrong) => Err(ScriptStop::Wrong(wrong)),
         }
     }
 
     /// Puts a directory at a path, where one can be put.
     #[tactic(auto, unfolding(crate::specs::Scripts::put_node))]
-    pub fn put_directory(&mut self, alloc: Global, path: &Path) -> Result<(), Stop>
-        requires { place_wrong (head_of self.old).world.filestore path.now ≡ None }
+    pub fn put_directory(&mut self, alloc: Global, path: &Path) -> Result<(), ScriptStop>
+        requires { path_wrong (head_of self.old).world.filestore path.now ≡ None }
         ensures ok { OnOk result (put_node (head_of self.old) path.now Directory ≡ Ok (head_of self.new)) }
         ensures err { IfErr result (λ why. stop_of why ≢ NoMemory → put_node (head_of self.old) path.now Directory
             ≡ Err (stop_of why)) }
         ensures same { OnErr result (head_of self.new ≡ head_of self.old) }
     {
         if let Some(wrong) = put_directory(alloc, &mut self.entity, path)? {
-            return Err(Stop::Wrong(wrong));
+            return Err(ScriptStop::Wrong(wrong));
         }
         self.has_begun = true;
         Ok(())
@@ -163,15 +163,15 @@ impl Head {
 
     /// Puts a file with these octets at a path, where one can be put.
     #[tactic(auto, unfolding(crate::specs::Scripts::put_node))]
-    pub fn put_file(&mut self, alloc: Global, path: &Path, octets: &[u8]) -> Result<(), Stop>
-        requires { place_wrong (head_of self.old).world.filestore path.now ≡ None }
+    pub fn put_file(&mut self, alloc: Global, path: &Path, octets: &[u8]) -> Result<(), ScriptStop>
+        requires { path_wrong (head_of self.old).world.filestore path.now ≡ None }
         ensures ok { OnOk result (put_node (head_of self.old) path.now (File octets.now) ≡ Ok (head_of self.new)) }
         ensures err { IfErr result (λ why. stop_of why ≢ NoMemory →
             put_node (head_of self.old) path.now (File octets.now) ≡ Err (stop_of why)) }
         ensures same { OnErr result (head_of self.new ≡ head_of self.old) }
     {
         if let Some(wrong) = put_file(alloc, &mut self.entity, path, octets)? {
-            return Err(Stop::Wrong(wrong));
+            return Err(ScriptStop::Wrong(wrong));
         }
         self.has_begun = true;
         Ok(())
@@ -189,7 +189,7 @@ impl Head {
     {
         let protected = mem::replace(&mut self.protected, Protected::new());
         let config = with_prefixes(self.entity.core().config(), protected);
-        let entity = remade(alloc, config, &self.entity)?;
+        let entity = reconfigured(alloc, config, &self.entity)?;
         match Receiver::new(alloc, self.mib, entity) {
             Ok(receiver) => Play::new(alloc, receiver),
             Err(NotMade::Memory) => Err(AllocError),

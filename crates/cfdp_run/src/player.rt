@@ -3,7 +3,7 @@
 
 ghost use Rattle.std.specs.Prelude.{◌≡◌, ◌≤◌, ◌++◌, ◌∷◌, [], ℕ, List, Ok, true, false, length, max, IfOk, OnOk};
 ghost use Rattle.cfdp_receiver.specs.Heard.{heard};
-ghost use Rattle.cfdp_receiver.specs.Machine.{answer_in};
+ghost use Rattle.cfdp_receiver.specs.StateMachine.{answer_in};
 ghost use Rattle.cfdp_receiver.specs.Sent.{longest_sealed};
 ghost use Rattle.cfdp_receiver.specs.State.{CancelAsked, Expire, Finish, Work};
 ghost use Rattle.cfdp_receiver.specs.Turning.{after_input, after_all, parts};

@@ -5,7 +5,7 @@ ghost use Rattle.std.specs.List.{list_any};
 ghost use Rattle.cfdp_actions.specs.Filestore.{Directory, File, is_file, node_at};
 ghost use Rattle.cfdp_paths.specs.Paths.{IsPath};
 ghost use Rattle.cfdp_transactions.specs.Restart.{CanPutAll, put_all};
-ghost use Rattle.cfdp_run.specs.Putting.{as_directory, missing, place_wrong, room_wrong, with_put};
+ghost use Rattle.cfdp_run.specs.Putting.{as_directory, missing, path_wrong, room_wrong, with_put};
 
 use crate::wrong::Wrong;
 use cfdp_actions::{Filestore, Kind, PAYLOAD_OCTETS};
@@ -27,12 +27,12 @@ fn has_file(entity: &Entity, paths: &[Path]) -> bool
 }
 
 /// Why nothing can be put at a path, whatever it is.
-pub(crate) fn place_fault(
+pub(crate) fn path_fault(
     alloc: Global,
     entity: &Entity,
     path: &Path,
 ) -> Result<Option<Wrong>, AllocError>
-    ensures { IfOk result (λ wrong. wrong ≡ place_wrong entity.now.filestore path.now) }
+    ensures { IfOk result (λ wrong. wrong ≡ path_wrong entity.now.filestore path.now) }
 {
     if entity.core().store().kind(path).is_some() {
         return Ok(Some(Wrong::Taken));
@@ -82,7 +82,7 @@ pub(crate) fn put_directory(
     path: &Path,
 ) -> Result<Option<Wrong>, AllocError>
     requires idle { entity.old.table ≡ [] }
-    requires place { place_wrong entity.old.filestore path.now ≡ None }
+    requires vacant { path_wrong entity.old.filestore path.now ≡ None }
     ensures room { IfOk result (λ wrong. wrong ≡ room_wrong entity.old path.now Directory) }
     ensures put { result ≡ Ok None → entity.new ≡ with_put entity.old path.now Directory }
     ensures same { result ≢ Ok None → entity.new ≡ entity.old }
@@ -110,7 +110,7 @@ pub(crate) fn put_file(
     octets: &[u8],
 ) -> Result<Option<Wrong>, AllocError>
     requires idle { entity.old.table ≡ [] }
-    requires place { place_wrong entity.old.filestore path.now ≡ None }
+    requires vacant { path_wrong entity.old.filestore path.now ≡ None }
     ensures room { IfOk result (λ wrong. wrong ≡ room_wrong entity.old path.now (File octets.now)) }
     ensures put { result ≡ Ok None → entity.new ≡ with_put entity.old path.now (File octets.now) }
     ensures same { result ≢ Ok None → entity.new ≡ entity.old }

@@ -8,9 +8,9 @@ ghost use Rattle.cfdp_plans.specs.Names.{name_in};
 ghost use Rattle.cfdp_run.specs.Words.{is_of_head};
 ghost use Rattle.cfdp_run.specs.Commands.{IfWrong, OnMemory, says_alone, asks_by, asks_memory, at_in, before_slash, meaning_in, config_in, config_of, content_in, content_of, directory_or_file, in_time, input_in, is_equals, is_fresh, is_playing, line_in, octets_spelled, only_name, only_path, put_alone, put_in, command_meaning, says, setting, settings_in, takes_memory, texts_say};
 
-use crate::commands::{Command, CommandFault, Content, Progress};
+use crate::commands::{CommandFault, FileContent, HeadProgress, RunCommand};
 use crate::settings::key_of;
-use crate::words::{Word, word_of};
+use crate::words::{FirstWord, word_of};
 use crate::wrong::Wrong;
 use cfdp_actions::Protected;
 use cfdp_lines::{
@@ -55,7 +55,7 @@ fn read_settings(mib: Mib, words: &[u8]) -> Result<Mib, Wrong>
     let mut rest = words;
     let mut settings = mib;
     let Some(first) = next_word(&mut rest) else {
-        return Err(Wrong::Expected(Word::Mib));
+        return Err(Wrong::Expected(FirstWord::Mib));
     };
     set(&mut settings, first)?;
     'words: while let Some(word) = next_word(&mut rest) {
@@ -89,24 +89,24 @@ fn config_of(entity: u64, blocks: u64, cap: u64, checks: u64, journal: u64) -> R
 }
 
 /// Whether a `config` comes in time.
-fn is_fresh(progress: Progress) -> bool
+fn is_fresh(progress: HeadProgress) -> bool
     ensures { result ≡ is_fresh progress }
 {
     match progress {
-        Progress::Fresh => true,
-        Progress::Begun | Progress::Playing => false,
+        HeadProgress::Fresh => true,
+        HeadProgress::Begun | HeadProgress::Playing => false,
     }
 }
 
 /// The configuration of a line `config`, by the words after its first.
-fn read_config(progress: Progress, words: &[u8]) -> Result<Config, Wrong>
+fn read_config(progress: HeadProgress, words: &[u8]) -> Result<Config, Wrong>
     ensures { result ≡ config_in progress (numbers_of (words_of words.now)) }
 {
     let Some(numbers) = numbers_of(words) else {
-        return Err(Wrong::Expected(Word::Config));
+        return Err(Wrong::Expected(FirstWord::Config));
     };
     let [entity, blocks, cap, checks, journal] = numbers.as_slice() else {
-        return Err(Wrong::Expected(Word::Config));
+        return Err(Wrong::Expected(FirstWord::Config));
     };
     if !is_fresh(progress) {
         return Err(Wrong::ConfigTooLate);
@@ -115,7 +115,7 @@ fn read_config(progress: Progress, words: &[u8]) -> Result<Config, Wrong>
 }
 
 /// The path that is the only word of some.
-fn read_only_path(alloc: Global, word: Word, words: &[u8]) -> Result<Path, CommandFault>
+fn read_only_path(alloc: Global, word: FirstWord, words: &[u8]) -> Result<Path, CommandFault>
     ensures ok { IfOk result (λ path. only_path word (words_of words.now) ≡ Ok path) }
     ensures wrong { IfWrong result (λ wrong. only_path word (words_of words.now) ≡ Err wrong) }
     ensures memory { OnMemory result (asks_by (λ path. true) (only_path word (words_of words.now)) ≡ true) }
@@ -134,7 +134,7 @@ fn read_only_path(alloc: Global, word: Word, words: &[u8]) -> Result<Path, Comma
 }
 
 /// The octets that one or more words spell. They are decoded once, and not copied.
-fn read_octets(alloc: Global, word: Word, words: &[u8]) -> Result<Vec<u8>, CommandFault>
+fn read_octets(alloc: Global, word: FirstWord, words: &[u8]) -> Result<Vec<u8>, CommandFault>
     ensures ok { IfOk result (λ octets. octets_spelled (words_of words.now) ≡ Some octets.items) }
     ensures wrong { IfWrong result (λ wrong. (wrong ≡ Wrong.Expected word) ×
         (octets_spelled (words_of words.now) ≡ None)) }
@@ -150,21 +150,21 @@ fn read_octets(alloc: Global, word: Word, words: &[u8]) -> Result<Vec<u8>, Comma
 }
 
 /// What a file of a line `put` holds, by the words after its path.
-fn read_content(alloc: Global, words: &[u8]) -> Result<Content<'_>, CommandFault>
+fn read_content(alloc: Global, words: &[u8]) -> Result<FileContent<'_>, CommandFault>
     ensures ok { IfOk result (λ content. content_in (words_of words.now) ≡ Some (content_of content)) }
     ensures wrong { IfWrong result
-        (λ wrong. (wrong ≡ Wrong.Expected Word.Put) × (content_in (words_of words.now) ≡ None)) }
+        (λ wrong. (wrong ≡ Wrong.Expected FirstWord.Put) × (content_in (words_of words.now) ≡ None)) }
     ensures memory { OnMemory result (is_some (content_in (words_of words.now)) ≡ true) }
 {
     let mut rest = words;
     if let Some([b'@', name @ ..]) = next_word(&mut rest) {
         return match next_word(&mut rest) {
-            None => Ok(Content::File(name)),
-            Some(_) => Err(CommandFault::Wrong(Wrong::Expected(Word::Put))),
+            None => Ok(FileContent::File(name)),
+            Some(_) => Err(CommandFault::Wrong(Wrong::Expected(FirstWord::Put))),
         };
     }
-    let octets = read_octets(alloc, Word::Put, words)?;
-    Ok(Content::Octets(octets))
+    let octets = read_octets(alloc, FirstWord::Put, words)?;
+    Ok(FileContent::Octets(octets))
 }
 
 /// The path that some octets spell.
@@ -190,19 +190,19 @@ fn before_slash(octets: &[u8]) -> Option<&[u8]>
 }
 
 /// A directory, by its path with a `/` at its end, or an empty file, by its path.
-fn read_directory_or_file<'a>(alloc: Global, octets: &[u8]) -> Result<Command<'a>, CommandFault>
+fn read_directory_or_file<'a>(alloc: Global, octets: &[u8]) -> Result<RunCommand<'a>, CommandFault>
     ensures ok { IfOk result
         (λ command. directory_or_file octets.now (before_slash octets.now) ≡ Ok (command_meaning command)) }
     ensures wrong { IfWrong result (λ wrong. directory_or_file octets.now (before_slash octets.now) ≡ Err wrong) }
 {
     match before_slash(octets) {
-        Some(front) => Ok(Command::PutDirectory(path_of(alloc, front)?)),
-        None => Ok(Command::PutFile(path_of(alloc, octets)?, Content::None)),
+        Some(front) => Ok(RunCommand::PutDirectory(path_of(alloc, front)?)),
+        None => Ok(RunCommand::PutFile(path_of(alloc, octets)?, FileContent::None)),
     }
 }
 
 /// What a line `put` with one word after its first says: an empty file, or a directory.
-fn read_empty<'a>(alloc: Global, text: &[u8]) -> Result<Command<'a>, CommandFault>
+fn read_empty<'a>(alloc: Global, text: &[u8]) -> Result<RunCommand<'a>, CommandFault>
     ensures ok { IfOk result (λ command. put_alone (name_in text.now) ≡ Ok (command_meaning command)) }
     ensures wrong { IfWrong result (λ wrong. put_alone (name_in text.now) ≡ Err wrong) }
     ensures memory { OnMemory result (asks_by takes_memory (put_alone (name_in text.now)) ≡ true) }
@@ -214,14 +214,14 @@ fn read_empty<'a>(alloc: Global, text: &[u8]) -> Result<Command<'a>, CommandFaul
 }
 
 /// What a line `put` says, by the words after its first.
-fn read_put<'a>(alloc: Global, words: &'a [u8]) -> Result<Command<'a>, CommandFault>
+fn read_put<'a>(alloc: Global, words: &'a [u8]) -> Result<RunCommand<'a>, CommandFault>
     ensures ok { IfOk result (λ command. put_in (words_of words.entry.now) ≡ Ok (command_meaning command)) }
     ensures wrong { IfWrong result (λ wrong. put_in (words_of words.entry.now) ≡ Err wrong) }
     ensures memory { OnMemory result (asks_by takes_memory (put_in (words_of words.entry.now)) ≡ true) }
 {
     let mut rest = words;
     let Some(text) = next_word(&mut rest) else {
-        return Err(CommandFault::Wrong(Wrong::Expected(Word::Put)));
+        return Err(CommandFault::Wrong(Wrong::Expected(FirstWord::Put)));
     };
     let mut more = rest;
     if next_word(&mut more).is_none() {
@@ -229,13 +229,13 @@ fn read_put<'a>(alloc: Global, words: &'a [u8]) -> Result<Command<'a>, CommandFa
     }
     let content = read_content(alloc, rest)?;
     match parse_path(alloc, text)? {
-        Some(path) => Ok(Command::PutFile(path, content)),
+        Some(path) => Ok(RunCommand::PutFile(path, content)),
         None => Err(CommandFault::Wrong(Wrong::NoPath)),
     }
 }
 
 /// The transaction that is named by the only words of some.
-fn read_only_name(word: Word, words: &[u8]) -> Result<TransactionId, CommandFault>
+fn read_only_name(word: FirstWord, words: &[u8]) -> Result<TransactionId, CommandFault>
     ensures ok { IfOk result (λ id. only_name word (words_of words.now) ≡ Ok id) }
     ensures wrong { IfWrong result (λ wrong. only_name word (words_of words.now) ≡ Err wrong) }
     ensures never { OnMemory result ⊥ }
@@ -247,39 +247,39 @@ fn read_only_name(word: Word, words: &[u8]) -> Result<TransactionId, CommandFaul
 }
 
 /// What a line `at` says, by the words after its time.
-fn read_input<'a>(alloc: Global, now: u64, words: &[u8]) -> Result<Command<'a>, CommandFault>
+fn read_input<'a>(alloc: Global, now: u64, words: &[u8]) -> Result<RunCommand<'a>, CommandFault>
     ensures ok { IfOk result (λ command. input_in now (words_of words.now) ≡ Ok (command_meaning command)) }
     ensures wrong { IfWrong result (λ wrong. input_in now (words_of words.now) ≡ Err wrong) }
     ensures memory { OnMemory result (asks_by takes_memory (input_in now (words_of words.now)) ≡ true) }
 {
     let mut rest = words;
     let Some(word) = next_word(&mut rest) else {
-        return Ok(Command::Pass { now });
+        return Ok(RunCommand::Pass { now });
     };
     if word == b"pdu".as_slice() {
-        let octets = read_octets(alloc, Word::At, rest)?;
-        return Ok(Command::Receive { now, octets });
+        let octets = read_octets(alloc, FirstWord::At, rest)?;
+        return Ok(RunCommand::Receive { now, octets });
     }
     if word == b"cancel".as_slice() {
-        let id = read_only_name(Word::At, rest)?;
-        return Ok(Command::Cancel { now, id });
+        let id = read_only_name(FirstWord::At, rest)?;
+        return Ok(RunCommand::Cancel { now, id });
     }
-    Err(CommandFault::Wrong(Wrong::Expected(Word::At)))
+    Err(CommandFault::Wrong(Wrong::Expected(FirstWord::At)))
 }
 
 /// What a line `at` says, by the words after its first.
-fn read_at<'a>(alloc: Global, words: &[u8]) -> Result<Command<'a>, CommandFault>
+fn read_at<'a>(alloc: Global, words: &[u8]) -> Result<RunCommand<'a>, CommandFault>
     ensures ok { IfOk result (λ command. at_in (words_of words.now) ≡ Ok (command_meaning command)) }
     ensures wrong { IfWrong result (λ wrong. at_in (words_of words.now) ≡ Err wrong) }
     ensures memory { OnMemory result (asks_by takes_memory (at_in (words_of words.now)) ≡ true) }
 {
     let mut rest = words;
     let Some(time) = next_word(&mut rest) else {
-        return Err(CommandFault::Wrong(Wrong::Expected(Word::At)));
+        return Err(CommandFault::Wrong(Wrong::Expected(FirstWord::At)));
     };
     match number_of(time) {
         Some(now) => read_input(alloc, now, rest),
-        None => Err(CommandFault::Wrong(Wrong::Expected(Word::At))),
+        None => Err(CommandFault::Wrong(Wrong::Expected(FirstWord::At))),
     }
 }
 
@@ -291,7 +291,7 @@ fn read_line(alloc: Global, words: &[u8]) -> Result<Vec<u8>, CommandFault>
 {
     let mut rest = words;
     let Some(first) = next_word(&mut rest) else {
-        return Err(CommandFault::Wrong(Wrong::Expected(Word::Expect)));
+        return Err(CommandFault::Wrong(Wrong::Expected(FirstWord::Expect)));
     };
     let mut line = Vec::from_slice(alloc, first)?;
     'words: while let Some(word) = next_word(&mut rest) {
@@ -303,10 +303,10 @@ fn read_line(alloc: Global, words: &[u8]) -> Result<Vec<u8>, CommandFault>
 
 /// What a line says that has no other word than its first.
 fn read_alone<'a>(
-    word: Word,
+    word: FirstWord,
     words: &[u8],
-    command: Command<'a>,
-) -> Result<Command<'a>, CommandFault>
+    command: RunCommand<'a>,
+) -> Result<RunCommand<'a>, CommandFault>
     ensures ok { IfOk result (λ read. says_alone word (command_meaning command.entry) (words_of words.now) ≡ Ok
         (command_meaning read)) }
     ensures wrong { IfWrong result (λ wrong. says_alone word (command_meaning command.entry) (words_of words.now)
@@ -323,49 +323,49 @@ fn read_alone<'a>(
 /// What a line says, by its first word and those after it.
 fn read_words<'a>(
     alloc: Global,
-    word: Word,
+    word: FirstWord,
     words: &'a [u8],
     mib: Mib,
-    progress: Progress,
-) -> Result<Command<'a>, CommandFault>
+    progress: HeadProgress,
+) -> Result<RunCommand<'a>, CommandFault>
     ensures ok { IfOk result (λ command. says mib progress word (words_of words.entry.now) ≡ Ok
         (command_meaning command)) }
     ensures wrong { IfWrong result (λ wrong. says mib progress word (words_of words.entry.now) ≡ Err wrong) }
     ensures memory { OnMemory result (asks_by takes_memory (says mib progress word (words_of words.entry.now)) ≡ true) }
 {
     match word {
-        Word::Mib => Ok(Command::Settings(read_settings(mib, words)?)),
-        Word::Config => Ok(Command::Configure(read_config(progress, words)?)),
-        Word::Protect => Ok(Command::Protect(read_only_path(alloc, word, words)?)),
-        Word::Put => read_put(alloc, words),
-        Word::At => read_at(alloc, words),
-        Word::Get => Ok(Command::Get(read_only_path(alloc, word, words)?)),
-        Word::Gaps => Ok(Command::Gaps(read_only_name(word, words)?)),
-        Word::Phase => Ok(Command::Phase(read_only_name(word, words)?)),
-        Word::List => read_alone(word, words, Command::List),
-        Word::Expect => Ok(Command::Expect(read_line(alloc, words)?)),
-        Word::End => read_alone(word, words, Command::End),
+        FirstWord::Mib => Ok(RunCommand::Settings(read_settings(mib, words)?)),
+        FirstWord::Config => Ok(RunCommand::Configure(read_config(progress, words)?)),
+        FirstWord::Protect => Ok(RunCommand::Protect(read_only_path(alloc, word, words)?)),
+        FirstWord::Put => read_put(alloc, words),
+        FirstWord::At => read_at(alloc, words),
+        FirstWord::Get => Ok(RunCommand::Get(read_only_path(alloc, word, words)?)),
+        FirstWord::Gaps => Ok(RunCommand::Gaps(read_only_name(word, words)?)),
+        FirstWord::Phase => Ok(RunCommand::Phase(read_only_name(word, words)?)),
+        FirstWord::List => read_alone(word, words, RunCommand::List),
+        FirstWord::Expect => Ok(RunCommand::Expect(read_line(alloc, words)?)),
+        FirstWord::End => read_alone(word, words, RunCommand::End),
     }
 }
 
 /// Whether a line that begins with this word comes too late.
-fn is_too_late(word: Word, progress: Progress) -> bool
+fn is_too_late(word: FirstWord, progress: HeadProgress) -> bool
     ensures { result ≡ (is_of_head word && is_playing progress) }
 {
     match progress {
-        Progress::Fresh | Progress::Begun => false,
-        Progress::Playing => word.is_of_head(),
+        HeadProgress::Fresh | HeadProgress::Begun => false,
+        HeadProgress::Playing => word.is_of_head(),
     }
 }
 
 /// What a line says, by its first word and those after it, if it comes in time.
 fn read_in_time<'a>(
     alloc: Global,
-    word: Word,
+    word: FirstWord,
     words: &'a [u8],
     mib: Mib,
-    progress: Progress,
-) -> Result<Command<'a>, CommandFault>
+    progress: HeadProgress,
+) -> Result<RunCommand<'a>, CommandFault>
     ensures ok { IfOk result (λ command. in_time mib progress word (words_of words.entry.now) ≡ Ok
         (command_meaning command)) }
     ensures wrong { IfWrong result (λ wrong. in_time mib progress word (words_of words.entry.now) ≡ Err wrong) }
@@ -383,8 +383,8 @@ fn read_worded<'a>(
     alloc: Global,
     line: &'a [u8],
     mib: Mib,
-    progress: Progress,
-) -> Result<Option<Command<'a>>, CommandFault>
+    progress: HeadProgress,
+) -> Result<Option<RunCommand<'a>>, CommandFault>
     ensures ok { IfOk result
         (λ command. texts_say mib progress (words_of line.entry.now) ≡ Ok (option_map command_meaning command)) }
     ensures wrong { IfWrong result (λ wrong. texts_say mib progress (words_of line.entry.now) ≡ Err wrong) }
@@ -418,8 +418,8 @@ pub fn read_command<'a>(
     alloc: Global,
     line: &'a [u8],
     mib: Mib,
-    progress: Progress,
-) -> Result<Option<Command<'a>>, CommandFault>
+    progress: HeadProgress,
+) -> Result<Option<RunCommand<'a>>, CommandFault>
     ensures ok { IfOk result (λ command. meaning_in mib progress line.entry.now ≡ Ok
         (option_map command_meaning command)) }
     ensures wrong { IfWrong result (λ wrong. meaning_in mib progress line.entry.now ≡ Err wrong) }

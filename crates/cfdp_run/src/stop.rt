@@ -6,7 +6,7 @@ use std::alloc::AllocError;
 
 /// Why a script stops at a line.
 #[derive(Debug, Drop, PartialEq, Eq)]
-pub enum Stop {
+pub enum ScriptStop {
     /// The line is `end`.
     Ended,
     /// It is a bad line.
@@ -19,27 +19,27 @@ pub enum Stop {
     Memory,
 }
 
-impl From<AllocError> for Stop {
+impl From<AllocError> for ScriptStop {
     ghost use Rattle.std.specs.Prelude.{◌≡◌};
-    ghost use Rattle.cfdp_run.specs.declared.stop.Stop.TheVariants.{Memory};
+    ghost use Rattle.cfdp_run.specs.declared.stop.ScriptStop.TheVariants.{Memory};
 
     ghost from_gives = { λ _ stop. stop ≡ Memory };
 
-    fn from(_refused: AllocError) -> Stop {
-        Stop::Memory
+    fn from(_refused: AllocError) -> ScriptStop {
+        ScriptStop::Memory
     }
 }
 
-impl From<CommandFault> for Stop {
+impl From<CommandFault> for ScriptStop {
     ghost use Rattle.std.specs.Prelude.{◌≡◌};
     ghost use Rattle.cfdp_run.specs.Stops.{stop_by};
 
     ghost from_gives = { λ fault stop. stop ≡ stop_by fault };
 
-    fn from(fault: CommandFault) -> Stop {
+    fn from(fault: CommandFault) -> ScriptStop {
         match fault {
-            CommandFault::Wrong(wrong) => Stop::Wrong(wrong),
-            CommandFault::Memory => Stop::Memory,
+            CommandFault::Wrong(wrong) => ScriptStop::Wrong(wrong),
+            CommandFault::Memory => ScriptStop::Memory,
         }
     }
 }

@@ -5,7 +5,7 @@ ghost use Rattle.cfdp_run.specs.Words.{form_of, is_of_head, spelling_of, word_of
 
 /// The first word of a line.
 #[derive(Clone, Copy, Debug, PartialEq, Eq)]
-pub enum Word {
+pub enum FirstWord {
     /// `mib`: settings.
     Mib,
     /// `config`: the configuration.
@@ -30,24 +30,24 @@ pub enum Word {
     End,
 }
 
-impl Word {
+impl FirstWord {
     /// How it is spelled.
     #[tactic(auto, unfolding(crate::specs::Words::spelling_of))]
     pub fn spelling(self) -> &'static [u8]
         ensures { result.now ≡ spelling_of self }
     {
         match self {
-            Word::Mib => b"mib",
-            Word::Config => b"config",
-            Word::Protect => b"protect",
-            Word::Put => b"put",
-            Word::At => b"at",
-            Word::Get => b"get",
-            Word::Gaps => b"gaps",
-            Word::Phase => b"phase",
-            Word::List => b"list",
-            Word::Expect => b"expect",
-            Word::End => b"end",
+            FirstWord::Mib => b"mib",
+            FirstWord::Config => b"config",
+            FirstWord::Protect => b"protect",
+            FirstWord::Put => b"put",
+            FirstWord::At => b"at",
+            FirstWord::Get => b"get",
+            FirstWord::Gaps => b"gaps",
+            FirstWord::Phase => b"phase",
+            FirstWord::List => b"list",
+            FirstWord::Expect => b"expect",
+            FirstWord::End => b"end",
         }
     }
 
@@ -57,17 +57,17 @@ impl Word {
         ensures { result.now ≡ form_of self }
     {
         match self {
-            Word::Mib => b"mib KEY=VALUE ..",
-            Word::Config => b"config E B C K J",
-            Word::Protect => b"protect PATH",
-            Word::Put => b"put PATH [HEX | @FILE] or put PATH/",
-            Word::At => b"at T [pdu HEX | cancel S N]",
-            Word::Get => b"get PATH",
-            Word::Gaps => b"gaps S N",
-            Word::Phase => b"phase S N",
-            Word::List => b"list",
-            Word::Expect => b"expect LINE",
-            Word::End => b"end",
+            FirstWord::Mib => b"mib KEY=VALUE ..",
+            FirstWord::Config => b"config E B C K J",
+            FirstWord::Protect => b"protect PATH",
+            FirstWord::Put => b"put PATH [HEX | @FILE] or put PATH/",
+            FirstWord::At => b"at T [pdu HEX | cancel S N]",
+            FirstWord::Get => b"get PATH",
+            FirstWord::Gaps => b"gaps S N",
+            FirstWord::Phase => b"phase S N",
+            FirstWord::List => b"list",
+            FirstWord::Expect => b"expect LINE",
+            FirstWord::End => b"end",
         }
     }
 
@@ -76,55 +76,55 @@ impl Word {
         ensures { result ≡ is_of_head self }
     {
         match self {
-            Word::Mib | Word::Config | Word::Protect | Word::Put => true,
-            Word::At
-            | Word::Get
-            | Word::Gaps
-            | Word::Phase
-            | Word::List
-            | Word::Expect
-            | Word::End => false,
+            FirstWord::Mib | FirstWord::Config | FirstWord::Protect | FirstWord::Put => true,
+            FirstWord::At
+            | FirstWord::Get
+            | FirstWord::Gaps
+            | FirstWord::Phase
+            | FirstWord::List
+            | FirstWord::Expect
+            | FirstWord::End => false,
         }
     }
 }
 
 /// The word that some octets spell.
 #[tactic(auto, unfolding(crate::specs::Words::word_of))]
-pub(crate) fn word_of(octets: &[u8]) -> Option<Word>
+pub(crate) fn word_of(octets: &[u8]) -> Option<FirstWord>
     ensures { result ≡ word_of octets.now }
 {
     if octets == b"at".as_slice() {
-        return Some(Word::At);
+        return Some(FirstWord::At);
     }
     if octets == b"expect".as_slice() {
-        return Some(Word::Expect);
+        return Some(FirstWord::Expect);
     }
     if octets == b"get".as_slice() {
-        return Some(Word::Get);
+        return Some(FirstWord::Get);
     }
     if octets == b"gaps".as_slice() {
-        return Some(Word::Gaps);
+        return Some(FirstWord::Gaps);
     }
     if octets == b"phase".as_slice() {
-        return Some(Word::Phase);
+        return Some(FirstWord::Phase);
     }
     if octets == b"list".as_slice() {
-        return Some(Word::List);
+        return Some(FirstWord::List);
     }
     if octets == b"put".as_slice() {
-        return Some(Word::Put);
+        return Some(FirstWord::Put);
     }
     if octets == b"protect".as_slice() {
-        return Some(Word::Protect);
+        return Some(FirstWord::Protect);
     }
     if octets == b"mib".as_slice() {
-        return Some(Word::Mib);
+        return Some(FirstWord::Mib);
     }
     if octets == b"config".as_slice() {
-        return Some(Word::Config);
+        return Some(FirstWord::Config);
     }
     if octets == b"end".as_slice() {
-        return Some(Word::End);
+        return Some(FirstWord::End);
     }
     None
 }

@@ -4,7 +4,7 @@ ghost use Rattle.std.specs.Prelude.{◌≡◌, ◌++◌, OnOk};
 ghost use Rattle.cfdp_run.specs.Wrongs.{expected_text, too_late_text, values_text, wrong_text};
 
 use crate::settings::Key;
-use crate::words::Word;
+use crate::words::FirstWord;
 use std::alloc::AllocError;
 
 /// What is wrong with a bad line.
@@ -15,9 +15,9 @@ pub enum Wrong {
     /// Its first word is none that begins a line.
     UnknownWord,
     /// It is a line of the head, and the head is over.
-    TooLate(Word),
+    TooLate(FirstWord),
     /// A word is missing or too many, or is no number or no hexadecimal.
-    Expected(Word),
+    Expected(FirstWord),
     /// A word of `mib` names no key.
     UnknownKey,
     /// A word of `mib` has a value that this key does not have.
@@ -39,7 +39,7 @@ pub enum Wrong {
 }
 
 /// Appends the text of a line of the head that comes too late.
-fn push_too_late(word: Word, text: &mut Vec<u8>) -> Result<(), AllocError>
+fn push_too_late(word: FirstWord, text: &mut Vec<u8>) -> Result<(), AllocError>
     ensures { OnOk result (text.new.items ≡ text.old.items ++ too_late_text word) }
 {
     text.extend_from_slice(word.spelling())?;
@@ -47,7 +47,7 @@ fn push_too_late(word: Word, text: &mut Vec<u8>) -> Result<(), AllocError>
 }
 
 /// Appends how a line has to be written.
-fn push_expected(word: Word, text: &mut Vec<u8>) -> Result<(), AllocError>
+fn push_expected(word: FirstWord, text: &mut Vec<u8>) -> Result<(), AllocError>
     ensures { OnOk result (text.new.items ≡ text.old.items ++ expected_text word) }
 {
     text.extend_from_slice(b"expected ")?;

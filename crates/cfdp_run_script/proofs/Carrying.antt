@@ -6,7 +6,7 @@ use Rattle.std.proofs.lemmas.List.{append-nil, take-append-drop, drop_more, take
 use Rattle.cfdp_lines.specs.Answers.{AnswersLine, Adds}
 use Rattle.cfdp_lines.specs.Lines.{is_newline, line_limit, is_overlong, is_comment, lines_of, IsOneLine}
 use Rattle.cfdp_lines.specs.Report.{and_then_report, empty_report, line_answer, stopped_at}
-use Rattle.cfdp_lines.specs.Session.{place, lines_by, report_at, StopsBad}
+use Rattle.cfdp_lines.specs.Session.{line_reading, lines_by, report_at, StopsBad}
 use Rattle.cfdp_lines.specs.Words.{words_of}
 use Rattle.cfdp_lines.proofs.Feeding.{Adds-line, Stops-line}
 use Rattle.cfdp_lines.proofs.LineLemmas.{lines_by-newline, lines_by-begun, lines_of-last}
@@ -14,7 +14,7 @@ use Rattle.cfdp_lines.proofs.Moving.{report_at-last}
 use Rattle.cfdp_run.specs.Commands.{texts_say}
 use Rattle.cfdp_run.specs.Scripts.{ScriptStage, Step, ok_in, answer, line_step, said_step, mib_of, progress_of, why_by, why_from}
 use Rattle.cfdp_run.specs.Stops.{Stop, IsWrong, NoMemory, stop_of}
-use Rattle.cfdp_run.specs.declared.stop.Stop.{Stop as StopValue}
+use Rattle.cfdp_run.specs.declared.stop.ScriptStop.{ScriptStop as StopValue}
 use Rattle.cfdp_run.specs.declared.wrong.Wrong.TheVariants.{TooLong}
 use Rattle.cfdp_run_script.specs.Sessions.{EndsScript, ScriptGoesOn, StopsFor, why_at}
 use Rattle.cfdp_run_script.specs.Steps.{Leads, StopsScript}
@@ -61,13 +61,13 @@ module _ (files : List ℕ → Option (List ℕ)) where
 
   pub adds : (n : ℕ) (s after : ScriptStage) (line octets before text : List ℕ) (at : ℕ) → IsOneLine (line ++ take at octets) → at < length octets →
       is_newline (get_or octets at 0) ≡ true → Leads (line_step files s (line ++ take at octets)) after before text →
-      Adds (answer files) (place n s line) (place (n + 1) after []) (take (at + 1) octets) before text
+      Adds (answer files) (line_reading n s line) (line_reading (n + 1) after []) (take (at + 1) octets) before text
   adds n s after line octets before text at one within newline d =
       Adds-line ScriptStage (answer files) n s after line octets before text at one within newline (answers s after (line ++ take at octets) before text d)
 
   pub goes_on : (n : ℕ) (s after : ScriptStage) (line octets before text : List ℕ) (at : ℕ) → IsOneLine (line ++ take at octets) → at < length octets →
       is_newline (get_or octets at 0) ≡ true → Leads (line_step files s (line ++ take at octets)) after before text →
-      ScriptGoesOn files (place n s line) (place (n + 1) after []) (take (at + 1) octets)
+      ScriptGoesOn files (line_reading n s line) (line_reading (n + 1) after []) (take (at + 1) octets)
   goes_on n s after line octets before text at one within newline d = record {
     same = λ ends rest.
         let first = line ++ take at octets in
@@ -76,7 +76,7 @@ module _ (files : List ℕ → Option (List ℕ)) where
         ∙ ap (λ (step : Step). why_by step (λ next. why_from files next (lines_by ends rest))) d.does;
   }
 
-  pub goes_nowhere : (n : ℕ) (s : ScriptStage) (line octets : List ℕ) → ScriptGoesOn files (place n s line) (place n s (line ++ octets)) octets
+  pub goes_nowhere : (n : ℕ) (s : ScriptStage) (line octets : List ℕ) → ScriptGoesOn files (line_reading n s line) (line_reading n s (line ++ octets)) octets
   goes_nowhere n s line octets = record {
     same = λ ends rest. ap (λ (o : List ℕ). why_from files s (lines_by ends o)) (sym (append_assoc line octets rest));
   }
@@ -89,12 +89,12 @@ module _ (files : List ℕ → Option (List ℕ)) where
 
   pub stops_at : (n : ℕ) (s : ScriptStage) (line octets : List ℕ) (at : ℕ) (why : StopValue) → IsOneLine (line ++ take at octets) → at < length octets →
       is_newline (get_or octets at 0) ≡ true → StopsScript (line_step files s (line ++ take at octets)) why → stop_of why ≢ NoMemory →
-      StopsBad (answer files) (place n s line) octets [] n
+      StopsBad (answer files) (line_reading n s line) octets [] n
   stops_at n s line octets at why one within newline stops known =
       Stops-line ScriptStage (answer files) n s line octets at one within newline (answered s (line ++ take at octets) ∙ ap ok_in (stops known))
 
   pub stops_for : (n : ℕ) (s : ScriptStage) (line octets : List ℕ) (at : ℕ) (why : StopValue) → IsOneLine (line ++ take at octets) → at < length octets →
-      is_newline (get_or octets at 0) ≡ true → StopsScript (line_step files s (line ++ take at octets)) why → StopsFor files (place n s line) octets why
+      is_newline (get_or octets at 0) ≡ true → StopsScript (line_step files s (line ++ take at octets)) why → StopsFor files (line_reading n s line) octets why
   stops_for n s line octets at why one within newline stops = record {
     stops = λ ends rest known.
         let first = line ++ take at octets in
@@ -110,7 +110,7 @@ module _ (files : List ℕ → Option (List ℕ)) where
   -- too many octets, and what comes after them
   pub long_for : (n : ℕ) (s : ScriptStage) (line part more : List ℕ) (why : StopValue) → IsOneLine (line ++ part) →
       (stop_of why ≢ NoMemory → line_limit < length line + length part) → (stop_of why ≢ NoMemory → stop_of why ≡ IsWrong TooLong) →
-      StopsFor files (place n s line) (part ++ more) why
+      StopsFor files (line_reading n s line) (part ++ more) why
   long_for n s line part more why one long is = record {
     stops = λ ends rest known.
         let front = line ++ part in
@@ -127,12 +127,12 @@ module _ (files : List ℕ → Option (List ℕ)) where
 
   -- ---- the script ends
 
-  pub ends_empty : (n : ℕ) (s : ScriptStage) (text : List ℕ) → EndsScript files (place n s []) text text
+  pub ends_empty : (n : ℕ) (s : ScriptStage) (text : List ℕ) → EndsScript files (line_reading n s []) text text
   ends_empty n s text = record { written = []; is = refl; appended = sym (append-nil text) }
 
   pub ends_line : (n : ℕ) (s after : ScriptStage) (line before text : List ℕ) → IsOneLine line → 0 < length line → Leads
       (line_step files s line) after before text →
-      EndsScript files (place n s line) before text
+      EndsScript files (line_reading n s line) before text
   ends_line n s after line before text one few d = record {
     written = d.text;
     is = report_at-last ScriptStage (answer files) n s line one few
@@ -145,16 +145,16 @@ module _ (files : List ℕ → Option (List ℕ)) where
 
   pub goes_well : (n : ℕ) (s after : ScriptStage) (line before text : List ℕ) → IsOneLine line → 0 < length line → Leads
       (line_step files s line) after before text →
-      why_at files true (place n s line) [] ≡ None
+      why_at files true (line_reading n s line) [] ≡ None
   goes_well n s after line before text one few d =
       ap (why_from files s) (only line one few) ∙ ap (λ (step : Step). why_by step (λ next. why_from files next [])) d.does
 
   pub stops_last : (n : ℕ) (s : ScriptStage) (line : List ℕ) (why : StopValue) → IsOneLine line → 0 < length line → StopsScript (line_step files s line) why →
-      stop_of why ≢ NoMemory → report_at (answer files) true (place n s line) [] ≡ stopped_at n
+      stop_of why ≢ NoMemory → report_at (answer files) true (line_reading n s line) [] ≡ stopped_at n
   stops_last n s line why one few stops known =
       report_at-last ScriptStage (answer files) n s line one few
       ∙ ap (λ (o : Option (ScriptStage × List ℕ)). and_then_report n o (λ later. empty_report)) (answered s line ∙ ap ok_in (stops known))
 
   pub why_last : (n : ℕ) (s : ScriptStage) (line : List ℕ) (why : StopValue) → IsOneLine line → 0 < length line → StopsScript (line_step files s line) why →
-      stop_of why ≢ NoMemory → why_at files true (place n s line) [] ≡ Some (stop_of why)
+      stop_of why ≢ NoMemory → why_at files true (line_reading n s line) [] ≡ Some (stop_of why)
   why_last n s line why one few stops known = ap (why_from files s) (only line one few) ∙ why_first s line [] (stop_of why) (stops known)

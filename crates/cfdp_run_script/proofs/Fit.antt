@@ -9,7 +9,7 @@ use Rattle.cfdp_paths.specs.Paths.{path_of}
 use Rattle.cfdp_lines.specs.Lines.{is_overlong, is_comment}
 use Rattle.cfdp_lines.specs.Words.{number_of, numbers_of, words_of}
 use Rattle.cfdp_plans.specs.Names.{name_in, path_spelled}
-use Rattle.cfdp_receiver.specs.Machine.{mib_fault, lacks_time, is_no_time, is_limit}
+use Rattle.cfdp_receiver.specs.StateMachine.{mib_fault, lacks_time, is_no_time, is_limit}
 use Rattle.cfdp_receiver.specs.declared.mib.Mib.{Mib}
 use Rattle.cfdp_receiver.specs.declared.mib.MibFault.{MibFault}
 use Rattle.cfdp_receiver.specs.declared.mib.MibFault.TheVariants as faults
@@ -17,11 +17,11 @@ use Rattle.cfdp_run.specs.Commands.{Nothing, LineMeaning, Settings, Configure, P
 use Rattle.cfdp_run.specs.Settings.{key_of, within_by, interval_of, limit_of, longest_of, keep_alive_of, nak_mode_of, yes_of, handler_of, with_value}
 use Rattle.cfdp_run.specs.code.Stages.{IsFit}
 use Rattle.cfdp_run.specs.Words.{is_of_head, word_of}
-use Rattle.cfdp_run.specs.declared.commands.Progress.{Progress}
+use Rattle.cfdp_run.specs.declared.commands.HeadProgress.{HeadProgress}
 use Rattle.cfdp_run.specs.declared.settings.Key.{Key}
 use Rattle.cfdp_run.specs.declared.settings.Key.TheVariants as key
-use Rattle.cfdp_run.specs.declared.words.Word.{Word}
-use Rattle.cfdp_run.specs.declared.words.Word.TheVariants as word
+use Rattle.cfdp_run.specs.declared.words.FirstWord.{FirstWord}
+use Rattle.cfdp_run.specs.declared.words.FirstWord.TheVariants as word
 use Rattle.cfdp_run.specs.declared.wrong.Wrong.{Wrong}
 use Rattle.cfdp_run.specs.declared.wrong.Wrong.TheVariants as wrongs
 
@@ -359,12 +359,12 @@ unfolding FitsSaid
 at_in-fits [] = tt
 at_in-fits (text ∷ texts) = first_fits (ok_or (number_of text) _) (λ now. input_in now texts) (λ now. input_in-fits now texts)
 
-alone-fits : (known : Word) (what : LineMeaning) (texts : List (List ℕ)) → IsFit what → FitsSaid (says_alone known what texts)
+alone-fits : (known : FirstWord) (what : LineMeaning) (texts : List (List ℕ)) → IsFit what → FitsSaid (says_alone known what texts)
 unfolding FitsSaid
 alone-fits known what [] f = f
 alone-fits known what (text ∷ texts) f = tt
 
-says-fits : (mib : Mib) (how_far : Progress) (known : Word) (texts : List (List ℕ)) → Fits mib → FitsSaid (says mib how_far known texts)
+says-fits : (mib : Mib) (how_far : HeadProgress) (known : FirstWord) (texts : List (List ℕ)) → Fits mib → FitsSaid (says mib how_far known texts)
 says-fits mib how_far word.Mib texts f = set_fits (settings_in mib texts) (settings_in-fits mib texts f)
 says-fits mib how_far word.Config texts f = said_fits Configure (λ x. tt) (config_in how_far (numbers_of texts))
 says-fits mib how_far word.Protect texts f = said_fits Protect (λ x. tt) (only_path word.Protect texts)
@@ -377,7 +377,7 @@ says-fits mib how_far word.List texts f = alone-fits word.List ListAll texts tt
 says-fits mib how_far word.Expect texts f = said_fits Expect (λ x. tt) (line_in texts)
 says-fits mib how_far word.End texts f = alone-fits word.End End texts tt
 
-in_time-fits : (mib : Mib) (how_far : Progress) (known : Word) (texts : List (List ℕ)) → Fits mib → FitsSaid (in_time mib how_far known texts)
+in_time-fits : (mib : Mib) (how_far : HeadProgress) (known : FirstWord) (texts : List (List ℕ)) → Fits mib → FitsSaid (in_time mib how_far known texts)
 unfolding FitsSaid
 in_time-fits mib how_far known texts f =
     elim (is_of_head known && is_playing how_far) as (λ b. FitsSaid (if b then Err (wrongs.TooLate known) else says mib how_far known texts)) [
@@ -385,7 +385,7 @@ in_time-fits mib how_far known texts f =
       | false ↦ says-fits mib how_far known texts f
     ]
 
-begun_by-fits : (mib : Mib) (how_far : Progress) (known : Option Word) (texts : List (List ℕ)) → Fits mib → FitsSaid (begun_by mib how_far known texts)
+begun_by-fits : (mib : Mib) (how_far : HeadProgress) (known : Option FirstWord) (texts : List (List ℕ)) → Fits mib → FitsSaid (begun_by mib how_far known texts)
 begun_by-fits mib how_far known texts f =
     first_fits (ok_or known _) (λ one. in_time mib how_far one texts) (λ one. in_time-fits mib how_far one texts f)
 
@@ -399,12 +399,12 @@ unfolding FitsSaid FitsLine
 some_fits (Ok said) f = f
 some_fits (Err wrong) f = tt
 
-texts_say-fits : (mib : Mib) (how_far : Progress) (texts : List (List ℕ)) → Fits mib → FitsLine (texts_say mib how_far texts)
+texts_say-fits : (mib : Mib) (how_far : HeadProgress) (texts : List (List ℕ)) → Fits mib → FitsLine (texts_say mib how_far texts)
 unfolding FitsLine
 texts_say-fits mib how_far [] f = tt
 texts_say-fits mib how_far (text ∷ texts) f = some_fits (begun_by mib how_far (word_of text) texts) (begun_by-fits mib how_far (word_of text) texts f)
 
-line-fits : (mib : Mib) (how_far : Progress) (line : List ℕ) → Fits mib → FitsLine (meaning_in mib how_far line)
+line-fits : (mib : Mib) (how_far : HeadProgress) (line : List ℕ) → Fits mib → FitsLine (meaning_in mib how_far line)
 unfolding FitsLine
 line-fits mib how_far line f =
     elim (is_overlong line) as (λ b. FitsLine (if b then Err wrongs.TooLong else if is_comment line then Ok None else texts_say mib how_far (words_of line))) [
@@ -415,7 +415,8 @@ line-fits mib how_far line f =
       ]
     ]
 
-pub command_fits : (mib : Mib) (how_far : Progress) (line : List ℕ) (said : LineMeaning) → mib_fault mib ≡ None → meaning_in mib how_far line ≡ Ok (Some said) →
+pub command_fits : (mib : Mib) (how_far : HeadProgress) (line : List ℕ) (said : LineMeaning) → mib_fault mib ≡ None → meaning_in mib how_far line ≡ Ok
+    (Some said) →
     IsFit said
 unfolding FitsLine
 command_fits mib how_far line said none e = subst FitsLine e (line-fits mib how_far line (none_fits mib none))

@@ -5,49 +5,50 @@ use Rattle.std.specs.Prelude.{Option, Some, None, Result, Ok, Err, IfSome, optio
 use Rattle.cfdp_paths.specs.Paths.{Path}
 use Rattle.cfdp_actions.specs.Filestore.{Node, File}
 use Rattle.cfdp_run.specs.Commands.{Content, Nothing, Octets, File as Named}
-use Rattle.cfdp_run.specs.Putting.{place_wrong}
+use Rattle.cfdp_run.specs.Putting.{path_wrong}
 use Rattle.cfdp_run.specs.Scripts.{Head, Play, ScriptStage, Playing, Step, head_changed, in_head, put, put_content, put_file, put_node, put_read, unless, written}
 use Rattle.cfdp_run.specs.Stages.{head_of, play_from}
 use Rattle.cfdp_run.specs.Stops.{Stop, IsWrong, NoMemory, Unread, stop_of}
 use Rattle.cfdp_run.specs.declared.head.Head.{Head as HeadValue}
 use Rattle.cfdp_run.specs.declared.play.Play.{Play as PlayValue}
-use Rattle.cfdp_run.specs.declared.stop.Stop.{Stop as StopValue}
-use Rattle.cfdp_run.specs.declared.words.Word.{Word}
-use Rattle.cfdp_run.specs.declared.words.Word.TheVariants as word
+use Rattle.cfdp_run.specs.declared.stop.ScriptStop.{ScriptStop as StopValue}
+use Rattle.cfdp_run.specs.declared.words.FirstWord.{FirstWord}
+use Rattle.cfdp_run.specs.declared.words.FirstWord.TheVariants as word
 use Rattle.cfdp_run.specs.declared.wrong.Wrong.{Wrong}
 use Rattle.cfdp_run_script.specs.Steps.{Leads, StopsScript, script_stage}
 use Rattle.cfdp_run_script.specs.code.Steps.{held, held_in}
 
 -- ---- the head
 
-pub head_step : (h g : HeadValue) (p q : Option PlayValue) (w : Word) (change : Head → Result Head Stop) → p ≡ None → q ≡ p → change (head_of h)
+pub head_step : (h g : HeadValue) (p q : Option PlayValue) (w : FirstWord) (change : Head → Result Head Stop) → p ≡ None → q ≡ p → change (head_of h)
     ≡ Ok (head_of g) →
     in_head w (script_stage h p) change ≡ Ok (script_stage g q, [])
 unfolding script_stage
 head_step h g p q w change none same e = rw (same, none) (ap head_changed e)
 
-pub head_stop : (h : HeadValue) (p : Option PlayValue) (w : Word) (change : Head → Result Head Stop) (why : Stop) → p ≡ None → change (head_of h) ≡ Err why →
+pub head_stop : (h : HeadValue) (p : Option PlayValue) (w : FirstWord) (change : Head → Result Head Stop) (why : Stop) → p ≡ None → change (head_of h) ≡ Err why
+    →
     in_head w (script_stage h p) change ≡ Err why
 unfolding script_stage
 head_stop h p w change why none e = rw none (ap head_changed e)
 
-pub placed : (o : Option Wrong) (later : Result Head Stop) → o ≡ None → unless o later ≡ later
-placed o later none = rw none refl
+pub not_wrong : (o : Option Wrong) (later : Result Head Stop) → o ≡ None → unless o later ≡ later
+not_wrong o later none = rw none refl
 
-pub misplaced : (o : Option Wrong) (later : Result Head Stop) (why : Stop) → option_map IsWrong o ≡ Some why → unless o later ≡ Err why
-misplaced None later why e = absurd cc
-misplaced (Some wrong) later why e = let same : IsWrong wrong ≡ why = cc in ap Err same
+pub is_wrong : (o : Option Wrong) (later : Result Head Stop) (why : Stop) → option_map IsWrong o ≡ Some why → unless o later ≡ Err why
+is_wrong None later why e = absurd cc
+is_wrong (Some wrong) later why e = let same : IsWrong wrong ≡ why = cc in ap Err same
 
 -- something is put at a path
 
-pub put_placed : (h : Head) (path : Path) (node : Node) → place_wrong h.world.filestore path ≡ None → put h path node ≡ put_node h path node
+pub put_not_wrong : (h : Head) (path : Path) (node : Node) → path_wrong h.world.filestore path ≡ None → put h path node ≡ put_node h path node
 unfolding put
-put_placed h path node none = placed (place_wrong h.world.filestore path) (put_node h path node) none
+put_not_wrong h path node none = not_wrong (path_wrong h.world.filestore path) (put_node h path node) none
 
-pub put_misplaced : (h : Head) (path : Path) (node : Node) (why : Stop) → option_map IsWrong (place_wrong h.world.filestore path) ≡ Some why → put h path node
+pub put_wrong : (h : Head) (path : Path) (node : Node) (why : Stop) → option_map IsWrong (path_wrong h.world.filestore path) ≡ Some why → put h path node
     ≡ Err why
 unfolding put
-put_misplaced h path node why e = misplaced (place_wrong h.world.filestore path) (put_node h path node) why e
+put_wrong h path node why e = is_wrong (path_wrong h.world.filestore path) (put_node h path node) why e
 
 -- what a file is to hold was found, or not
 
@@ -73,21 +74,21 @@ put_unheld files h path (Named name) why e =
     ]
     e
 
-pub put_file_held : (files : List ℕ → Option (List ℕ)) (h : Head) (path : Path) (content : Content) (octets given : List ℕ) → place_wrong h.world.filestore path
+pub put_file_held : (files : List ℕ → Option (List ℕ)) (h : Head) (path : Path) (content : Content) (octets given : List ℕ) → path_wrong h.world.filestore path
     ≡ None →
     held files content ≡ Ok octets → given ≡ octets → put_file files h path content ≡ put_node h path (File given)
 put_file_held files h path content octets given none e same =
-    placed (place_wrong h.world.filestore path) (put_content files h path content) none ∙ put_held files h path content octets e
+    not_wrong (path_wrong h.world.filestore path) (put_content files h path content) none ∙ put_held files h path content octets e
     ∙ ap (λ (o : List ℕ). put_node h path (File o)) (sym same)
 
-pub put_file_unheld : (files : List ℕ → Option (List ℕ)) (h : Head) (path : Path) (content : Content) (why : Stop) → place_wrong h.world.filestore path ≡ None →
+pub put_file_unheld : (files : List ℕ → Option (List ℕ)) (h : Head) (path : Path) (content : Content) (why : Stop) → path_wrong h.world.filestore path ≡ None →
     held files content ≡ Err why → put_file files h path content ≡ Err why
 put_file_unheld files h path content why none e =
-    placed (place_wrong h.world.filestore path) (put_content files h path content) none ∙ put_unheld files h path content why e
+    not_wrong (path_wrong h.world.filestore path) (put_content files h path content) none ∙ put_unheld files h path content why e
 
-pub put_file_misplaced : (files : List ℕ → Option (List ℕ)) (h : Head) (path : Path) (content : Content) (why : Stop) →
-    option_map IsWrong (place_wrong h.world.filestore path) ≡ Some why → put_file files h path content ≡ Err why
-put_file_misplaced files h path content why e = misplaced (place_wrong h.world.filestore path) (put_content files h path content) why e
+pub put_file_wrong : (files : List ℕ → Option (List ℕ)) (h : Head) (path : Path) (content : Content) (why : Stop) →
+    option_map IsWrong (path_wrong h.world.filestore path) ≡ Some why → put_file files h path content ≡ Err why
+put_file_wrong files h path content why e = is_wrong (path_wrong h.world.filestore path) (put_content files h path content) why e
 
 -- ---- the entity after it
 
@@ -118,34 +119,34 @@ abbrev pub PutStep : (List ℕ → Option (List ℕ)) → HeadValue → Option P
 PutStep map h p path content = in_head word.Put (script_stage h p) (λ head. put_file map head path content)
 
 pub file_put : (told : Told) (h g : HeadValue) (p q : Option PlayValue) (path : Path) (content : Content) (octets given : List ℕ) → p ≡ None → q ≡ p →
-    place_wrong (head_of h).world.filestore path ≡ None → IfSome told (λ map. held map content ≡ Ok octets) → given ≡ octets →
+    path_wrong (head_of h).world.filestore path ≡ None → IfSome told (λ map. held map content ≡ Ok octets) → given ≡ octets →
     put_node (head_of h) path (File given) ≡ Ok (head_of g) → IfSome told (λ map. PutStep map h p path content ≡ Ok (script_stage g q, []))
-file_put None h g p q path content octets given none kept place e same put = tt
-file_put (Some map) h g p q path content octets given none kept place e same put =
-    head_step h g p q word.Put (λ head. put_file map head path content) none kept (put_file_held map (head_of h) path content octets given place e same ∙ put)
+file_put None h g p q path content octets given none kept vacant e same put = tt
+file_put (Some map) h g p q path content octets given none kept vacant e same put =
+    head_step h g p q word.Put (λ head. put_file map head path content) none kept (put_file_held map (head_of h) path content octets given vacant e same ∙ put)
 
-pub file_misplaced : (told : Told) (h : HeadValue) (p : Option PlayValue) (path : Path) (content : Content) (why : StopValue) → p ≡ None →
-    (stop_of why ≢ NoMemory → option_map IsWrong (place_wrong (head_of h).world.filestore path) ≡ Some (stop_of why)) →
+pub file_wrong : (told : Told) (h : HeadValue) (p : Option PlayValue) (path : Path) (content : Content) (why : StopValue) → p ≡ None →
+    (stop_of why ≢ NoMemory → option_map IsWrong (path_wrong (head_of h).world.filestore path) ≡ Some (stop_of why)) →
     IfSome told (λ map. StopsScript (PutStep map h p path content) why)
-file_misplaced None h p path content why none e = tt
-file_misplaced (Some map) h p path content why none e = λ known.
-    head_stop h p word.Put (λ head. put_file map head path content) (stop_of why) none (put_file_misplaced map (head_of h) path content (stop_of why) (e known))
+file_wrong None h p path content why none e = tt
+file_wrong (Some map) h p path content why none e = λ known.
+    head_stop h p word.Put (λ head. put_file map head path content) (stop_of why) none (put_file_wrong map (head_of h) path content (stop_of why) (e known))
 
 pub file_unread : (told : Told) (h : HeadValue) (p : Option PlayValue) (path : Path) (content : Content) (why : StopValue) → p ≡ None →
-    place_wrong (head_of h).world.filestore path ≡ None → IfSome told (λ map. stop_of why ≢ NoMemory → held map content ≡ Err (stop_of why)) →
+    path_wrong (head_of h).world.filestore path ≡ None → IfSome told (λ map. stop_of why ≢ NoMemory → held map content ≡ Err (stop_of why)) →
     IfSome told (λ map. StopsScript (PutStep map h p path content) why)
-file_unread None h p path content why none place e = tt
-file_unread (Some map) h p path content why none place e = λ known.
+file_unread None h p path content why none vacant e = tt
+file_unread (Some map) h p path content why none vacant e = λ known.
     head_stop h p word.Put (λ head. put_file map head path content) (stop_of why) none
-    (put_file_unheld map (head_of h) path content (stop_of why) place (e known))
+    (put_file_unheld map (head_of h) path content (stop_of why) vacant (e known))
 
 pub file_not_put : (told : Told) (h : HeadValue) (p : Option PlayValue) (path : Path) (content : Content) (octets given : List ℕ) (why : StopValue) → p ≡ None →
-    place_wrong (head_of h).world.filestore path ≡ None → IfSome told (λ map. held map content ≡ Ok octets) → given ≡ octets →
+    path_wrong (head_of h).world.filestore path ≡ None → IfSome told (λ map. held map content ≡ Ok octets) → given ≡ octets →
     (stop_of why ≢ NoMemory → put_node (head_of h) path (File given) ≡ Err (stop_of why)) → IfSome told (λ map. StopsScript (PutStep map h p path content) why)
-file_not_put None h p path content octets given why none place e same put = tt
-file_not_put (Some map) h p path content octets given why none place e same put = λ known.
+file_not_put None h p path content octets given why none vacant e same put = tt
+file_not_put (Some map) h p path content octets given why none vacant e same put = λ known.
     head_stop h p word.Put (λ head. put_file map head path content) (stop_of why) none
-    (put_file_held map (head_of h) path content octets given place e same ∙ put known)
+    (put_file_held map (head_of h) path content octets given vacant e same ∙ put known)
 
 -- a line that writes nothing
 pub quiet : (told : Told) (steps : (List ℕ → Option (List ℕ)) → Step) (stage : ScriptStage) (text : List ℕ) → IfSome told (λ map. steps map ≡ Ok (stage, [])) →

@@ -8,8 +8,8 @@ use Rattle.cfdp_run.specs.Stages.{head_of, play_from}
 use Rattle.cfdp_run.specs.Stops.{NoMemory, stop_of}
 use Rattle.cfdp_run.specs.declared.head.Head.{Head as HeadValue}
 use Rattle.cfdp_run.specs.declared.play.Play.{Play as PlayValue}
-use Rattle.cfdp_run.specs.declared.stop.Stop.{Stop as StopValue}
-use Rattle.cfdp_run_script.specs.declared.script.Script.{Script as ScriptValue}
+use Rattle.cfdp_run.specs.declared.stop.ScriptStop.{ScriptStop as StopValue}
+use Rattle.cfdp_run_script.specs.declared.script.RunScript.{RunScript as ScriptValue}
 
 unfoldable pub script_stage : HeadValue → Option PlayValue → ScriptStage
 script_stage head None = Preparing (head_of head)

@@ -1,7 +1,7 @@
 //! Whole scripts of `cfdp run`: each line is carried out, one after the other, with the files that lines `put` name.
 //!
-//! [`Script`] is a script between two lines, and [`Session`] one of which octets come in pieces. The definitions of
-//! `cfdp_run` say what each line does and writes (`line_step`), and why a script stops (`script_stop`).
+//! [`RunScript`] is a script between two lines, and [`ScriptSession`] one of which octets come in pieces. The
+//! definitions of `cfdp_run` say what each line does and writes (`line_step`), and why a script stops (`script_stop`).
 #![tactic(auto)]
 
 mod files;
@@ -9,5 +9,5 @@ mod script;
 mod session;
 
 pub use files::{Files, Unread};
-pub use script::Script;
-pub use session::Session;
+pub use script::RunScript;
+pub use session::ScriptSession;

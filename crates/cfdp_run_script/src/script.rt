@@ -2,7 +2,7 @@
 
 ghost use Rattle.std.specs.Prelude.{◌≡◌, ◌≢◌, ℕ, List, [], Option, None, Some, Ok, Err, Result, IfErr, IfOk, IfSome, IsSome, OnErr, OnOk};
 ghost use Rattle.cfdp_actions.specs.Filestore.{Directory, File};
-ghost use Rattle.cfdp_receiver.specs.Machine.{mib_fault};
+ghost use Rattle.cfdp_receiver.specs.StateMachine.{mib_fault};
 ghost use Rattle.cfdp_texts.specs.Replies.{listing_text};
 ghost use Rattle.cfdp_run.specs.Commands.{content_of, command_meaning};
 ghost use Rattle.cfdp_run.specs.Contents.{get_line};
@@ -11,8 +11,8 @@ ghost use Rattle.cfdp_run.specs.Scripts.{Head as SaidInHead, asked, script_at_fi
 ghost use Rattle.cfdp_run.specs.Stages.{head_of, play_from};
 ghost use Rattle.cfdp_run.specs.code.Stages.{IsFit};
 ghost use Rattle.cfdp_run.specs.Stops.{NoMemory, Stop as Why, stop_of};
-ghost use Rattle.cfdp_run.specs.declared.commands.Progress.TheVariants as progress;
-ghost use Rattle.cfdp_run.specs.declared.words.Word.TheVariants as word;
+ghost use Rattle.cfdp_run.specs.declared.commands.HeadProgress.TheVariants as progress;
+ghost use Rattle.cfdp_run.specs.declared.words.FirstWord.TheVariants as word;
 ghost use Rattle.cfdp_run_script.specs.Steps.{Leads, StopsScript, script_of};
 ghost use Rattle.cfdp_run_script.specs.code.Steps.{held};
 
@@ -21,7 +21,8 @@ use cfdp_entity::Entity;
 use cfdp_paths::Path;
 use cfdp_receiver::{Mib, Receiver};
 use cfdp_run::{
-    Command, Content, Head, Play, Progress, Stop, Word, Wrong, default_mib, read_command,
+    FileContent, FirstWord, Head, HeadProgress, Play, RunCommand, ScriptStop, Wrong, default_mib,
+    read_command,
 };
 use cfdp_status::TransactionId;
 use cfdp_transactions::Config;
@@ -29,7 +30,7 @@ use std::alloc::{AllocError, Global};
 
 /// A script between two lines.
 #[derive(Drop)]
-pub struct Script {
+pub struct RunScript {
     /// What the head says. It is not looked at after the head.
     head: Head,
     /// The receiving entity, after the head.
@@ -37,7 +38,11 @@ pub struct Script {
 }
 
 /// The octets that a file is to have.
-fn octets_of<F: Files>(alloc: Global, files: &mut F, content: Content<'_>) -> Result<Vec<u8>, Stop>
+fn octets_of<F: Files>(
+    alloc: Global,
+    files: &mut F,
+    content: FileContent<'_>,
+) -> Result<Vec<u8>, ScriptStop>
     ensures ok { IfOk result (λ octets. IfSome (F.told files.old) (λ map. held map (content_of content.entry)
         ≡ Ok octets.items)) }
     ensures err { IfErr result (λ why. IfSome (F.told files.old) (λ map. stop_of why ≢ NoMemory →
@@ -45,28 +50,28 @@ fn octets_of<F: Files>(alloc: Global, files: &mut F, content: Content<'_>) -> Re
     ensures same { F.told files.new ≡ F.told files.old }
 {
     match content {
-        Content::None => Ok(Vec::new(alloc)),
-        Content::Octets(octets) => Ok(octets),
-        Content::File(name) => match files.read(alloc, name) {
+        FileContent::None => Ok(Vec::new(alloc)),
+        FileContent::Octets(octets) => Ok(octets),
+        FileContent::File(name) => match files.read(alloc, name) {
             Ok(octets) => Ok(octets),
-            Err(Unread::Failed) => Err(Stop::Unread(name.to_vec(alloc)?)),
-            Err(Unread::Memory) => Err(Stop::Memory),
+            Err(Unread::Failed) => Err(ScriptStop::Unread(name.to_vec(alloc)?)),
+            Err(Unread::Memory) => Err(ScriptStop::Memory),
         },
     }
 }
 
-impl Script {
+impl RunScript {
     /// Before the first line.
     ///
     /// # Errors
     ///
     /// [`AllocError`] when out of memory. Cost: an entity of 64 blocks.
     #[tactic(auto, unfolding(crate::specs::Steps::script_stage))]
-    pub fn new(alloc: Global) -> Result<Script, AllocError>
+    pub fn new(alloc: Global) -> Result<RunScript, AllocError>
         ensures { IfOk result (λ script. script_of script ≡ script_at_first) }
     {
         let head = Head::new(alloc)?;
-        Ok(Script { head, play: None })
+        Ok(RunScript { head, play: None })
     }
 
     /// The settings, for a line `mib`.
@@ -83,75 +88,75 @@ impl Script {
 
     /// How far the head is.
     #[tactic(auto, unfolding(crate::specs::Steps::script_stage))]
-    fn progress(&self) -> Progress
+    fn progress(&self) -> HeadProgress
         ensures { result ≡ progress_of (script_of self.now) }
     {
         match &self.play {
             None => self.head.progress(),
-            Some(_) => Progress::Playing,
+            Some(_) => HeadProgress::Playing,
         }
     }
 
     /// A line of the head is too late after it.
     #[tactic(auto, unfolding(crate::specs::Steps::script_stage))]
-    fn in_head(&self, word: Word) -> Result<(), Stop>
+    fn in_head(&self, word: FirstWord) -> Result<(), ScriptStop>
         ensures ok { OnOk result (self.now.play ≡ None) }
         ensures late { IfErr result (λ stop. (change : SaidInHead → Result SaidInHead Why) →
             in_head word (script_of self.now) change ≡ Err (stop_of stop)) }
     {
         match &self.play {
             None => Ok(()),
-            Some(_) => Err(Stop::Wrong(Wrong::TooLate(word))),
+            Some(_) => Err(ScriptStop::Wrong(Wrong::TooLate(word))),
         }
     }
 
     /// A line `mib`.
     #[tactic(auto, unfolding(crate::specs::Steps::script_stage))]
-    fn set(&mut self, mib: Mib) -> Result<(), Stop>
+    fn set(&mut self, mib: Mib) -> Result<(), ScriptStop>
         requires { mib_fault mib ≡ None }
         ensures ok { OnOk result (in_head word.Mib (script_of self.old) (λ head. Ok (with_mib head mib))
             ≡ Ok (script_of self.new, [])) }
         ensures err { IfErr result (StopsScript (in_head word.Mib (script_of self.old)
             (λ head. Ok (with_mib head mib)))) }
     {
-        self.in_head(Word::Mib)?;
+        self.in_head(FirstWord::Mib)?;
         self.head.set(mib);
         Ok(())
     }
 
     /// A line `config`.
     #[tactic(auto, unfolding(crate::specs::Steps::script_stage))]
-    fn configure(&mut self, alloc: Global, config: Config) -> Result<(), Stop>
+    fn configure(&mut self, alloc: Global, config: Config) -> Result<(), ScriptStop>
         ensures ok { OnOk result (in_head word.Config (script_of self.old) (λ head. Ok (with_config head config))
             ≡ Ok (script_of self.new, [])) }
         ensures err { IfErr result (StopsScript (in_head word.Config (script_of self.old)
             (λ head. Ok (with_config head config)))) }
     {
-        self.in_head(Word::Config)?;
+        self.in_head(FirstWord::Config)?;
         Ok(self.head.configure(alloc, config)?)
     }
 
     /// A line `protect`.
     #[tactic(auto, unfolding(crate::specs::Steps::script_stage))]
-    fn protect(&mut self, path: Path) -> Result<(), Stop>
+    fn protect(&mut self, path: Path) -> Result<(), ScriptStop>
         ensures ok { OnOk result (in_head word.Protect (script_of self.old) (λ head. head_protected head path)
             ≡ Ok (script_of self.new, [])) }
         ensures err { IfErr result (StopsScript (in_head word.Protect (script_of self.old)
             (λ head. head_protected head path))) }
     {
-        self.in_head(Word::Protect)?;
+        self.in_head(FirstWord::Protect)?;
         self.head.protect(path)
     }
 
     /// A line `put` of a directory.
-    fn put_directory(&mut self, alloc: Global, path: &Path) -> Result<(), Stop>
+    fn put_directory(&mut self, alloc: Global, path: &Path) -> Result<(), ScriptStop>
         ensures ok { OnOk result (in_head word.Put (script_of self.old) (λ head. put head path.now Directory)
             ≡ Ok (script_of self.new, [])) }
         ensures err { IfErr result (StopsScript (in_head word.Put (script_of self.old)
             (λ head. put head path.now Directory))) }
     {
-        self.in_head(Word::Put)?;
-        self.head.place(alloc, path)?;
+        self.in_head(FirstWord::Put)?;
+        self.head.check_path(alloc, path)?;
         self.head.put_directory(alloc, path)
     }
 
@@ -161,8 +166,8 @@ impl Script {
         alloc: Global,
         files: &mut F,
         path: &Path,
-        content: Content<'_>,
-    ) -> Result<(), Stop>
+        content: FileContent<'_>,
+    ) -> Result<(), ScriptStop>
         ensures ok { OnOk result (IfSome (F.told files.old) (λ map.
             in_head word.Put (script_of self.old) (λ head. put_file map head path.now (content_of content.entry))
             ≡ Ok (script_of self.new, []))) }
@@ -171,8 +176,8 @@ impl Script {
             put_file map head path.now (content_of content.entry))) why)) }
         ensures same { F.told files.new ≡ F.told files.old }
     {
-        self.in_head(Word::Put)?;
-        self.head.place(alloc, path)?;
+        self.in_head(FirstWord::Put)?;
+        self.head.check_path(alloc, path)?;
         let octets = octets_of(alloc, files, content)?;
         self.head.put_file(alloc, path, &octets)
     }
@@ -209,7 +214,7 @@ impl Script {
         now: u64,
         octets: &mut [u8],
         text: &mut Vec<u8>,
-    ) -> Result<(), Stop>
+    ) -> Result<(), ScriptStop>
         ensures ok { OnOk result (Leads (written (heard_at (play_of (script_of self.old))
             (time_of (play_of (script_of self.old)) now) octets.old))
             (script_of self.new) text.old.items text.new.items) }
@@ -232,7 +237,7 @@ impl Script {
         now: u64,
         id: TransactionId,
         text: &mut Vec<u8>,
-    ) -> Result<(), Stop>
+    ) -> Result<(), ScriptStop>
         ensures ok { OnOk result (Leads (written (cancelled_at (play_of (script_of self.old))
             (time_of (play_of (script_of self.old)) now) id)) (script_of self.new) text.old.items text.new.items) }
         ensures err { IfErr result (StopsScript (written (cancelled_at (play_of (script_of self.old))
@@ -248,7 +253,7 @@ impl Script {
     }
 
     /// Time passes.
-    fn pass(&mut self, alloc: Global, now: u64, text: &mut Vec<u8>) -> Result<(), Stop>
+    fn pass(&mut self, alloc: Global, now: u64, text: &mut Vec<u8>) -> Result<(), ScriptStop>
         ensures ok { OnOk result (Leads (written (passed_at (play_of (script_of self.old))
             (time_of (play_of (script_of self.old)) now))) (script_of self.new) text.old.items text.new.items) }
         ensures err { IfErr result (StopsScript (written (passed_at (play_of (script_of self.old))
@@ -264,7 +269,7 @@ impl Script {
     }
 
     /// What there is at a path is asked for.
-    fn get(&mut self, alloc: Global, path: &Path, text: &mut Vec<u8>) -> Result<(), Stop>
+    fn get(&mut self, alloc: Global, path: &Path, text: &mut Vec<u8>) -> Result<(), ScriptStop>
         ensures ok { OnOk result (Leads (written (asked (play_of (script_of self.old))
             (get_line (play_of (script_of self.old)).state.world.filestore path.now)))
             (script_of self.new) text.old.items text.new.items) }
@@ -281,7 +286,12 @@ impl Script {
     }
 
     /// What is missing of a transaction is asked for.
-    fn gaps(&mut self, alloc: Global, id: TransactionId, text: &mut Vec<u8>) -> Result<(), Stop>
+    fn gaps(
+        &mut self,
+        alloc: Global,
+        id: TransactionId,
+        text: &mut Vec<u8>,
+    ) -> Result<(), ScriptStop>
         ensures ok { OnOk result (Leads (written (asked (play_of (script_of self.old))
             (gaps_line (play_of (script_of self.old)).state id))) (script_of self.new) text.old.items text.new.items) }
         ensures err { IfErr result (StopsScript (written (asked (play_of (script_of self.old))
@@ -297,7 +307,12 @@ impl Script {
     }
 
     /// How far a transaction is, is asked for.
-    fn phase(&mut self, alloc: Global, id: TransactionId, text: &mut Vec<u8>) -> Result<(), Stop>
+    fn phase(
+        &mut self,
+        alloc: Global,
+        id: TransactionId,
+        text: &mut Vec<u8>,
+    ) -> Result<(), ScriptStop>
         ensures ok { OnOk result (Leads (written (asked (play_of (script_of self.old))
             (phase_line (play_of (script_of self.old)).state id))) (script_of self.new) text.old.items text.new.items) }
         ensures err { IfErr result (StopsScript (written (asked (play_of (script_of self.old))
@@ -313,7 +328,7 @@ impl Script {
     }
 
     /// All of the filestore is asked for.
-    fn list(&mut self, alloc: Global, text: &mut Vec<u8>) -> Result<(), Stop>
+    fn list(&mut self, alloc: Global, text: &mut Vec<u8>) -> Result<(), ScriptStop>
         ensures ok { OnOk result (Leads (written (asked (play_of (script_of self.old))
             (listing_text (play_of (script_of self.old)).state.world)))
             (script_of self.new) text.old.items text.new.items) }
@@ -331,7 +346,7 @@ impl Script {
 
     /// A line is expected.
     #[tactic(auto, unfolding(crate::specs::Steps::script_stage))]
-    fn expect(&mut self, alloc: Global, line: Vec<u8>) -> Result<(), Stop>
+    fn expect(&mut self, alloc: Global, line: Vec<u8>) -> Result<(), ScriptStop>
         ensures ok { OnOk result (expected (play_of (script_of self.old)) line.items ≡ Ok (script_of self.new, [])) }
         ensures err { IfErr result (StopsScript (expected (play_of (script_of self.old)) line.items)) }
     {
@@ -342,7 +357,7 @@ impl Script {
         if play.has_written(&line) {
             Ok(())
         } else {
-            Err(Stop::Unmet(line))
+            Err(ScriptStop::Unmet(line))
         }
     }
 
@@ -351,9 +366,9 @@ impl Script {
         &mut self,
         alloc: Global,
         files: &mut F,
-        command: Command<'_>,
+        command: RunCommand<'_>,
         text: &mut Vec<u8>,
-    ) -> Result<(), Stop>
+    ) -> Result<(), ScriptStop>
         requires { IsFit (command_meaning command) }
         ensures ok { OnOk result (IfSome (F.told files.old) (λ map.
             Leads (command_obeyed map (script_of self.old) (command_meaning command.entry))
@@ -364,23 +379,23 @@ impl Script {
         ensures same { F.told files.new ≡ F.told files.old }
     {
         match command {
-            Command::Settings(mib) => self.set(mib),
-            Command::Configure(config) => self.configure(alloc, config),
-            Command::Protect(path) => self.protect(path),
-            Command::PutDirectory(path) => self.put_directory(alloc, &path),
-            Command::PutFile(path, content) => self.put_file(alloc, files, &path, content),
-            Command::Receive { now, octets } => {
+            RunCommand::Settings(mib) => self.set(mib),
+            RunCommand::Configure(config) => self.configure(alloc, config),
+            RunCommand::Protect(path) => self.protect(path),
+            RunCommand::PutDirectory(path) => self.put_directory(alloc, &path),
+            RunCommand::PutFile(path, content) => self.put_file(alloc, files, &path, content),
+            RunCommand::Receive { now, octets } => {
                 let mut octets = octets;
                 self.receive(alloc, now, &mut octets, text)
             }
-            Command::Cancel { now, id } => self.cancel(alloc, now, id, text),
-            Command::Pass { now } => self.pass(alloc, now, text),
-            Command::Get(path) => self.get(alloc, &path, text),
-            Command::Gaps(id) => self.gaps(alloc, id, text),
-            Command::Phase(id) => self.phase(alloc, id, text),
-            Command::List => self.list(alloc, text),
-            Command::Expect(line) => self.expect(alloc, line),
-            Command::End => Err(Stop::Ended),
+            RunCommand::Cancel { now, id } => self.cancel(alloc, now, id, text),
+            RunCommand::Pass { now } => self.pass(alloc, now, text),
+            RunCommand::Get(path) => self.get(alloc, &path, text),
+            RunCommand::Gaps(id) => self.gaps(alloc, id, text),
+            RunCommand::Phase(id) => self.phase(alloc, id, text),
+            RunCommand::List => self.list(alloc, text),
+            RunCommand::Expect(line) => self.expect(alloc, line),
+            RunCommand::End => Err(ScriptStop::Ended),
         }
     }
 
@@ -388,8 +403,8 @@ impl Script {
     ///
     /// # Errors
     ///
-    /// Why the script stops here: what the definitions say, or [`Stop::Memory`] when out of memory. The text is as
-    /// before.
+    /// Why the script stops here: what the definitions say, or [`ScriptStop::Memory`] when out of memory. The text is
+    /// as before.
     ///
     /// Cost: that of its input; the first line after the head also that of a receiving entity, and three passes over
     /// what was put.
@@ -399,7 +414,7 @@ impl Script {
         files: &mut F,
         line: &[u8],
         text: &mut Vec<u8>,
-    ) -> Result<(), Stop>
+    ) -> Result<(), ScriptStop>
         ensures ok { OnOk result (IfSome (F.told files.old) (λ map.
             Leads (line_step map (script_of self.old) line.now) (script_of self.new) text.old.items text.new.items)) }
         ensures err { IfErr result (λ why. IfSome (F.told files.old)
@@ -410,7 +425,7 @@ impl Script {
         match read_command(alloc, line, self.mib(), self.progress()) {
             Ok(None) => Ok(()),
             Ok(Some(command)) => self.obey(alloc, files, command, text),
-            Err(fault) => Err(Stop::from(fault)),
+            Err(fault) => Err(ScriptStop::from(fault)),
         }
     }
 

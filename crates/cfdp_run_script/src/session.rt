@@ -10,17 +10,17 @@ ghost use Rattle.cfdp_run.specs.Stops.{IsWrong, NoMemory, stop_of};
 ghost use Rattle.cfdp_run.specs.declared.wrong.Wrong.TheVariants.{TooLong};
 
 use crate::files::Files;
-use crate::script::Script;
+use crate::script::RunScript;
 use cfdp_lines::{LINE_LIMIT, NEWLINE};
-use cfdp_run::{Stop, Wrong};
+use cfdp_run::{ScriptStop, Wrong};
 use memchr::memchr;
 use std::alloc::{AllocError, Global};
 
 /// A script of which octets come. Contracts see it as the number of the line that is being read, how far the script is,
 /// and what became of that line.
 #[derive(Drop)]
-pub struct Session {
-    script: Script,
+pub struct ScriptSession {
+    script: RunScript,
     line: Vec<u8>,
     /// The number of the line, counted from 1.
     number: u64,
@@ -28,8 +28,8 @@ pub struct Session {
     ghost within: { length line.items ≤ line_limit },
 }
 
-impl Session {
-    ghost use Rattle.cfdp_run_script.specs.Sessions.{EndsScript, ScriptGoesOn, StopsFor, script_place, why_at};
+impl ScriptSession {
+    ghost use Rattle.cfdp_run_script.specs.Sessions.{EndsScript, ScriptGoesOn, StopsFor, script_reading, why_at};
     ghost use Rattle.cfdp_run_script.specs.Steps.{Leads, StopsScript, script_of};
 
     /// Before the first octet.
@@ -37,21 +37,21 @@ impl Session {
     /// # Errors
     ///
     /// [`AllocError`] when out of memory.
-    pub fn new(alloc: Global) -> Result<Session, AllocError>
-        ensures state { IfOk result (λ session. (script_place session).state ≡ script_at_first) }
-        ensures line { IfOk result (λ session. (script_place session).line ≡ []) }
-        ensures number { IfOk result (λ session. (script_place session).number ≡ 1) }
+    pub fn new(alloc: Global) -> Result<ScriptSession, AllocError>
+        ensures state { IfOk result (λ session. (script_reading session).state ≡ script_at_first) }
+        ensures line { IfOk result (λ session. (script_reading session).line ≡ []) }
+        ensures number { IfOk result (λ session. (script_reading session).number ≡ 1) }
     {
-        Ok(Session {
-            script: Script::new(alloc)?,
+        Ok(ScriptSession {
+            script: RunScript::new(alloc)?,
             line: Vec::new(alloc),
             number: 1,
         })
     }
 
     /// The script.
-    pub fn script(&self) -> &Script
-        ensures { script_of result.now ≡ (script_place self.now).state }
+    pub fn script(&self) -> &RunScript
+        ensures { script_of result.now ≡ (script_reading self.now).state }
     {
         &self.script
     }
@@ -59,13 +59,13 @@ impl Session {
     /// The number of the line that is being read, counted from 1. Where the script has stopped, it is that of the line
     /// at which it did.
     pub fn number(&self) -> u64
-        ensures { result ≡ (script_place self.now).number }
+        ensures { result ≡ (script_reading self.now).number }
     {
         self.number
     }
 
     /// Takes some octets of the line that is being read.
-    fn gather(&mut self, part: &[u8]) -> Result<(), Stop>
+    fn gather(&mut self, part: &[u8]) -> Result<(), ScriptStop>
         requires { IsOneLine part.now }
         ensures script { self.new.script ≡ self.old.script }
         ensures number { self.new.number ≡ self.old.number }
@@ -75,7 +75,7 @@ impl Session {
         ensures err { IfErr result (λ why. stop_of why ≢ NoMemory → stop_of why ≡ IsWrong TooLong) }
     {
         if part.len() > LINE_LIMIT - self.line.len() {
-            return Err(Stop::Wrong(Wrong::TooLong));
+            return Err(ScriptStop::Wrong(Wrong::TooLong));
         }
         Ok(self.line.extend_from_slice(part)?)
     }
@@ -87,7 +87,7 @@ impl Session {
         files: &mut F,
         line: &[u8],
         text: &mut Vec<u8>,
-    ) -> Result<(), Stop>
+    ) -> Result<(), ScriptStop>
         requires { self.old.number + 1 < 2 ^ 64 }
         ensures ok { OnOk result (IfSome (F.told files.old) (λ map.
             Leads (line_step map (script_of self.old.script) line.now)
@@ -111,7 +111,7 @@ impl Session {
         alloc: Global,
         files: &mut F,
         text: &mut Vec<u8>,
-    ) -> Result<(), Stop>
+    ) -> Result<(), ScriptStop>
         requires { self.old.number + 1 < 2 ^ 64 }
         ensures ok { OnOk result (IfSome (F.told files.old) (λ map.
             Leads (line_step map (script_of self.old.script) self.old.line.items)
@@ -135,33 +135,33 @@ impl Session {
     ///
     /// # Errors
     ///
-    /// Why the script stops here: what the definitions say, or [`Stop::Memory`] when out of memory. The text is as
-    /// before.
+    /// Why the script stops here: what the definitions say, or [`ScriptStop::Memory`] when out of memory. The text is
+    /// as before.
     pub fn take<F: Files>(
         &mut self,
         alloc: Global,
         files: &mut F,
         octets: &[u8],
         text: &mut Vec<u8>,
-    ) -> Result<usize, Stop>
+    ) -> Result<usize, ScriptStop>
         requires some { 0 < length octets.now }
-        requires number { (script_place self.old).number + 1 < 2 ^ 64 }
+        requires number { (script_reading self.old).number + 1 < 2 ^ 64 }
         ensures some { IfOk result (λ n. 0 < n) }
         ensures count { IfOk result (λ n. n ≤ length octets.now) }
-        ensures number { OnOk result ((script_place self.new).number ≤ (script_place self.old).number + 1) }
+        ensures number { OnOk result ((script_reading self.new).number ≤ (script_reading self.old).number + 1) }
         // The state of the script moves on by these octets, and what it writes is theirs.
         ensures ok { IfOk result (λ n. IfSome (F.told files.old) (λ map.
-            Adds (answer map) (script_place self.old) (script_place self.new)
+            Adds (answer map) (script_reading self.old) (script_reading self.new)
             (take n octets.now) text.old.items text.new.items)) }
         ensures goes_on { IfOk result (λ n. IfSome (F.told files.old)
-            (λ map. ScriptGoesOn map (script_place self.old) (script_place self.new) (take n octets.now))) }
+            (λ map. ScriptGoesOn map (script_reading self.old) (script_reading self.new) (take n octets.now))) }
         // It stops at this line, whatever comes after these octets.
         ensures stops { IfErr result (λ why. stop_of why ≢ NoMemory → IfSome (F.told files.old) (λ map.
-            StopsBad (answer map) (script_place self.old) octets.now [] (script_place self.old).number)) }
+            StopsBad (answer map) (script_reading self.old) octets.now [] (script_reading self.old).number)) }
         ensures why { IfErr result (λ why. IfSome (F.told files.old)
-            (λ map. StopsFor map (script_place self.old) octets.now why)) }
+            (λ map. StopsFor map (script_reading self.old) octets.now why)) }
         ensures kept { OnErr result (text.new.items ≡ text.old.items) }
-        ensures stays { OnErr result ((script_place self.new).number ≡ (script_place self.old).number) }
+        ensures stays { OnErr result ((script_reading self.new).number ≡ (script_reading self.old).number) }
         ensures same { F.told files.new ≡ F.told files.old }
     {
         let Some(at) = memchr(NEWLINE, octets) else {
@@ -182,23 +182,23 @@ impl Session {
     ///
     /// # Errors
     ///
-    /// Why the script stops here, as [`Session::take`] says it. The text is as before.
+    /// Why the script stops here, as [`ScriptSession::take`] says it. The text is as before.
     pub fn finish<F: Files>(
         &mut self,
         alloc: Global,
         files: &mut F,
         text: &mut Vec<u8>,
-    ) -> Result<(), Stop>
+    ) -> Result<(), ScriptStop>
         ensures ok { OnOk result (IfSome (F.told files.old)
-            (λ map. EndsScript map (script_place self.old) text.old.items text.new.items)) }
+            (λ map. EndsScript map (script_reading self.old) text.old.items text.new.items)) }
         ensures well { OnOk result (IfSome (F.told files.old)
-            (λ map. why_at map true (script_place self.old) [] ≡ None)) }
+            (λ map. why_at map true (script_reading self.old) [] ≡ None)) }
         ensures stops { IfErr result (λ why. stop_of why ≢ NoMemory → IfSome (F.told files.old) (λ map.
-            report_at (answer map) true (script_place self.old) [] ≡ stopped_at (script_place self.old).number)) }
+            report_at (answer map) true (script_reading self.old) [] ≡ stopped_at (script_reading self.old).number)) }
         ensures why { IfErr result (λ why. stop_of why ≢ NoMemory → IfSome (F.told files.old) (λ map.
-            why_at map true (script_place self.old) [] ≡ Some (stop_of why))) }
+            why_at map true (script_reading self.old) [] ≡ Some (stop_of why))) }
         ensures kept { OnErr result (text.new.items ≡ text.old.items) }
-        ensures stays { (script_place self.new).number ≡ (script_place self.old).number }
+        ensures stays { (script_reading self.new).number ≡ (script_reading self.old).number }
         ensures same { F.told files.new ≡ F.told files.old }
     {
         if self.line.is_empty() {

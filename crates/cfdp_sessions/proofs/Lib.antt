@@ -1,3 +1,3 @@
-pub mod Places
+pub mod Indexes
 pub mod Names
 pub mod Setters

@@ -4,7 +4,7 @@ use Rattle.std.specs.Prelude.{slice_get, slice_set}
 use Rattle.std.proofs.lemmas.Option.{slice_get_read}
 use Rattle.cfdp_sessions.specs.Sessions.{SessionFields, session_id, replaced, AreDistinct}
 use Rattle.cfdp_sessions.proofs.Names.{replaced_distinct}
-use Rattle.cfdp_sessions.proofs.Places.{some_same, set_replaced}
+use Rattle.cfdp_sessions.proofs.Indexes.{some_same, set_replaced}
 
 -- the names stay distinct, and the session of that name is replaced
 pub changed :

@@ -12,14 +12,14 @@ use std::marker::Model;
 pub const MOST_CLOSED: usize = 256;
 
 /// The names of the 256 transactions that were closed last, the last one first, and whether a name was ever dropped
-/// from them. Only [`Closed::new`] takes memory.
+/// from them. Only [`ClosedTransactions::new`] takes memory.
 #[derive(Drop)]
-pub struct Closed {
+pub struct ClosedTransactions {
     names: VecDeque<TransactionId>,
     forgot: bool,
 }
 
-impl Model for Closed {
+impl Model for ClosedTransactions {
     ghost use Rattle.std.specs.Prelude.{◌≤◌};
     ghost use Rattle.std.specs.VecDeque.{deque_len, deque_capacity};
     ghost use Rattle.cfdp_sessions.specs.Closed.{ClosedFields};
@@ -31,17 +31,17 @@ impl Model for Closed {
     ghost invariant = { λ c. (deque_len c.names ≤ 256) × (256 ≤ deque_capacity c.names) };
 }
 
-impl Closed {
+impl ClosedTransactions {
     /// No name, and the memory of 256, which is all that it ever takes.
     ///
     /// # Errors
     ///
     /// [`AllocError`] when out of memory.
-    pub fn new(alloc: Global) -> Result<Closed, AllocError>
+    pub fn new(alloc: Global) -> Result<ClosedTransactions, AllocError>
         ensures names { IfOk result (λ closed. closed.names ≡ []) }
         ensures forgot { IfOk result (λ closed. closed.forgot ≡ false) }
     {
-        Ok(Closed {
+        Ok(ClosedTransactions {
             names: VecDeque::with_capacity(alloc, MOST_CLOSED)?,
             forgot: false,
         })

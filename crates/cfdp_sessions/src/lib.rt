@@ -7,6 +7,6 @@ mod closed;
 mod session;
 mod sessions;
 
-pub use closed::{Closed, MOST_CLOSED};
+pub use closed::{ClosedTransactions, MOST_CLOSED};
 pub use session::{Ending, Session, Stage};
 pub use sessions::{MOST_SESSIONS, Sessions};

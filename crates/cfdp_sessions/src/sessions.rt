@@ -82,20 +82,20 @@ impl Sessions {
     }
 
     /// The index of a transaction's session: the number of sessions where it has none.
-    fn place(&self, id: TransactionId) -> usize
+    fn index_of(&self, id: TransactionId) -> usize
         ensures { result ≡ session_index self.now id }
     {
         if self.is_at(self.recent, id) {
             return self.recent;
         }
-        let mut place = 0usize;
+        let mut index = 0usize;
         for session in &self.list {
             if session.has_name(id) {
-                return place;
+                return index;
             }
-            place += 1;
+            index += 1;
         }
-        place
+        index
     }
 
     /// A transaction's session, if it has one. Takes no memory. Cost: at most a pass over the sessions, constant after
@@ -104,9 +104,9 @@ impl Sessions {
         ensures some { IfSome result (λ session. found self.now id ≡ Some session.now) }
         ensures none { IfNone result (found self.now id ≡ None) }
     {
-        let place = self.place(id);
-        if place < self.list.len() {
-            Some(&self.list[place])
+        let index = self.index_of(id);
+        if index < self.list.len() {
+            Some(&self.list[index])
         } else {
             None
         }
@@ -118,9 +118,9 @@ impl Sessions {
         ensures here { IfSome result (λ index. index < length self.now) }
         ensures none { IfNone result (found self.now id ≡ None) }
     {
-        let place = self.place(id);
-        if place < self.list.len() {
-            Some(place)
+        let index = self.index_of(id);
+        if index < self.list.len() {
+            Some(index)
         } else {
             None
         }
@@ -231,9 +231,9 @@ impl Sessions {
     pub fn put(&mut self, session: Session)
         ensures { self.new ≡ replaced self.old session }
     {
-        let place = self.place(session.name());
-        if place < self.list.len() {
-            self.list[place] = session;
+        let index = self.index_of(session.name());
+        if index < self.list.len() {
+            self.list[index] = session;
         }
     }
 
@@ -242,9 +242,9 @@ impl Sessions {
     pub fn close(&mut self, id: TransactionId)
         ensures { self.new ≡ without_session self.old id }
     {
-        let place = self.place(id);
-        if place < self.list.len() {
-            self.list.remove(place);
+        let index = self.index_of(id);
+        if index < self.list.len() {
+            self.list.remove(index);
         }
     }
 }

@@ -68,12 +68,12 @@ fn header(number: u64) -> Header {
 
 /// The files of all transactions.
 #[derive(Clone, Copy)]
-pub struct Files {
+pub struct TransferFiles {
     /// How many octets of a file come in one File Data PDU.
     pub piece: u64,
 }
 
-impl Files {
+impl TransferFiles {
     /// How many octets the longest one has: those of 6 pieces.
     pub fn longest(self) -> u64 {
         self.piece.saturating_mul(6)
@@ -198,7 +198,7 @@ impl Random {
         &mut self,
         alloc: Global,
         store: &ListStore,
-        files: Files,
+        files: TransferFiles,
         number: u64,
     ) -> Result<Event, Memory> {
         let mut requests = Vec::new(alloc);
@@ -230,14 +230,24 @@ impl Random {
     }
 
     /// A File Data PDU with some piece of the file.
-    pub fn data(&mut self, alloc: Global, files: Files, number: u64) -> Result<Event, Memory> {
+    pub fn data(
+        &mut self,
+        alloc: Global,
+        files: TransferFiles,
+        number: u64,
+    ) -> Result<Event, Memory> {
         let offset = files.piece.saturating_mul(self.below(6));
         let octets = files.octets(alloc, number, offset, files.piece)?;
         Ok(Event::Data(header(number), FileData { offset, octets }))
     }
 
     /// An EOF PDU: 15 in 16 without an error, and 15 in 16 of all with the right checksum.
-    pub fn eof(&mut self, alloc: Global, files: Files, number: u64) -> Result<Event, Memory> {
+    pub fn eof(
+        &mut self,
+        alloc: Global,
+        files: TransferFiles,
+        number: u64,
+    ) -> Result<Event, Memory> {
         let size = files.size(number);
         let checksum = modular_checksum(&files.octets(alloc, number, 0, size)?);
         let eof = Eof {
@@ -272,7 +282,7 @@ impl Random {
         &mut self,
         alloc: Global,
         core: &Core<ListStore>,
-        files: Files,
+        files: TransferFiles,
     ) -> Result<Event, Memory> {
         let number = self.number();
         let id = id(number);

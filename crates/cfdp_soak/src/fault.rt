@@ -7,7 +7,7 @@ use thiserror::Error;
 
 /// What is not as it has to be.
 #[derive(Clone, Copy, Debug, Error)]
-pub enum Wrong {
+pub enum SoakFailure {
     #[error("the configuration is refused")]
     Config,
     #[error("the entities reply differently")]
@@ -38,24 +38,24 @@ pub enum Wrong {
 
 /// Why a soak ends before its last event.
 #[derive(Drop)]
-pub enum Fault {
+pub enum SoakFault {
     /// Something is wrong.
-    Wrong(Wrong),
+    Wrong(SoakFailure),
     /// There was no memory, or nothing could be printed.
     Memory,
 }
 
-impl From<WriteFault> for Fault {
-    fn from(fault: WriteFault) -> Fault {
+impl From<WriteFault> for SoakFault {
+    fn from(fault: WriteFault) -> SoakFault {
         match fault {
-            WriteFault::Memory => Fault::Memory,
-            WriteFault::TooLong => Fault::Wrong(Wrong::Unwritten),
+            WriteFault::Memory => SoakFault::Memory,
+            WriteFault::TooLong => SoakFault::Wrong(SoakFailure::Unwritten),
         }
     }
 }
 
-impl From<AllocError> for Fault {
-    fn from(_refused: AllocError) -> Fault {
-        Fault::Memory
+impl From<AllocError> for SoakFault {
+    fn from(_refused: AllocError) -> SoakFault {
+        SoakFault::Memory
     }
 }

@@ -1,6 +1,6 @@
 //! Inputs of a receiver at random.
 
-use crate::events::{Files, TRANSACTIONS, id};
+use crate::events::{TRANSACTIONS, TransferFiles, id};
 use crate::random::Random;
 use cfdp_actions::ListStore;
 use cfdp_paths::Memory;
@@ -14,7 +14,7 @@ pub enum Input {
     /// A PDU that the core has an event for.
     Event(Event),
     /// Another PDU.
-    Directive(TransactionId, Directed),
+    Directive(TransactionId, OtherPdu),
     /// Time passes.
     Expire,
     /// An item is performed.
@@ -29,7 +29,7 @@ pub enum Input {
 
 /// A PDU that the core has no event for.
 #[derive(Clone, Copy)]
-pub enum Directed {
+pub enum OtherPdu {
     /// The acknowledgement of a Finished PDU.
     Acknowledgement,
     /// It asks for a NAK sequence.
@@ -42,15 +42,15 @@ pub enum Directed {
     Elsewhere,
 }
 
-static DIRECTED: [Directed; 8] = [
-    Directed::Acknowledgement,
-    Directed::Acknowledgement,
-    Directed::Acknowledgement,
-    Directed::Acknowledgement,
-    Directed::NakPrompt,
-    Directed::KeepAlivePrompt,
-    Directed::ToSender,
-    Directed::Elsewhere,
+static DIRECTED: [OtherPdu; 8] = [
+    OtherPdu::Acknowledgement,
+    OtherPdu::Acknowledgement,
+    OtherPdu::Acknowledgement,
+    OtherPdu::Acknowledgement,
+    OtherPdu::NakPrompt,
+    OtherPdu::KeepAlivePrompt,
+    OtherPdu::ToSender,
+    OtherPdu::Elsewhere,
 ];
 
 /// How many inputs a stretch has. In every sixteenth stretch transactions begin, and none gets on.
@@ -100,7 +100,7 @@ impl Random {
         &mut self,
         alloc: Global,
         core: &Core<ListStore>,
-        files: Files,
+        files: TransferFiles,
         lines: &mut Lines,
     ) -> Result<Input, Memory> {
         if lines.is_flood() {
@@ -127,7 +127,7 @@ impl Random {
         &mut self,
         alloc: Global,
         core: &Core<ListStore>,
-        files: Files,
+        files: TransferFiles,
         number: u64,
     ) -> Result<Event, Memory> {
         let is_eof = match core.phase(id(number)) {

@@ -25,8 +25,8 @@ mod twin;
 mod words;
 
 use counts::Counts;
-use events::Files;
-use fault::{Fault, Wrong};
+use events::TransferFiles;
+use fault::{SoakFailure, SoakFault};
 use pair::Pair;
 use random::Random;
 use settings::{SETTINGS, Setting};
@@ -66,11 +66,11 @@ fn receives_well<R: AllocGlobal + Eprint + Print>(rt: &R, inputs: u64, seed: u64
             );
             true
         }
-        Err(Fault::Memory) => {
+        Err(SoakFault::Memory) => {
             let _ = eprintln!(rt; "cfdp_soak: out of memory");
             false
         }
-        Err(Fault::Wrong(wrong)) => {
+        Err(SoakFault::Wrong(wrong)) => {
             let _ = println!(rt; "receiver, input {handed_in}: {wrong}");
             false
         }
@@ -94,11 +94,11 @@ fn goes_well<R: AllocGlobal + Eprint + Print>(
             );
             true
         }
-        Err(Fault::Memory) => {
+        Err(SoakFault::Memory) => {
             let _ = eprintln!(rt; "cfdp_soak: out of memory");
             false
         }
-        Err(Fault::Wrong(wrong)) => {
+        Err(SoakFault::Wrong(wrong)) => {
             let _ = println!(rt; "{blocks} blocks, event {handed_in}: {wrong}");
             false
         }
@@ -111,7 +111,7 @@ fn run(
     setting: Setting,
     events: u64,
     seed: u64,
-) -> (Result<(), Fault>, u64, Counts) {
+) -> (Result<(), SoakFault>, u64, Counts) {
     match Soak::new(alloc, setting, seed) {
         Ok(mut soak) => (soak.run(alloc, events), soak.handed_in, soak.counts),
         Err(fault) => (Err(fault), 0, Counts::new()),
@@ -137,7 +137,7 @@ fn number_of(word: &str) -> Option<u64> {
 /// Two entities, the files of transactions, the events to come, and what was replied.
 #[derive(Drop)]
 struct Soak {
-    files: Files,
+    files: TransferFiles,
     random: Random,
     pair: Pair,
     counts: Counts,
@@ -147,7 +147,7 @@ struct Soak {
 
 impl Soak {
     /// Before the first event of this seed.
-    fn new(alloc: Global, setting: Setting, seed: u64) -> Result<Soak, Fault> {
+    fn new(alloc: Global, setting: Setting, seed: u64) -> Result<Soak, SoakFault> {
         Ok(Soak {
             files: setting.files(),
             random: Random::new(seed),
@@ -158,7 +158,7 @@ impl Soak {
     }
 
     /// Hands in this many events, and compares at the end.
-    fn run(&mut self, alloc: Global, events: u64) -> Result<(), Fault> {
+    fn run(&mut self, alloc: Global, events: u64) -> Result<(), SoakFault> {
         for _ in 0..events {
             self.turn(alloc)?;
         }
@@ -166,12 +166,12 @@ impl Soak {
         if self.counts.are_all_met() {
             Ok(())
         } else {
-            Err(Fault::Wrong(Wrong::Tame))
+            Err(SoakFault::Wrong(SoakFailure::Tame))
         }
     }
 
     /// Hands in the next event.
-    fn turn(&mut self, alloc: Global) -> Result<(), Fault> {
+    fn turn(&mut self, alloc: Global) -> Result<(), SoakFault> {
         let event = self.random.event(alloc, self.pair.plain(), self.files)?;
         self.handed_in = self.handed_in.saturating_add(1);
         let reply = self.pair.apply(&event)?;

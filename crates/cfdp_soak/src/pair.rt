@@ -1,6 +1,6 @@
 //! Two entities side by side, alike but for their filestores.
 use crate::events::{TRANSACTIONS, id, path_of};
-use crate::fault::{Fault, Wrong};
+use crate::fault::{SoakFailure, SoakFault};
 use crate::settings::Setting;
 use cfdp_actions::{Filestore, Kind, ListStore, Protected};
 use cfdp_paths::{Memory, Path};
@@ -25,11 +25,11 @@ fn protected(alloc: Global) -> Result<Protected, Memory> {
 }
 
 /// The configuration of both: entity 2, a cap of the octets of the longest file, and two checks.
-pub fn config(alloc: Global, setting: Setting) -> Result<Config, Fault> {
+pub fn config(alloc: Global, setting: Setting) -> Result<Config, SoakFault> {
     let longest = setting.files().longest();
     let protected = protected(alloc)?;
     let config = Config::new(2, setting.blocks(), longest, 2, 16, protected);
-    config.map_err(|_| Fault::Wrong(Wrong::Config))
+    config.map_err(|_| SoakFault::Wrong(SoakFailure::Config))
 }
 
 /// The blocks that are granted to live transactions and not yet taken.
@@ -67,7 +67,7 @@ fn went_well(event: &Event, reply: &Reply) -> bool {
 
 impl Pair {
     /// Two that have just begun.
-    pub fn new(alloc: Global, setting: Setting) -> Result<Pair, Fault> {
+    pub fn new(alloc: Global, setting: Setting) -> Result<Pair, SoakFault> {
         Ok(Pair {
             tree: tree(alloc, setting)?,
             list: list(alloc, setting)?,
@@ -80,35 +80,35 @@ impl Pair {
     }
 
     /// Hands the event to both, and returns the reply.
-    pub fn apply(&mut self, event: &Event) -> Result<Reply, Fault> {
+    pub fn apply(&mut self, event: &Event) -> Result<Reply, SoakFault> {
         let reply = self.tree.apply(event);
         if !self.list.apply(event).same(&reply) {
-            return Err(Fault::Wrong(Wrong::Replies));
+            return Err(SoakFault::Wrong(SoakFailure::Replies));
         }
         if !went_well(event, &reply) {
-            return Err(Fault::Wrong(Wrong::Step));
+            return Err(SoakFault::Wrong(SoakFailure::Step));
         }
         if !is_balanced(&self.tree) || !is_balanced(&self.list) {
-            return Err(Fault::Wrong(Wrong::Spare));
+            return Err(SoakFault::Wrong(SoakFailure::Spare));
         }
         Ok(reply)
     }
 
     /// Compares both filestores.
-    pub fn compare(&self, alloc: Global) -> Result<(), Fault> {
+    pub fn compare(&self, alloc: Global) -> Result<(), SoakFault> {
         compare_stores(alloc, self.tree.store(), self.list.store())
     }
 }
 
 /// Compares two filestores: their listings, and the octets of each file.
-pub fn compare_stores(alloc: Global, tree: &TreeStore, list: &ListStore) -> Result<(), Fault> {
+pub fn compare_stores(alloc: Global, tree: &TreeStore, list: &ListStore) -> Result<(), SoakFault> {
     let listed = list.listing(alloc)?;
     if tree.listing(alloc)? != listed {
-        return Err(Fault::Wrong(Wrong::Listings));
+        return Err(SoakFault::Wrong(SoakFailure::Listings));
     }
     for entry in &listed {
         if octets_at(alloc, tree, &entry.path)? != octets_at(alloc, list, &entry.path)? {
-            return Err(Fault::Wrong(Wrong::Octets));
+            return Err(SoakFault::Wrong(SoakFailure::Octets));
         }
     }
     Ok(())
@@ -128,14 +128,14 @@ fn octets_at<S: Filestore>(
     Ok(Some(octets))
 }
 
-fn tree(alloc: Global, setting: Setting) -> Result<Core<TreeStore>, Fault> {
+fn tree(alloc: Global, setting: Setting) -> Result<Core<TreeStore>, SoakFault> {
     let config = config(alloc, setting)?;
     let store = TreeStore::new(alloc, config.blocks())?;
     Ok(Core::new(alloc, config, store)?)
 }
 
 /// The entity over a plain list.
-pub fn list(alloc: Global, setting: Setting) -> Result<Core<ListStore>, Fault> {
+pub fn list(alloc: Global, setting: Setting) -> Result<Core<ListStore>, SoakFault> {
     let config = config(alloc, setting)?;
     let store = ListStore::new(alloc, config.blocks())?;
     Ok(Core::new(alloc, config, store)?)

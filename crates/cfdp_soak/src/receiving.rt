@@ -1,7 +1,7 @@
 //! Inputs at random to a receiver.
 
 use crate::counts::Counts;
-use crate::fault::{Fault, Wrong};
+use crate::fault::{SoakFailure, SoakFault};
 use crate::inputs::Lines;
 use crate::random::Random;
 use crate::settings::Setting;
@@ -12,7 +12,7 @@ use std::alloc::Global;
 const STRIDE: u64 = 1_000;
 
 /// Hands in the inputs of this seed: how that ended, how many were handed in, and what the core replied.
-pub fn run(alloc: Global, inputs: u64, seed: u64) -> (Result<(), Fault>, u64, Counts) {
+pub fn run(alloc: Global, inputs: u64, seed: u64) -> (Result<(), SoakFault>, u64, Counts) {
     match Twin::new(alloc, Setting::Small) {
         Ok(mut twin) => {
             let mut handed_in = 0_u64;
@@ -30,7 +30,7 @@ fn feed(
     inputs: u64,
     seed: u64,
     handed_in: &mut u64,
-) -> Result<(), Fault> {
+) -> Result<(), SoakFault> {
     let mut random = Random::new(seed);
     let mut lines = Lines::new();
     for _ in 0..inputs {
@@ -43,8 +43,8 @@ fn feed(
     }
     twin.compare_stores(alloc)?;
     match twin.words.missing() {
-        Some(word) => Err(Fault::Wrong(Wrong::Word(word))),
+        Some(word) => Err(SoakFault::Wrong(SoakFailure::Word(word))),
         None if twin.counts.are_all_met() => Ok(()),
-        None => Err(Fault::Wrong(Wrong::Tame)),
+        None => Err(SoakFault::Wrong(SoakFailure::Tame)),
     }
 }

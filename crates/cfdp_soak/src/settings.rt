@@ -1,6 +1,6 @@
 //! How large the filestores are, and the files that arrive.
 
-use crate::events::Files;
+use crate::events::TransferFiles;
 
 /// How large the filestores of both entities are: too small for all that is asked for.
 #[derive(Clone, Copy)]
@@ -27,13 +27,13 @@ impl Setting {
     }
 
     /// The files of transactions.
-    pub fn files(self) -> Files {
+    pub fn files(self) -> TransferFiles {
         let piece = match self {
             Setting::Small => 150,
             Setting::Middle => 1_500,
             Setting::Large => 3_000,
         };
-        Files { piece }
+        TransferFiles { piece }
     }
 
     /// How many events are handed in: all of them over the small filestores, and a tenth of them over the others.

@@ -6,8 +6,8 @@ ghost use Rattle.cfdp_pdus.specs.Canonical.{IsHeader};
 
 use crate::counts::Counts;
 use crate::events::{TRANSACTIONS, id, is_acknowledged};
-use crate::fault::{Fault, Wrong};
-use crate::inputs::{Directed, Input, Lines};
+use crate::fault::{SoakFailure, SoakFault};
+use crate::inputs::{Input, Lines, OtherPdu};
 use crate::pair::{compare_stores, config, list};
 use crate::random::Random;
 use crate::settings::Setting;
@@ -115,40 +115,40 @@ fn is_small(size: u64) -> bool
 }
 
 /// Appends a Metadata PDU.
-fn put_metadata(header: &Header, metadata: &Metadata, octets: &mut Vec<u8>) -> Result<(), Fault>
+fn put_metadata(header: &Header, metadata: &Metadata, octets: &mut Vec<u8>) -> Result<(), SoakFault>
     requires header { IsHeader header.now }
     requires small { header.now.large ≡ false }
 {
     if metadata.checksum_type > 15 || !is_small(metadata.size) {
-        return Err(Fault::Wrong(Wrong::Unwritten));
+        return Err(SoakFault::Wrong(SoakFailure::Unwritten));
     }
     Ok(write_metadata(header, metadata, octets)?)
 }
 
 /// Appends a File Data PDU.
-fn put_data(header: &Header, data: &FileData, octets: &mut Vec<u8>) -> Result<(), Fault>
+fn put_data(header: &Header, data: &FileData, octets: &mut Vec<u8>) -> Result<(), SoakFault>
     requires header { IsHeader header.now }
     requires small { header.now.large ≡ false }
 {
     if !is_small(data.offset) {
-        return Err(Fault::Wrong(Wrong::Unwritten));
+        return Err(SoakFault::Wrong(SoakFailure::Unwritten));
     }
     Ok(write_file_data(header, data, octets)?)
 }
 
 /// Appends an EOF PDU.
-fn put_eof(header: &Header, eof: &Eof, octets: &mut Vec<u8>) -> Result<(), Fault>
+fn put_eof(header: &Header, eof: &Eof, octets: &mut Vec<u8>) -> Result<(), SoakFault>
     requires header { IsHeader header.now }
     requires small { header.now.large ≡ false }
 {
     if eof.condition > 15 || !is_small(eof.size) {
-        return Err(Fault::Wrong(Wrong::Unwritten));
+        return Err(SoakFault::Wrong(SoakFailure::Unwritten));
     }
     Ok(write_eof(header, eof, octets)?)
 }
 
 /// The octets of the PDU that carries an event.
-fn octets_of(alloc: Global, event: &Event) -> Result<Vec<u8>, Fault> {
+fn octets_of(alloc: Global, event: &Event) -> Result<Vec<u8>, SoakFault> {
     let header = header_of(about(event));
     let mut octets = Vec::new(alloc);
     match event {
@@ -164,12 +164,12 @@ fn octets_of(alloc: Global, event: &Event) -> Result<Vec<u8>, Fault> {
 fn directive_octets(
     alloc: Global,
     id: TransactionId,
-    directed: Directed,
-) -> Result<Vec<u8>, Fault> {
+    directed: OtherPdu,
+) -> Result<Vec<u8>, SoakFault> {
     let toward_us = header_of(id);
     let mut octets = Vec::new(alloc);
     match directed {
-        Directed::Acknowledgement => {
+        OtherPdu::Acknowledgement => {
             let ack = Ack {
                 directive: directive::FINISHED,
                 condition: NO_ERROR,
@@ -177,12 +177,12 @@ fn directive_octets(
             };
             write_ack(&toward_us, ack, &mut octets)?;
         }
-        Directed::NakPrompt => write_prompt(&toward_us, Prompt::Nak, &mut octets)?,
-        Directed::KeepAlivePrompt => write_prompt(&toward_us, Prompt::KeepAlive, &mut octets)?,
-        Directed::ToSender => {
+        OtherPdu::NakPrompt => write_prompt(&toward_us, Prompt::Nak, &mut octets)?,
+        OtherPdu::KeepAlivePrompt => write_prompt(&toward_us, Prompt::KeepAlive, &mut octets)?,
+        OtherPdu::ToSender => {
             write_prompt(&header(id, true, 2), Prompt::Nak, &mut octets)?;
         }
-        Directed::Elsewhere => {
+        OtherPdu::Elsewhere => {
             write_prompt(&header(id, false, 3), Prompt::Nak, &mut octets)?;
         }
     }
@@ -196,12 +196,12 @@ fn was_handed_on(answer: &Answer) -> bool {
 
 impl Twin {
     /// Both have just begun.
-    pub fn new(alloc: Global, setting: Setting) -> Result<Twin, Fault> {
+    pub fn new(alloc: Global, setting: Setting) -> Result<Twin, SoakFault> {
         let entity = Entity::new(alloc, config(alloc, setting)?)?;
         let receiver = match Receiver::new(alloc, mib(), entity) {
             Ok(receiver) => receiver,
-            Err(NotMade::Memory) => return Err(Fault::Memory),
-            Err(_) => return Err(Fault::Wrong(Wrong::Receiver)),
+            Err(NotMade::Memory) => return Err(SoakFault::Memory),
+            Err(_) => return Err(SoakFault::Wrong(SoakFailure::Receiver)),
         };
         let room = vec![in alloc; 0u8; receiver.longest()]?;
         Ok(Twin {
@@ -236,7 +236,7 @@ impl Twin {
         random: &mut Random,
         lines: &mut Lines,
         input: Input,
-    ) -> Result<(), Fault> {
+    ) -> Result<(), SoakFault> {
         self.wait(random, &input);
         let answer = match &input {
             Input::Event(event) => self.hear(alloc, lines, event)?,
@@ -269,10 +269,10 @@ impl Twin {
     }
 
     /// Hands in a PDU that was written.
-    fn receive(&mut self, alloc: Global, octets: &mut [u8]) -> Result<Answer, Fault> {
+    fn receive(&mut self, alloc: Global, octets: &mut [u8]) -> Result<Answer, SoakFault> {
         match self.receiver.receive(alloc, self.now, octets) {
             Ok(answer) => Ok(answer),
-            Err(_) => Err(Fault::Wrong(Wrong::Dropped)),
+            Err(_) => Err(SoakFault::Wrong(SoakFailure::Dropped)),
         }
     }
 
@@ -312,13 +312,13 @@ impl Twin {
     }
 
     /// A PDU with an event comes. An EOF PDU that is held comes after its Metadata.
-    fn hear(&mut self, alloc: Global, lines: &Lines, event: &Event) -> Result<Answer, Fault> {
+    fn hear(&mut self, alloc: Global, lines: &Lines, event: &Event) -> Result<Answer, SoakFault> {
         let is_handed_on = self.is_handed_on(lines, event);
         let held = self.held(about(event));
         let mut octets = octets_of(alloc, event)?;
         let answer = self.receive(alloc, &mut octets)?;
         if was_handed_on(&answer) != is_handed_on {
-            return Err(Fault::Wrong(Wrong::HandedOn));
+            return Err(SoakFault::Wrong(SoakFailure::HandedOn));
         }
         if let Became::Replied(_, reply) = answer.became() {
             self.follow(event, reply)?;
@@ -330,11 +330,11 @@ impl Twin {
     }
 
     /// The core beside the receiver gets the event that was handed on, and replies the same.
-    fn follow(&mut self, event: &Event, reply: &Reply) -> Result<(), Fault> {
+    fn follow(&mut self, event: &Event, reply: &Reply) -> Result<(), SoakFault> {
         if self.list.apply(event).same(reply) {
             Ok(())
         } else {
-            Err(Fault::Wrong(Wrong::Replies))
+            Err(SoakFault::Wrong(SoakFailure::Replies))
         }
     }
 
@@ -358,11 +358,11 @@ impl Twin {
     }
 
     /// An item of the first transaction that has one is performed.
-    fn work(&mut self) -> Result<Answer, Fault> {
+    fn work(&mut self) -> Result<Answer, SoakFault> {
         let has_work = self.list.next_runnable().is_some();
         let answer = self.receiver.work(self.now);
         if was_handed_on(&answer) != has_work {
-            return Err(Fault::Wrong(Wrong::HandedOn));
+            return Err(SoakFault::Wrong(SoakFailure::HandedOn));
         }
         if let Became::Replied(id, reply) = answer.became() {
             self.follow(&Event::Step(*id), reply)?;
@@ -371,7 +371,7 @@ impl Twin {
     }
 
     /// An outcome is taken: where the core has it, from there too.
-    fn finish(&mut self, alloc: Global) -> Result<Answer, Fault> {
+    fn finish(&mut self, alloc: Global) -> Result<Answer, SoakFault> {
         let answer = self.receiver.finish(alloc, self.now)?;
         if let Became::Said(id, _) = answer.became() {
             if self.list.phase(*id).is_some() {
@@ -383,11 +383,11 @@ impl Twin {
     }
 
     /// The user cancels a transaction.
-    fn cancel(&mut self, id: TransactionId) -> Result<Answer, Fault> {
+    fn cancel(&mut self, id: TransactionId) -> Result<Answer, SoakFault> {
         let is_known = self.list.phase(id).is_some();
         let answer = self.receiver.cancel(self.now, id);
         if was_handed_on(&answer) != is_known {
-            return Err(Fault::Wrong(Wrong::HandedOn));
+            return Err(SoakFault::Wrong(SoakFailure::HandedOn));
         }
         if let Became::Replied(_, reply) = answer.became() {
             self.follow(&Event::Cancel(id), reply)?;
@@ -396,7 +396,7 @@ impl Twin {
     }
 
     /// Writes all PDUs of an answer.
-    fn send(&mut self, answer: &Answer) -> Result<(), Fault> {
+    fn send(&mut self, answer: &Answer) -> Result<(), SoakFault> {
         for number in 0..MANY {
             match self.receiver.write(answer, number, &mut self.room) {
                 Ok(_) => (),
@@ -404,23 +404,23 @@ impl Twin {
                 Err(NotWritten::TooShort) => break,
             }
         }
-        Err(Fault::Wrong(Wrong::Unwritten))
+        Err(SoakFault::Wrong(SoakFailure::Unwritten))
     }
 
     /// A transaction is equally far in both cores, and both have as many spare blocks.
-    fn compare(&self, id: TransactionId) -> Result<(), Fault> {
+    fn compare(&self, id: TransactionId) -> Result<(), SoakFault> {
         let core = self.receiver.entity().core();
         if core.phase(id) != self.list.phase(id) {
-            return Err(Fault::Wrong(Wrong::Phases));
+            return Err(SoakFault::Wrong(SoakFailure::Phases));
         }
         if core.spare() != self.list.spare() {
-            return Err(Fault::Wrong(Wrong::Spare));
+            return Err(SoakFault::Wrong(SoakFailure::Spare));
         }
         Ok(())
     }
 
     /// Compares both filestores.
-    pub fn compare_stores(&self, alloc: Global) -> Result<(), Fault> {
+    pub fn compare_stores(&self, alloc: Global) -> Result<(), SoakFault> {
         compare_stores(
             alloc,
             self.receiver.entity().core().store(),

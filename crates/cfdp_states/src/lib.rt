@@ -14,7 +14,7 @@ mod origins;
 mod performing;
 mod sparse;
 mod sparse_survey;
-mod surveying;
+mod survey;
 mod view;
 
 pub use sparse::SparseView;

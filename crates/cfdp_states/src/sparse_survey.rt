@@ -12,7 +12,7 @@ ghost use Rattle.cfdp_states.specs.code.Sparse.{AreSame, FillsAt, HoldsLeased, I
 
 use crate::extent::Extent;
 use crate::extents::Extents;
-use crate::surveying::add_extent;
+use crate::survey::add_extent;
 use cfdp_actions::{Filestore, Request};
 use cfdp_leases::{Footprint, Lease, covers};
 use cfdp_paths::{MOST_NAMES, Memory, Names, Path, PathMap};
@@ -43,9 +43,9 @@ pub fn survey_sparse<S: Filestore>(
     let _ = store.takes_no_memory();
     let mut extents = Extents::new(alloc);
     let entries = paths.entries();
-    for (place, entry) in entries.iter().enumerate() {
+    for (index, entry) in entries.iter().enumerate() {
         let path = &entry.0;
-        let known = known_depth(&entries[..place], path);
+        let known = known_depth(&entries[..index], path);
         if !add_beginnings(
             alloc,
             &mut extents,

@@ -12,7 +12,7 @@ ghost use Rattle.cfdp_states.specs.Views.{most_count, most_need, size_of, only, 
 use crate::extent::Extent;
 use crate::extents::Extents;
 use crate::performing::{can_install, content, perform, step_bound};
-use crate::surveying::survey;
+use crate::survey::survey;
 use cfdp_actions::{Filestore, Protected, Request};
 use cfdp_leases::Footprint;
 use cfdp_paths::{Memory, Path};

@@ -6,7 +6,7 @@ use Rattle.cfdp_status.specs.declared.transaction.TransactionId.{TransactionId}
 use Rattle.cfdp_leases.specs.Leases.{is_same}
 use Rattle.cfdp_transactions.specs.Entry.{Entry, name_of}
 use Rattle.cfdp_transactions.specs.Sound.{Each}
-use Rattle.cfdp_transactions.specs.World.{place_of}
+use Rattle.cfdp_transactions.specs.World.{index_in}
 
 abbrev id_with : ℕ → ℕ → TransactionId
 id_with source number = record { source = source; number = number }
@@ -26,16 +26,16 @@ is_same-same a b e = rw e (and_from _ _ (eq-eqb b.source b.source refl) (eq-eqb 
 
 -- the entry found has the name
 found_or_later : (d : Entry) (t : List Entry) (id : TransactionId) (e : Entry) (same : Bool) → is_same (name_of d) id ≡ same →
-    (slice_get t (place_of id t) ≡ Some e → name_of e ≡ id) → slice_get (d ∷ t) (if same then 0 else suc (place_of id t)) ≡ Some e → name_of e ≡ id
+    (slice_get t (index_in id t) ≡ Some e → name_of e ≡ id) → slice_get (d ∷ t) (if same then 0 else suc (index_in id t)) ≡ Some e → name_of e ≡ id
 found_or_later d t id e true same later h = let q : d ≡ e = cc in rw (← q) (is_same-true (name_of d) id same)
 found_or_later d t id e false same later h = later h
 
-pub found_name : (t : List Entry) (id : TransactionId) (e : Entry) → slice_get t (place_of id t) ≡ Some e → name_of e ≡ id
+pub found_name : (t : List Entry) (id : TransactionId) (e : Entry) → slice_get t (index_in id t) ≡ Some e → name_of e ≡ id
 found_name [] id e h = absurd cc
 found_name (d ∷ t) id e h = found_or_later d t id e (is_same (name_of d) id) refl (found_name t id e) h
 
 absent_or_later : (d : Entry) (t : List Entry) (id : TransactionId) (same : Bool) → is_same (name_of d) id ≡ same →
-    (slice_get t (place_of id t) ≡ None → Each (λ e. name_of e ≢ id) t) → slice_get (d ∷ t) (if same then 0 else suc (place_of id t)) ≡ None →
+    (slice_get t (index_in id t) ≡ None → Each (λ e. name_of e ≢ id) t) → slice_get (d ∷ t) (if same then 0 else suc (index_in id t)) ≡ None →
     Each (λ e. name_of e ≢ id) (d ∷ t)
 absent_or_later d t id true same later h k e at q = absurd cc
 absent_or_later d t id false same later h zero e at q = let p : d ≡ e = cc in
@@ -43,6 +43,6 @@ absent_or_later d t id false same later h zero e at q = let p : d ≡ e = cc in
 absent_or_later d t id false same later h (suc k) e at q = later h k e at q
 
 -- none has it, where none is found
-pub absent_name : (t : List Entry) (id : TransactionId) → slice_get t (place_of id t) ≡ None → Each (λ e. name_of e ≢ id) t
+pub absent_name : (t : List Entry) (id : TransactionId) → slice_get t (index_in id t) ≡ None → Each (λ e. name_of e ≢ id) t
 absent_name [] id h = λ k e at. absurd cc
 absent_name (d ∷ t) id h = absent_or_later d t id (is_same (name_of d) id) refl (absent_name t id) h

@@ -1,4 +1,4 @@
-pub mod Places
+pub mod Indexes
 pub mod Balance
 pub mod SlotChanges
 pub mod Soundness

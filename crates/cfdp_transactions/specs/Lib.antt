@@ -21,7 +21,7 @@ pub mod PieceLaws
 pub mod Needs
 pub mod Books
 pub mod FinishedInBuffer
-pub mod Engine
+pub mod CoreFields
 pub mod Beside
 pub mod Fitting
 pub mod Beginning

@@ -1,7 +1,7 @@
 -- The receiving entity: its configuration, its filestore, and its table of transactions in order of admission.
 --     World, start c            the filestore is empty and no transaction is known
 --     free, reserves, spare_blocks  free blocks;  the live transactions' reserves;  the blocks that nobody was granted
---     place_of, index_of, entry_of      where a transaction is in the table, and its entry
+--     index_in, index_of, entry_of      where a transaction is in the table, and its entry
 --     leases_of                 the live transactions' footprints
 --     has_slot, slot_from       a live transaction has the slot;  the least from a slot on, of this many, that none has
 --     free_slot                 the least slot that no live transaction has
@@ -38,12 +38,12 @@ abbrev pub spare_blocks : World → ℕ
 spare_blocks W = free W - reserves W.table
 
 -- the table's length where it is not there
-abbrev pub place_of : TransactionId → List Entry → ℕ
-place_of id [] = 0
-place_of id (e ∷ es) = if is_same (name_of e) id then 0 else suc (place_of id es)
+abbrev pub index_in : TransactionId → List Entry → ℕ
+index_in id [] = 0
+index_in id (e ∷ es) = if is_same (name_of e) id then 0 else suc (index_in id es)
 
 abbrev pub index_of : World → TransactionId → ℕ
-index_of W id = place_of id W.table
+index_of W id = index_in id W.table
 
 abbrev pub entry_of : World → TransactionId → Option Entry
 entry_of W id = slice_get W.table (index_of W id)

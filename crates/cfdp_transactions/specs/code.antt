@@ -10,4 +10,4 @@ pub mod Adding
 pub mod Items
 pub mod TakenOutcome
 pub mod FinishedInBuffer
-pub mod Engine
+pub mod CoreFields

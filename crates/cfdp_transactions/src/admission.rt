@@ -12,10 +12,10 @@ ghost use Rattle.cfdp_transactions.specs.Admission.{is_known_checksum, metadata_
 ghost use Rattle.cfdp_verifier.specs.Answers.{verdict_said, granted_items, HasFootprint};
 ghost use Rattle.cfdp_verifier.specs.Verdict.{verdict};
 ghost use Rattle.cfdp_transactions.specs.code.Books.{Carries, IsBooked, world_of};
-ghost use Rattle.cfdp_transactions.specs.code.TableEntries.{kept_place};
+ghost use Rattle.cfdp_transactions.specs.code.TableEntries.{kept_index};
 
 use crate::books::Books;
-use crate::entry::Entry;
+use crate::entry::TableEntry;
 use crate::{Config, Phase, Reply};
 use cfdp_actions::Filestore;
 use cfdp_paths::Memory;
@@ -29,7 +29,7 @@ use std::alloc::Global;
 /// What becomes of Metadata whose transaction may begin.
 #[derive(Drop)]
 pub(crate) enum Ruling {
-    /// It ends at once: it has a file, and a checksum type that this engine does not compute.
+    /// It ends at once: it has a file, and a checksum type that this entity does not compute.
     Unsupported,
     /// The verdict on its list of requests and its file.
     Judged(Verdict),
@@ -69,7 +69,7 @@ pub(crate) fn record<S: Filestore>(
 ) -> Reply
     requires sound { Sound (world_of (S.state store.now) books.old) }
     requires booked { IsBooked (S.state store.now) books.old }
-    requires absent { kept_place (id_of header.now) books.old.table ≡ length books.old.table }
+    requires absent { kept_index (id_of header.now) books.old.table ≡ length books.old.table }
     requires few { length books.old.table < 64 }
     requires short { length metadata.requests ≤ 64 }
     requires ruled { IsRuled (world_of (S.state store.now) books.old) metadata ruling }
@@ -108,7 +108,7 @@ pub(crate) fn names_file(metadata: &Metadata) -> bool
     !metadata.destination_name.is_empty()
 }
 
-/// Whether this engine computes the checksum, or need not.
+/// Whether this entity computes the checksum, or need not.
 fn is_known_checksum(checksum_type: u8) -> bool
     ensures { result ≡ is_known_checksum checksum_type }
 {
@@ -171,7 +171,7 @@ fn add_final<S: Filestore>(
     phase: Phase,
 ) -> Result<(), Memory>
     requires booked { IsBooked (S.state store.now) books.old }
-    requires absent { kept_place (id_of header.now) books.old.table ≡ length books.old.table }
+    requires absent { kept_index (id_of header.now) books.old.table ≡ length books.old.table }
     requires over { IsFalse (is_live phase) }
     ensures adds { OnOk result (AddsEntry (world_of (S.state store.now) books.old)
         (world_of (S.state store.now) books.new)
@@ -179,7 +179,7 @@ fn add_final<S: Filestore>(
     ensures err { OnErr result (world_of (S.state store.now) books.new ≡ world_of (S.state store.now) books.old) }
     ensures booked { IsBooked (S.state store.now) books.new }
 {
-    let entry = Entry::new(*header, metadata, phase, 0, None, Vec::new(alloc), 0, 0);
+    let entry = TableEntry::new(*header, metadata, phase, 0, None, Vec::new(alloc), 0, 0);
     books.table.push(entry)?;
     Ok(())
 }
@@ -195,7 +195,7 @@ fn add_granted<S: Filestore>(
 ) -> Result<(), Memory>
     requires sound { Sound (world_of (S.state store.now) books.old) }
     requires booked { IsBooked (S.state store.now) books.old }
-    requires absent { kept_place (id_of header.now) books.old.table ≡ length books.old.table }
+    requires absent { kept_index (id_of header.now) books.old.table ≡ length books.old.table }
     requires few { length books.old.table < 64 }
     requires footprint { grant.footprint ≡ footprint_of (granted_items grant) }
     requires apart { first_conflict books.old.leases grant.footprint ≡ None }
@@ -214,7 +214,7 @@ fn add_granted<S: Filestore>(
         steps,
     } = grant;
     let slot = first_closed(&books.quota);
-    let entry = Entry::new(
+    let entry = TableEntry::new(
         *header,
         metadata,
         Phase::Receiving,
@@ -225,10 +225,10 @@ fn add_granted<S: Filestore>(
         steps,
     );
     let transaction = entry.name();
-    let place = books.table.len();
+    let index = books.table.len();
     books.table.push(entry)?;
     if let Err(refusal) = books.leases.grant(transaction, footprint) {
-        books.table.forget(place);
+        books.table.forget(index);
         return Err(refusal);
     }
     books.quota.reserve(slot, blocks);

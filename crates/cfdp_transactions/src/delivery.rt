@@ -13,7 +13,7 @@ ghost use Rattle.cfdp_transactions.specs.code.Books.{AnswersAt, IsBooked, IsLive
 
 use crate::admission::{bound_of, names_file};
 use crate::books::Books;
-use crate::entry::Entry;
+use crate::entry::TableEntry;
 use crate::phase_changes::{end, finish, turn};
 use crate::{Config, Phase, Reply};
 use cfdp_actions::Filestore;
@@ -23,49 +23,49 @@ use cfdp_pdus::condition::{FILE_CHECKSUM_FAILURE, FILE_SIZE_ERROR, NO_ERROR};
 
 /// The EOF of the transaction at an index (copy file procedures). If all octets are there, the store is asked for their
 /// checksum, once.
-pub(crate) fn eof<S: Filestore>(store: &mut S, books: &mut Books, place: usize, eof: Eof) -> Reply
+pub(crate) fn eof<S: Filestore>(store: &mut S, books: &mut Books, index: usize, eof: Eof) -> Reply
     requires sound { Sound (world_of (S.state store.old) books.old) }
     requires booked { IsBooked (S.state store.old) books.old }
-    requires within { place < length books.old.table }
+    requires within { index < length books.old.table }
     ensures answer { let W = world_of (S.state store.old) books.old in
-        AnswersAt W (world_of (S.state store.new) books.new) place (eof_came W place eof) result }
+        AnswersAt W (world_of (S.state store.new) books.new) index (eof_came W index eof) result }
     ensures answered { IsAnswered result }
     ensures booked { IsBooked (S.state store.new) books.new }
     ensures steady { IsSteady (S.state store.old) (S.state store.new) }
 {
-    let entry = books.table.at(place);
+    let entry = books.table.at(index);
     let (phase, kept, complete) = (entry.phase(), entry.eof(), entry.is_complete());
     if !phase.is_live() {
         return Reply::Idle;
     }
     if eof.condition != NO_ERROR {
-        end(store, books, place, true, eof.condition);
+        end(store, books, index, true, eof.condition);
         return Reply::Faulted(eof.condition);
     }
     if !phase.is_receiving() {
         return Reply::Duplicate;
     }
     if entry.is_bare() {
-        finish(store, books, place);
+        finish(store, books, index);
         return Reply::Done;
     }
     if !names_file(entry.metadata()) {
-        turn(store, books, place, Phase::Executing(0), kept, true);
+        turn(store, books, index, Phase::Executing(0), kept, true);
         return Reply::Complete;
     }
     if has_wrong_size(store, &books.config, entry, eof.size) {
-        end(store, books, place, false, FILE_SIZE_ERROR);
+        end(store, books, index, false, FILE_SIZE_ERROR);
         return Reply::Faulted(FILE_SIZE_ERROR);
     }
     if !entry.is_whole(eof.size) {
-        turn(store, books, place, Phase::Awaiting(0), Some(eof), complete);
+        turn(store, books, index, Phase::Awaiting(0), Some(eof), complete);
         return Reply::Waiting;
     }
-    judge(store, books, place, eof.checksum)
+    judge(store, books, index, eof.checksum)
 }
 
 /// Whether a transaction's file cannot have this size: it is above the bound, or octets came past it.
-fn has_wrong_size<S: Filestore>(store: &S, config: &Config, entry: &Entry, size: u64) -> bool
+fn has_wrong_size<S: Filestore>(store: &S, config: &Config, entry: &TableEntry, size: u64) -> bool
     requires { entry.now.slot < 64 }
     ensures { result ≡ (nat_lt (bound config.now entry.now.metadata) size
         || nat_lt size (length (staged_in (S.state store.now).filestore entry.now.slot))) }
@@ -74,7 +74,7 @@ fn has_wrong_size<S: Filestore>(store: &S, config: &Config, entry: &Entry, size:
 }
 
 /// Whether what is staged for a transaction has the checksum, or it is not looked at.
-fn is_right<S: Filestore>(store: &S, entry: &Entry, sum: u32) -> bool
+fn is_right<S: Filestore>(store: &S, entry: &TableEntry, sum: u32) -> bool
     requires { entry.now.slot < 64 }
     ensures { result ≡ ((entry.now.metadata.checksum_type == null_checksum_type)
         || (checksum (staged_in (S.state store.now).filestore entry.now.slot) == sum)) }
@@ -84,23 +84,23 @@ fn is_right<S: Filestore>(store: &S, entry: &Entry, sum: u32) -> bool
 
 /// All octets of the file of the transaction at an index are there (copy file procedures): its items are performed from
 /// now on where they have the checksum, and else it ends. The store is asked for the checksum of what is staged, once.
-pub(crate) fn judge<S: Filestore>(store: &mut S, books: &mut Books, place: usize, sum: u32) -> Reply
+pub(crate) fn judge<S: Filestore>(store: &mut S, books: &mut Books, index: usize, sum: u32) -> Reply
     requires sound { Sound (world_of (S.state store.old) books.old) }
     requires booked { IsBooked (S.state store.old) books.old }
-    requires live { IsLiveAt (world_of (S.state store.old) books.old) place }
+    requires live { IsLiveAt (world_of (S.state store.old) books.old) index }
     ensures answer { let W = world_of (S.state store.old) books.old in
-        (e : Transaction) → slice_get W.table place ≡ Some e → whole W place e sum
+        (e : Transaction) → slice_get W.table index ≡ Some e → whole W index e sum
         ≡ (world_of (S.state store.new) books.new, result) }
     ensures answered { IsAnswered result }
     ensures booked { IsBooked (S.state store.new) books.new }
     ensures steady { IsSteady (S.state store.old) (S.state store.new) }
 {
-    let entry = books.table.at(place);
+    let entry = books.table.at(index);
     let eof = entry.eof();
     if !is_right(store, entry, sum) {
-        end(store, books, place, false, FILE_CHECKSUM_FAILURE);
+        end(store, books, index, false, FILE_CHECKSUM_FAILURE);
         return Reply::Faulted(FILE_CHECKSUM_FAILURE);
     }
-    turn(store, books, place, Phase::Executing(0), eof, true);
+    turn(store, books, index, Phase::Executing(0), eof, true);
     Reply::Complete
 }

@@ -25,7 +25,7 @@ use std::marker::Model;
 /// A transaction of the table. Contracts see it as a row: what was received lies in the filestore, and the row has its
 /// ranges.
 #[derive(Drop)]
-pub(crate) struct Entry {
+pub(crate) struct TableEntry {
     header: Header,
     metadata: Metadata,
     phase: Phase,
@@ -43,12 +43,12 @@ pub(crate) struct Entry {
     steps: Meter,
 }
 
-impl Model for Entry {
+impl Model for TableEntry {
     ghost use Rattle.std.specs.Prelude.{◌<◌, ◌^◌};
     ghost use Rattle.cfdp_leases.specs.Items.{items_of};
     ghost use Rattle.cfdp_transactions.specs.code.TableEntries as words;
 
-    ghost Value = { words.TableEntry };
+    ghost Value = { words.TableEntryFields };
 
     ghost view = { λ e. record {
       header = e.header;
@@ -71,7 +71,7 @@ impl Model for Entry {
     ghost invariant = { λ e. e.steps.granted < 2 ^ 32 };
 }
 
-impl Entry {
+impl TableEntry {
     /// What begins with a Metadata PDU: nothing was received and nothing spent.
     pub(crate) fn new(
         header: Header,
@@ -82,10 +82,10 @@ impl Entry {
         requests: Vec<Request>,
         blocks: u32,
         steps: u32,
-    ) -> Entry
+    ) -> TableEntry
         ensures { result ≡ fresh_entry header metadata phase slot (items_of destination requests.items) blocks steps }
     {
-        Entry {
+        TableEntry {
             header,
             metadata,
             phase,
@@ -344,10 +344,10 @@ impl Entry {
 }
 
 /// The request at an index, as an item.
-fn request_at(requests: &[Request], place: usize) -> Option<Item<'_>>
-    ensures { option_map item_of result ≡ slice_get (map Perform requests.now) place }
+fn request_at(requests: &[Request], index: usize) -> Option<Item<'_>>
+    ensures { option_map item_of result ≡ slice_get (map Perform requests.now) index }
 {
-    match requests.get(place) {
+    match requests.get(index) {
         None => None,
         Some(request) => Some(Item::Perform(request)),
     }

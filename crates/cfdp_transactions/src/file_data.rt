@@ -18,7 +18,7 @@ ghost use Rattle.cfdp_transactions.specs.Received.{staged_of};
 use crate::admission::bound_of;
 use crate::books::Books;
 use crate::delivery::judge;
-use crate::entry::Entry;
+use crate::entry::TableEntry;
 use crate::phase_changes::end;
 use crate::ranges::Ranges;
 use crate::{Config, Phase, Reply};
@@ -32,20 +32,20 @@ use cfdp_pdus::condition::FILE_SIZE_ERROR;
 pub(crate) fn receive<S: Filestore>(
     store: &mut S,
     books: &mut Books,
-    place: usize,
+    index: usize,
     piece: &Piece<'_>,
 ) -> Reply
     requires laws { LowerLaws }
     requires sound { Sound (world_of (S.state store.old) books.old) }
     requires booked { IsBooked (S.state store.old) books.old }
-    requires within { place < length books.old.table }
+    requires within { index < length books.old.table }
     ensures answer { let W = world_of (S.state store.old) books.old in
-        AnswersAt W (world_of (S.state store.new) books.new) place (data_came W place piece.now) result }
+        AnswersAt W (world_of (S.state store.new) books.new) index (data_came W index piece.now) result }
     ensures answered { IsTrue (S.state store.old).takes_no_memory → IsAnswered result }
     ensures booked { IsBooked (S.state store.new) books.new }
     ensures steady { IsSteady (S.state store.old) (S.state store.new) }
 {
-    let entry = books.table.at(place);
+    let entry = books.table.at(index);
     if !entry.phase().takes_data() {
         return Reply::Idle;
     }
@@ -54,7 +54,7 @@ pub(crate) fn receive<S: Filestore>(
     }
     let count = piece.octets.len() as u64;
     if ends_past(limit_of(&books.config, entry), piece.offset, count) {
-        end(store, books, place, false, FILE_SIZE_ERROR);
+        end(store, books, index, false, FILE_SIZE_ERROR);
         return Reply::Faulted(FILE_SIZE_ERROR);
     }
     if !entry
@@ -63,14 +63,14 @@ pub(crate) fn receive<S: Filestore>(
     {
         return Reply::Dropped;
     }
-    let Ok(()) = stage(store, books, place, piece) else {
+    let Ok(()) = stage(store, books, index, piece) else {
         return Reply::Memory;
     };
-    judge_last(store, books, place)
+    judge_last(store, books, index)
 }
 
 /// Where octets of a transaction's file may end: at its bound; once its EOF PDU came, at that one's size too.
-fn limit_of(config: &Config, entry: &Entry) -> u64
+fn limit_of(config: &Config, entry: &TableEntry) -> u64
     ensures { (F : Files) → result ≡ limit entry.now.phase config.now (entry_in F entry.now) }
 {
     let bound = bound_of(config, entry.metadata());
@@ -95,45 +95,45 @@ fn ends_past(limit: u64, offset: u64, count: u64) -> bool
 fn stage<S: Filestore>(
     store: &mut S,
     books: &mut Books,
-    place: usize,
+    index: usize,
     piece: &Piece<'_>,
 ) -> Result<(), Memory>
     requires laws { LowerLaws }
     requires sound { Sound (world_of (S.state store.old) books.old) }
     requires booked { IsBooked (S.state store.old) books.old }
-    requires taken { IsTakenAt (world_of (S.state store.old) books.old) place piece.now }
+    requires taken { IsTakenAt (world_of (S.state store.old) books.old) index piece.now }
     requires fits { piece.now.offset + length piece.now.octets < 2 ^ 64 }
     ensures stored { OnOk result (StoresAt (world_of (S.state store.old) books.old)
-        (world_of (S.state store.new) books.new) place piece.now) }
+        (world_of (S.state store.new) books.new) index piece.now) }
     ensures sound { OnOk result (Sound (world_of (S.state store.new) books.new)) }
     ensures booked { IsBooked (S.state store.new) books.new }
     ensures err { OnErr result (world_of (S.state store.new) books.new ≡ world_of (S.state store.old) books.old) }
     ensures steady { IsSteady (S.state store.old) (S.state store.new) }
     ensures thrifty { IsTrue (S.state store.old).takes_no_memory → IsOk result }
 {
-    let entry = books.table.at(place);
+    let entry = books.table.at(index);
     let slot = entry.slot();
     let taken = keep(store, slot, entry.ranges(), piece.offset, piece.octets)?;
     books.quota.took(slot, taken);
     let end = piece.offset + piece.octets.len() as u64;
-    books.table.store(place, piece.offset, end, taken);
+    books.table.store(index, piece.offset, end, taken);
     Ok(())
 }
 
 /// What follows once file data of the transaction at an index is staged: where its EOF PDU came, it may have been the
 /// last that was missing.
-fn judge_last<S: Filestore>(store: &mut S, books: &mut Books, place: usize) -> Reply
+fn judge_last<S: Filestore>(store: &mut S, books: &mut Books, index: usize) -> Reply
     requires sound { Sound (world_of (S.state store.old) books.old) }
     requires booked { IsBooked (S.state store.old) books.old }
-    requires within { place < length books.old.table }
+    requires within { index < length books.old.table }
     ensures answer { let W = world_of (S.state store.old) books.old in
-        (e : Transaction) → slice_get W.table place ≡ Some e → stored e.phase W place e
+        (e : Transaction) → slice_get W.table index ≡ Some e → stored e.phase W index e
         ≡ (world_of (S.state store.new) books.new, result) }
     ensures answered { IsAnswered result }
     ensures booked { IsBooked (S.state store.new) books.new }
     ensures steady { IsSteady (S.state store.old) (S.state store.new) }
 {
-    let entry = books.table.at(place);
+    let entry = books.table.at(index);
     let Phase::Awaiting(_) = entry.phase() else {
         return Reply::Stored;
     };
@@ -143,7 +143,7 @@ fn judge_last<S: Filestore>(store: &mut S, books: &mut Books, place: usize) -> R
     if !entry.is_whole(eof.size) {
         return Reply::Stored;
     }
-    judge(store, books, place, eof.checksum)
+    judge(store, books, index, eof.checksum)
 }
 
 /// Keeps octets that came at an offset: those that were received before stay, and the staged list reaches to the

@@ -94,8 +94,8 @@ fn put_responses(
     ensures end { result ≡ at + length (responses_field requests.now performed) }
 {
     let mut end = at;
-    for (place, request) in requests.iter().enumerate() {
-        let status = status_of(request.action(), place, performed);
+    for (index, request) in requests.iter().enumerate() {
+        let status = status_of(request.action(), index, performed);
         end = put_response(out, end, request, status);
     }
     end

@@ -22,91 +22,91 @@ use cfdp_pdus::condition::{CANCEL_REQUEST_RECEIVED, CHECK_LIMIT_REACHED};
 pub(crate) fn end<S: Filestore>(
     store: &mut S,
     books: &mut Books,
-    place: usize,
+    index: usize,
     by_eof: bool,
     condition: u8,
 )
     requires sound { Sound (world_of (S.state store.old) books.old) }
     requires booked { IsBooked (S.state store.old) books.old }
-    requires live { IsLiveAt (world_of (S.state store.old) books.old) place }
+    requires live { IsLiveAt (world_of (S.state store.old) books.old) index }
     ensures ends { EndsAt (world_of (S.state store.old) books.old)
-        (world_of (S.state store.new) books.new) place by_eof condition }
+        (world_of (S.state store.new) books.new) index by_eof condition }
     ensures booked { IsBooked (S.state store.new) books.new }
     ensures steady { IsSteady (S.state store.old) (S.state store.new) }
 {
-    let entry = books.table.at(place);
+    let entry = books.table.at(index);
     let slot = entry.slot();
     let transaction = entry.name();
     let given = store.unstage(slot);
     books.quota.gave(slot, given);
     books.quota.close(slot);
     books.leases.release(transaction);
-    books.table.end(place, condition, by_eof, given);
+    books.table.end(index, condition, by_eof, given);
 }
 
 /// The transaction at an index moves to another phase.
 pub(crate) fn turn<S: Filestore>(
     store: &S,
     books: &mut Books,
-    place: usize,
+    index: usize,
     phase: Phase,
     eof: Option<Eof>,
     complete: bool,
 )
     requires sound { Sound (world_of (S.state store.now) books.old) }
     requires booked { IsBooked (S.state store.now) books.old }
-    requires live { IsLiveAt (world_of (S.state store.now) books.old) place }
+    requires live { IsLiveAt (world_of (S.state store.now) books.old) index }
     requires still { IsTrue (is_live phase) }
     ensures turns { TurnsAt (world_of (S.state store.now) books.old)
-        (world_of (S.state store.now) books.new) place phase eof complete }
+        (world_of (S.state store.now) books.new) index phase eof complete }
     ensures booked { IsBooked (S.state store.now) books.new }
 {
-    let _entry = books.table.at(place);
-    books.table.turn(place, phase, eof, complete);
+    let _entry = books.table.at(index);
+    books.table.turn(index, phase, eof, complete);
 }
 
 /// A request to cancel the transaction at an index (CCSDS 727.0-B-5, cancel procedures).
-pub(crate) fn cancel<S: Filestore>(store: &mut S, books: &mut Books, place: usize) -> Reply
+pub(crate) fn cancel<S: Filestore>(store: &mut S, books: &mut Books, index: usize) -> Reply
     requires sound { Sound (world_of (S.state store.old) books.old) }
     requires booked { IsBooked (S.state store.old) books.old }
-    requires within { place < length books.old.table }
+    requires within { index < length books.old.table }
     ensures answer { let W = world_of (S.state store.old) books.old in
-        AnswersAt W (world_of (S.state store.new) books.new) place (cancelled W place) result }
+        AnswersAt W (world_of (S.state store.new) books.new) index (cancelled W index) result }
     ensures answered { IsAnswered result }
     ensures booked { IsBooked (S.state store.new) books.new }
     ensures steady { IsSteady (S.state store.old) (S.state store.new) }
 {
-    if !books.table.at(place).phase().is_live() {
+    if !books.table.at(index).phase().is_live() {
         return Reply::Idle;
     }
-    end(store, books, place, false, CANCEL_REQUEST_RECEIVED);
+    end(store, books, index, false, CANCEL_REQUEST_RECEIVED);
     Reply::Cancelled
 }
 
 /// A check timer of the transaction at an index expired (timer procedures).
-pub(crate) fn check<S: Filestore>(store: &mut S, books: &mut Books, place: usize) -> Reply
+pub(crate) fn check<S: Filestore>(store: &mut S, books: &mut Books, index: usize) -> Reply
     requires sound { Sound (world_of (S.state store.old) books.old) }
     requires booked { IsBooked (S.state store.old) books.old }
-    requires within { place < length books.old.table }
+    requires within { index < length books.old.table }
     ensures answer { let W = world_of (S.state store.old) books.old in
-        AnswersAt W (world_of (S.state store.new) books.new) place (checked W place) result }
+        AnswersAt W (world_of (S.state store.new) books.new) index (checked W index) result }
     ensures answered { IsAnswered result }
     ensures booked { IsBooked (S.state store.new) books.new }
     ensures steady { IsSteady (S.state store.old) (S.state store.new) }
 {
-    let entry = books.table.at(place);
+    let entry = books.table.at(index);
     let Phase::Awaiting(checks) = entry.phase() else {
         return Reply::Idle;
     };
     if checks >= books.config.checks().saturating_sub(1) {
-        end(store, books, place, false, CHECK_LIMIT_REACHED);
+        end(store, books, index, false, CHECK_LIMIT_REACHED);
         return Reply::Faulted(CHECK_LIMIT_REACHED);
     }
     let (eof, complete) = (entry.eof(), entry.is_complete());
     turn(
         store,
         books,
-        place,
+        index,
         Phase::Awaiting(checks + 1),
         eof,
         complete,
@@ -115,17 +115,17 @@ pub(crate) fn check<S: Filestore>(store: &mut S, books: &mut Books, place: usize
 }
 
 /// The transaction at an index, which has no items, is done: its reserve and its leases go.
-pub(crate) fn finish<S: Filestore>(store: &S, books: &mut Books, place: usize)
+pub(crate) fn finish<S: Filestore>(store: &S, books: &mut Books, index: usize)
     requires sound { Sound (world_of (S.state store.now) books.old) }
     requires booked { IsBooked (S.state store.now) books.old }
-    requires live { IsLiveAt (world_of (S.state store.now) books.old) place }
-    requires bare { IsBareAt (world_of (S.state store.now) books.old) place }
-    ensures done { IsDoneAt (world_of (S.state store.now) books.old) (world_of (S.state store.now) books.new) place }
+    requires live { IsLiveAt (world_of (S.state store.now) books.old) index }
+    requires bare { IsBareAt (world_of (S.state store.now) books.old) index }
+    ensures done { IsDoneAt (world_of (S.state store.now) books.old) (world_of (S.state store.now) books.new) index }
     ensures booked { IsBooked (S.state store.now) books.new }
 {
-    let entry = books.table.at(place);
+    let entry = books.table.at(index);
     let (transaction, slot, eof) = (entry.name(), entry.slot(), entry.eof());
-    books.table.turn(place, Phase::Done, eof, true);
+    books.table.turn(index, Phase::Done, eof, true);
     books.quota.close(slot);
     books.leases.release(transaction);
 }

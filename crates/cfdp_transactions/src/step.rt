@@ -32,18 +32,18 @@ pub(crate) fn settle_quota(quota: &mut Quota, slot: u8, before: u32, after: u32)
 
 /// The next item of the transaction at an index is performed (CCSDS 727.0-B-5, filestore procedures). Where memory is
 /// refused, nothing has changed.
-pub(crate) fn step<S: Filestore>(store: &mut S, books: &mut Books, place: usize) -> Reply
+pub(crate) fn step<S: Filestore>(store: &mut S, books: &mut Books, index: usize) -> Reply
     requires laws { LowerLaws }
     requires sound { Sound (world_of (S.state store.old) books.old) }
     requires booked { IsBooked (S.state store.old) books.old }
-    requires within { place < length books.old.table }
+    requires within { index < length books.old.table }
     ensures answer { let W = world_of (S.state store.old) books.old in
-        AnswersAt W (world_of (S.state store.new) books.new) place (stepped W place) result }
+        AnswersAt W (world_of (S.state store.new) books.new) index (stepped W index) result }
     ensures answered { IsTrue (S.state store.old).takes_no_memory → IsAnswered result }
     ensures booked { IsBooked (S.state store.new) books.new }
     ensures steady { IsSteady (S.state store.old) (S.state store.new) }
 {
-    let entry = books.table.at(place);
+    let entry = books.table.at(index);
     let Phase::Executing(next) = entry.phase() else {
         return Reply::Idle;
     };
@@ -67,7 +67,7 @@ pub(crate) fn step<S: Filestore>(store: &mut S, books: &mut Books, place: usize)
         after,
         ticks,
     };
-    books.table.advance(place, done);
+    books.table.advance(index, done);
     if last {
         books.quota.close(slot);
         books.leases.release(transaction);

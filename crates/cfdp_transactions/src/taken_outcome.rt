@@ -17,7 +17,7 @@ ghost use Rattle.cfdp_transactions.specs.Writable.{IsWritable};
 
 use crate::admission::names_file;
 use crate::books::Books;
-use crate::entry::Entry;
+use crate::entry::TableEntry;
 use crate::finished_in_buffer::{ShortBuffer, TakenFinished, put_finished};
 use crate::outcome::{Outcome, SharedOutcome};
 use crate::{Phase, Reply};
@@ -37,24 +37,24 @@ pub(crate) fn take<S: Filestore>(
     alloc: Global,
     store: &S,
     books: &mut Books,
-    place: usize,
+    index: usize,
 ) -> (Reply, Reply)
     requires booked { IsBooked (S.state store.now) books.old }
-    requires within { place < length books.old.table }
+    requires within { index < length books.old.table }
     ensures answer { let W = world_of (S.state store.now) books.old in
-        AnswersAt W (world_of (S.state store.now) books.new) place (taken_out W place) result.0 }
-    ensures lean { IsLiveAt (world_of (S.state store.now) books.old) place → IsAnswered result.0 }
+        AnswersAt W (world_of (S.state store.now) books.new) index (taken_out W index) result.0 }
+    ensures lean { IsLiveAt (world_of (S.state store.now) books.old) index → IsAnswered result.0 }
     ensures same { result.1 ≡ result.0 }
     ensures booked { IsBooked (S.state store.now) books.new }
 {
-    let entry = books.table.at(place);
+    let entry = books.table.at(index);
     if entry.phase().is_live() {
         return (Reply::Idle, Reply::Idle);
     }
     let Ok((outcome, again)) = make_handles(alloc, entry) else {
         return (Reply::Memory, Reply::Memory);
     };
-    books.table.forget(place);
+    books.table.forget(index);
     (Reply::Taken(outcome), Reply::Taken(again))
 }
 
@@ -65,16 +65,16 @@ pub(crate) fn take_moved<S: Filestore>(
     alloc: Global,
     store: &S,
     books: &mut Books,
-    place: usize,
+    index: usize,
 ) -> Reply
     requires booked { IsBooked (S.state store.now) books.old }
-    requires within { place < length books.old.table }
+    requires within { index < length books.old.table }
     ensures answer { let W = world_of (S.state store.now) books.old in
-        AnswersAt W (world_of (S.state store.now) books.new) place (taken_out W place) result }
-    ensures lean { IsLiveAt (world_of (S.state store.now) books.old) place → IsAnswered result }
+        AnswersAt W (world_of (S.state store.now) books.new) index (taken_out W index) result }
+    ensures lean { IsLiveAt (world_of (S.state store.now) books.old) index → IsAnswered result }
     ensures booked { IsBooked (S.state store.now) books.new }
 {
-    let entry = books.table.at(place);
+    let entry = books.table.at(index);
     if entry.phase().is_live() {
         return Reply::Idle;
     }
@@ -89,7 +89,7 @@ pub(crate) fn take_moved<S: Filestore>(
     let Some(shared) = Arc::get_mut(&mut handle.shared) else {
         return Reply::Memory;
     };
-    let requests = books.table.take_out(place).into_requests();
+    let requests = books.table.take_out(index).into_requests();
     *shared = with_responses(outcome, responses_to(requests, performed, room));
     Reply::Taken(handle)
 }
@@ -100,24 +100,24 @@ pub(crate) fn hand_out<S: Filestore>(
     alloc: Global,
     store: &S,
     books: &mut Books,
-    place: usize,
+    index: usize,
     outcome: Outcome,
 ) -> Reply
     requires booked { IsBooked (S.state store.now) books.old }
-    requires within { place < length books.old.table }
-    requires made { (e : Transaction) → slice_get (world_of (S.state store.now) books.old).table place ≡ Some e →
+    requires within { index < length books.old.table }
+    requires made { (e : Transaction) → slice_get (world_of (S.state store.now) books.old).table index ≡ Some e →
         IsFalse (is_live e.phase) → outcome ≡ outcome_of e }
     ensures answer { let W = world_of (S.state store.now) books.old in
-        AnswersAt W (world_of (S.state store.now) books.new) place (taken_out W place) result }
+        AnswersAt W (world_of (S.state store.now) books.new) index (taken_out W index) result }
     ensures booked { IsBooked (S.state store.now) books.new }
 {
-    if books.table.at(place).phase().is_live() {
+    if books.table.at(index).phase().is_live() {
         return Reply::Idle;
     }
     let Ok(shared) = SharedOutcome::new(alloc, outcome) else {
         return Reply::Memory;
     };
-    books.table.forget(place);
+    books.table.forget(index);
     Reply::Taken(shared)
 }
 
@@ -132,22 +132,22 @@ pub(crate) fn take_finished<S: Filestore>(
     alloc: Global,
     store: &S,
     books: &mut Books,
-    place: usize,
+    index: usize,
     out: &mut [u8],
 ) -> Result<Option<TakenFinished>, ShortBuffer>
     requires booked { IsBooked (S.state store.now) books.old }
-    requires within { place < length books.old.table }
+    requires within { index < length books.old.table }
     requires writable { let W = world_of (S.state store.now) books.old in
-        (e : Transaction) → slice_get W.table place ≡ Some e → IsFalse (is_live e.phase) → IsWritable (outcome_of e) }
+        (e : Transaction) → slice_get W.table index ≡ Some e → IsFalse (is_live e.phase) → IsWritable (outcome_of e) }
     ensures ok { let W = world_of (S.state store.now) books.old in
-        IfOk result (λ told. (e : Transaction) → slice_get W.table place ≡ Some e →
-        Issues (taken_out W place (Some e)) (world_of (S.state store.now) books.new) out.old out.new told) }
+        IfOk result (λ told. (e : Transaction) → slice_get W.table index ≡ Some e →
+        Issues (taken_out W index (Some e)) (world_of (S.state store.now) books.new) out.old out.new told) }
     ensures err { let W = world_of (S.state store.now) books.old in
-        IfErr result (λ short. (e : Transaction) → slice_get W.table place ≡ Some e →
-        FallsShort (taken_out W place (Some e)) W (world_of (S.state store.now) books.new) out.old out.new short) }
+        IfErr result (λ short. (e : Transaction) → slice_get W.table index ≡ Some e →
+        FallsShort (taken_out W index (Some e)) W (world_of (S.state store.now) books.new) out.old out.new short) }
     ensures booked { IsBooked (S.state store.now) books.new }
 {
-    let entry = books.table.at(place);
+    let entry = books.table.at(index);
     if entry.phase().is_live() {
         return Ok(None);
     }
@@ -157,14 +157,14 @@ pub(crate) fn take_finished<S: Filestore>(
     match put_finished(&outcome, &entry.metadata().requests, performed, out) {
         Err(short) => Err(short),
         Ok(len) => {
-            books.table.forget(place);
+            books.table.forget(index);
             Ok(Some(TakenFinished { condition, len }))
         }
     }
 }
 
 /// Two handles of the outcome of a transaction that is over.
-fn make_handles(alloc: Global, entry: &Entry) -> Result<(SharedOutcome, SharedOutcome), Memory>
+fn make_handles(alloc: Global, entry: &TableEntry) -> Result<(SharedOutcome, SharedOutcome), Memory>
     ensures outcome { IfOk result (λ both. (F : Files) → both.0 ≡ outcome_of (entry_in F entry.now)) }
     ensures same { IfOk result (λ both. both.1 ≡ both.0) }
 {
@@ -174,7 +174,7 @@ fn make_handles(alloc: Global, entry: &Entry) -> Result<(SharedOutcome, SharedOu
 }
 
 /// The outcome of a transaction that is over.
-pub(crate) fn make_outcome(alloc: Global, entry: &Entry) -> Result<Outcome, Memory>
+pub(crate) fn make_outcome(alloc: Global, entry: &TableEntry) -> Result<Outcome, Memory>
     ensures { IfOk result (λ outcome. (F : Files) → outcome ≡ outcome_of (entry_in F entry.now)) }
 {
     let requests = &entry.metadata().requests;
@@ -183,7 +183,7 @@ pub(crate) fn make_outcome(alloc: Global, entry: &Entry) -> Result<Outcome, Memo
 }
 
 /// The outcome of a transaction that is over, without the responses to its requests. Takes no memory.
-fn bare_outcome(alloc: Global, entry: &Entry) -> Outcome
+fn bare_outcome(alloc: Global, entry: &TableEntry) -> Outcome
     ensures { (F : Files) → result ≡ answered_by [] (outcome_of (entry_in F entry.now)) }
 {
     let header = entry.header();
@@ -289,8 +289,8 @@ fn make_responses(
         (statuses_of performed requests.now)) }
 {
     let mut responses = Vec::with_capacity(alloc, requests.len())?;
-    for (place, request) in requests.iter().enumerate() {
-        let status = status_of(request.action(), place, performed);
+    for (index, request) in requests.iter().enumerate() {
+        let status = status_of(request.action(), index, performed);
         responses.push(request.copy(alloc)?.into_response(status))?;
     }
     Ok(responses)

@@ -16,7 +16,7 @@ ghost use Rattle.cfdp_transactions.specs.code.Adding.{IsRuled};
 ghost use Rattle.cfdp_transactions.specs.Books.{IsAnswered};
 ghost use Rattle.cfdp_transactions.specs.Entry.{gaps, name_of, progress, reach};
 ghost use Rattle.std.specs.Option.{option_copied, option_map};
-ghost use Rattle.cfdp_transactions.specs.Engine.{AsksForNone, may_begin, outcome_in, read_of};
+ghost use Rattle.cfdp_transactions.specs.CoreFields.{AsksForNone, may_begin, outcome_in, read_of};
 
 use crate::admission::Ruling;
 use crate::books::Books;
@@ -52,15 +52,15 @@ pub struct Core<S: Filestore> {
 }
 
 impl<S: Filestore> Model for Core<S> {
-    ghost use Rattle.cfdp_transactions.specs.Engine as words;
-    ghost use Rattle.cfdp_transactions.specs.code.Engine as words_in_code;
+    ghost use Rattle.cfdp_transactions.specs.CoreFields as words;
+    ghost use Rattle.cfdp_transactions.specs.code.CoreFields as words_in_code;
     ghost use Rattle.std.specs.Coded.{codes};
 
-    ghost Value = { words.Engine };
+    ghost Value = { words.CoreFields };
 
     ghost coded = { Prim.hlevel (codes, words_in_code.nodes_code) };
 
-    ghost view = { λ c. words_in_code.engine_of (S.state c.store) c.books };
+    ghost view = { λ c. words_in_code.core_of (S.state c.store) c.books };
 
     ghost invariant = { λ c. words_in_code.IsWholeCore (S.state c.store) c.books };
 }
@@ -392,10 +392,10 @@ impl<S: Filestore> Core<S> {
         ensures steady { self.new.takes_no_memory ≡ self.old.takes_no_memory }
     {
         laws::follows_is_sound();
-        let Some(place) = self.books.table.find(id) else {
+        let Some(index) = self.books.table.find(id) else {
             return Reply::Unknown;
         };
-        taken_outcome::hand_out(self.alloc, &self.store, &mut self.books, place, outcome)
+        taken_outcome::hand_out(self.alloc, &self.store, &mut self.books, index, outcome)
     }
 
     /// The outcome of a transaction is taken, with which it is forgotten, as [`apply`](Core::apply) does with Take, by
@@ -426,10 +426,10 @@ impl<S: Filestore> Core<S> {
         ensures steady { self.new.takes_no_memory ≡ self.old.takes_no_memory }
     {
         laws::next_is_sound();
-        let Some(place) = self.books.table.find(id) else {
+        let Some(index) = self.books.table.find(id) else {
             return Ok(None);
         };
-        taken_outcome::take_finished(self.alloc, &self.store, &mut self.books, place, out)
+        taken_outcome::take_finished(self.alloc, &self.store, &mut self.books, index, out)
     }
 
     /// The ruling on a Metadata PDU that came (CCSDS 727.0-B-5 §5.2.5), which is lent.
@@ -496,10 +496,10 @@ impl<S: Filestore> Core<S> {
         if header.destination != self.books.config.entity() {
             return Reply::NotForUs;
         }
-        let Some(place) = self.books.table.find(transaction_of(header)) else {
+        let Some(index) = self.books.table.find(transaction_of(header)) else {
             return Reply::Unknown;
         };
-        file_data::receive(&mut self.store, &mut self.books, place, piece)
+        file_data::receive(&mut self.store, &mut self.books, index, piece)
     }
 
     /// An EOF PDU came (§5.2.2, copy file procedures).
@@ -512,10 +512,10 @@ impl<S: Filestore> Core<S> {
         if header.destination != self.books.config.entity() {
             return Reply::NotForUs;
         }
-        let Some(place) = self.books.table.find(transaction_of(header)) else {
+        let Some(index) = self.books.table.find(transaction_of(header)) else {
             return Reply::Unknown;
         };
-        delivery::eof(&mut self.store, &mut self.books, place, eof)
+        delivery::eof(&mut self.store, &mut self.books, index, eof)
     }
 
     /// The outcome of a transaction is asked for, with which it is forgotten: the reply, twice.
@@ -526,10 +526,10 @@ impl<S: Filestore> Core<S> {
         ensures steady { self.new.takes_no_memory ≡ self.old.takes_no_memory }
     {
         laws::follows_is_sound();
-        let Some(place) = self.books.table.find(id) else {
+        let Some(index) = self.books.table.find(id) else {
             return (Reply::Unknown, Reply::Unknown);
         };
-        taken_outcome::take(self.alloc, &self.store, &mut self.books, place)
+        taken_outcome::take(self.alloc, &self.store, &mut self.books, index)
     }
 
     /// Like `take`, but returns the reply once: no name is copied.
@@ -539,10 +539,10 @@ impl<S: Filestore> Core<S> {
         ensures steady { self.new.takes_no_memory ≡ self.old.takes_no_memory }
     {
         laws::follows_is_sound();
-        let Some(place) = self.books.table.find(id) else {
+        let Some(index) = self.books.table.find(id) else {
             return Reply::Unknown;
         };
-        taken_outcome::take_moved(self.alloc, &self.store, &mut self.books, place)
+        taken_outcome::take_moved(self.alloc, &self.store, &mut self.books, index)
     }
 
     /// A request to cancel a transaction (CCSDS 727.0-B-5, cancel procedures).
@@ -552,10 +552,10 @@ impl<S: Filestore> Core<S> {
         ensures steady { self.new.takes_no_memory ≡ self.old.takes_no_memory }
     {
         laws::follows_is_sound();
-        let Some(place) = self.books.table.find(id) else {
+        let Some(index) = self.books.table.find(id) else {
             return Reply::Unknown;
         };
-        phase_changes::cancel(&mut self.store, &mut self.books, place)
+        phase_changes::cancel(&mut self.store, &mut self.books, index)
     }
 
     /// A check timer of a transaction expired (timer procedures).
@@ -565,10 +565,10 @@ impl<S: Filestore> Core<S> {
         ensures steady { self.new.takes_no_memory ≡ self.old.takes_no_memory }
     {
         laws::follows_is_sound();
-        let Some(place) = self.books.table.find(id) else {
+        let Some(index) = self.books.table.find(id) else {
             return Reply::Unknown;
         };
-        phase_changes::check(&mut self.store, &mut self.books, place)
+        phase_changes::check(&mut self.store, &mut self.books, index)
     }
 
     /// The next item of a transaction is performed (filestore procedures).
@@ -579,9 +579,9 @@ impl<S: Filestore> Core<S> {
     {
         laws::lower_laws();
         laws::follows_is_sound();
-        let Some(place) = self.books.table.find(id) else {
+        let Some(index) = self.books.table.find(id) else {
             return Reply::Unknown;
         };
-        step::step(&mut self.store, &mut self.books, place)
+        step::step(&mut self.store, &mut self.books, index)
     }
 }

@@ -2,7 +2,7 @@
 pub mod NodeLaws
 pub mod NodeFieldLaws
 pub mod TreeLaws
-pub mod PlaceLaws
+pub mod EntryLaws
 pub mod WriteLaws
 pub mod LinkLaws
 pub mod ClimbLaws

@@ -1,5 +1,5 @@
 -- What the store is seen as, and each change of a slot, of a file's octets and of nodes.
-pub mod SlotPlaces
+pub mod SlotCursors
 pub mod GapLaws
 pub mod ShowLaws
 pub mod StoredLaws

@@ -1,6 +1,6 @@
 -- Walks over what is at a path and below it.
 pub mod WalkLaws
-pub mod SurveyLaws
+pub mod NodesBelowLaws
 pub mod DeepestLaws
 pub mod ListingLaws
 pub mod InOrderLaws

@@ -6,7 +6,7 @@
 --     NodeFields   a node: what is at one path, and its links
 --     Nodes        the nodes of an arena alone
 --     Tree         the tree that they make
---     Places       directories and the root
+--     Directories  directories and the root
 --     Lists        lists of nodes by links
 --     Index        nodes by their directory and their name
 --     Entries      the entries of a directory and of the root
@@ -14,7 +14,7 @@
 --     Slots        its staged lists
 --     Changes      what is made
 --     Walk         walks over what is below a node or the root, in path order
---     Survey       the nodes of what is there
+--     NodesBelow   the nodes of what is there
 --     Beside       the entries of a directory but for some of them
 --     Text         the octets of a path
 --     Orders       the entries of a directory and of the root, in order of their names
@@ -30,11 +30,11 @@ pub mod Lists
 pub mod Next
 pub mod Nodes
 pub mod Orders
-pub mod Places
+pub mod Directories
 pub mod NodeFields
 pub mod Runs
 pub mod Slots
-pub mod Survey
+pub mod NodesBelow
 pub mod Text
 pub mod Tree
 pub mod Walk

@@ -95,7 +95,7 @@ impl Contents {
         ensures taken { free_count arena.new + blocks_of size ≡ free_count arena.old + blocks_of self.old.size }
         ensures capacity { length arena.new ≡ length arena.old }
         ensures spares { Spares arena.old arena.new self.old.run self.new.run }
-        ensures places { (k : ℕ) → k < self.old.run.count →
+        ensures sequence { (k : ℕ) → k < self.old.run.count →
             nth arena.new self.new.run.first k ≡ nth arena.old self.old.run.first k }
         ensures nodes { nodes_in arena.new ≡ nodes_in arena.old }
         ensures ways { HasWays arena.new ways.new self.new.run }
@@ -131,11 +131,11 @@ impl Contents {
         ensures run { self.new.run ≡ self.old.run }
         ensures size { self.new.size ≡ self.old.size }
         ensures octets { contents_in arena.new self.new ≡ overwritten (contents_in arena.old self.old) at octets.now }
-        ensures place { IsAt arena.new self.new.run result }
+        ensures cursor { IsAt arena.new self.new.run result }
         ensures free { free_count arena.new ≡ free_count arena.old }
         ensures capacity { length arena.new ≡ length arena.old }
         ensures spares { Spares arena.old arena.new self.old.run self.new.run }
-        ensures places { (k : ℕ) → k ≤ self.old.run.count →
+        ensures sequence { (k : ℕ) → k ≤ self.old.run.count →
             nth arena.new self.new.run.first k ≡ nth arena.old self.old.run.first k }
         ensures nodes { nodes_in arena.new ≡ nodes_in arena.old }
     {
@@ -173,7 +173,7 @@ impl Contents {
         requires from { IsAt arena.now self.now.run from }
         requires range { at + length buffer.old ≤ self.now.size }
         ensures octets { buffer.new ≡ slice_range (contents_in arena.now self.now) at (at + length buffer.old) }
-        ensures place { IsAt arena.now self.now.run result }
+        ensures cursor { IsAt arena.now self.now.run result }
     {
         self.run.read(arena, ways, from, at as usize, buffer)
     }
@@ -190,7 +190,7 @@ impl Contents {
         ensures sum { self.new.sum ≡ self.old.sum }
         ensures octets { contents_in arena.new self.new ≡ extended (contents_in arena.old self.old) (self.old.size
             + more) }
-        ensures place { IsAt arena.new self.new.run result }
+        ensures cursor { IsAt arena.new self.new.run result }
         ensures taken { free_count arena.new + blocks_of (self.old.size + more)
             ≡ free_count arena.old + blocks_of self.old.size }
         ensures capacity { length arena.new ≡ length arena.old }

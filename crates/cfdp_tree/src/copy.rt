@@ -34,7 +34,7 @@ impl Run {
             octets_of_run arena.new self.now ≡ overwritten (octets_of_run arena.old self.now)
             (120 * to.now.cursor.index + to.now.at) (slice_range (octets_of_run arena.old source.now) start
             (start + len)) }
-        ensures places { (k : ℕ) → k ≤ self.now.count → nth arena.new self.now.first k
+        ensures sequence { (k : ℕ) → k ≤ self.now.count → nth arena.new self.now.first k
             ≡ nth arena.old self.now.first k }
         ensures free { free_count arena.new ≡ free_count arena.old }
         ensures size { length arena.new ≡ length arena.old }
@@ -64,7 +64,7 @@ impl Run {
             octets_of_run arena.new self.now ≡ overwritten (octets_of_run arena.old self.now)
             (120 * to.now.cursor.index + to.now.at) (slice_range (octets_of_run arena.old source.now) start (start
             + count)) }
-        ensures places { (k : ℕ) → k ≤ self.now.count → nth arena.new self.now.first k
+        ensures sequence { (k : ℕ) → k ≤ self.now.count → nth arena.new self.now.first k
             ≡ nth arena.old self.now.first k }
         ensures free { free_count arena.new ≡ free_count arena.old }
         ensures size { length arena.new ≡ length arena.old }
@@ -105,7 +105,7 @@ impl Run {
         ensures held { IsHeld arena.new self.now }
         ensures octets { octets_of_run arena.new self.now
             ≡ overwritten (octets_of_run arena.old self.now) at (take len (octets_of_run arena.old source.now)) }
-        ensures places { (k : ℕ) → k ≤ self.now.count → nth arena.new self.now.first k
+        ensures sequence { (k : ℕ) → k ≤ self.now.count → nth arena.new self.now.first k
             ≡ nth arena.old self.now.first k }
         ensures free { free_count arena.new ≡ free_count arena.old }
         ensures size { length arena.new ≡ length arena.old }

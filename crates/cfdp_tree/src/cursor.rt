@@ -37,9 +37,9 @@ impl Run {
     /// The position after a block. In constant time.
     pub(crate) fn after(&self, arena: &Arena, cursor: &Cursor) -> Cursor
         requires held { IsHeld arena.now self.now }
-        requires place { IsAt arena.now self.now cursor.now }
+        requires cursor { IsAt arena.now self.now cursor.now }
         requires within { cursor.now.index < self.now.count }
-        ensures place { IsAt arena.now self.now result }
+        ensures cursor { IsAt arena.now self.now result }
         ensures index { result.index ≡ cursor.now.index + 1 }
     {
         Cursor {
@@ -54,7 +54,7 @@ impl Run {
         requires held { IsHeld arena.now self.now }
         requires from { IsAt arena.now self.now from }
         requires within { index ≤ self.now.count }
-        ensures place { IsAt arena.now self.now result }
+        ensures cursor { IsAt arena.now self.now result }
         ensures index { result.index ≡ index }
     {
         let mut cursor = if from.index <= index {
@@ -75,7 +75,7 @@ impl Run {
         requires ways { HasWays arena.now ways.now self.now }
         requires from { IsAt arena.now self.now from }
         requires within { index ≤ self.now.count }
-        ensures place { IsAt arena.now self.now result }
+        ensures cursor { IsAt arena.now self.now result }
         ensures index { result.index ≡ index }
     {
         if from.index <= index && index - from.index <= NEAR {

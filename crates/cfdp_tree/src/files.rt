@@ -15,7 +15,7 @@ ghost use Rattle.cfdp_tree.specs.code.Kept.{contents_told};
 ghost use Rattle.cfdp_tree.specs.code.Files.{with_contents, with_run};
 
 use crate::contents::{Contents, contents_of};
-use crate::index::Head;
+use crate::index::ListHead;
 use crate::lookup::find_path;
 use crate::node_block::{set_first, set_last, set_size, set_sum};
 use crate::orders::Orders;
@@ -33,7 +33,12 @@ pub(crate) struct FoundFile {
 }
 
 /// The file at a path. In expected time linear in the octets of the path.
-pub(crate) fn find_file(arena: &Arena, heads: &[Head], orders: &Orders, path: &Path) -> FoundFile
+pub(crate) fn find_file(
+    arena: &Arena,
+    heads: &[ListHead],
+    orders: &Orders,
+    path: &Path,
+) -> FoundFile
     requires tree { IsTree (nodes_in arena.now) }
     requires index { IsIndex (nodes_in arena.now) heads.now None }
     requires ordered { IsInOrders (nodes_in arena.now) orders.now None }

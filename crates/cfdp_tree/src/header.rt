@@ -32,24 +32,24 @@ impl BlockKind {
 }
 
 /// The number that is in two octets of a block, the low one first.
-pub(crate) fn number_in(block: &Block, place: usize) -> u32
-    requires inside { place < 127 }
-    ensures value { result ≡ block_number_at block.now place }
+pub(crate) fn number_in(block: &Block, offset: usize) -> u32
+    requires inside { offset < 127 }
+    ensures value { result ≡ block_number_at block.now offset }
     ensures small { result < 65536 }
 {
-    u32::from(u16::from_le_bytes([block[place], block[place + 1]]))
+    u32::from(u16::from_le_bytes([block[offset], block[offset + 1]]))
 }
 
 /// Puts a number into two octets of a block, the low one first.
-pub(crate) fn set_number(block: &mut Block, place: usize, number: u32)
-    requires inside { place < 127 }
+pub(crate) fn set_number(block: &mut Block, offset: usize, number: u32)
+    requires inside { offset < 127 }
     requires small { number < 65536 }
-    ensures number { block.new ≡ with_number block.old place number }
+    ensures number { block.new ≡ with_number block.old offset number }
     ensures whole { length block.new ≡ 128 }
 {
     let [low, high] = (number as u16).to_le_bytes();
-    block[place] = low;
-    block[place + 1] = high;
+    block[offset] = low;
+    block[offset + 1] = high;
 }
 
 /// The block that a block names as the next one of its run.

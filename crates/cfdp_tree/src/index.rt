@@ -4,7 +4,7 @@ ghost use Rattle.cfdp_arena.specs.Arena.{free_count};
 ghost use Rattle.cfdp_tree.specs.code.Nodes.{nodes_in};
 ghost use Rattle.cfdp_tree.specs.code.Runs.{RunsStay};
 ghost use Rattle.cfdp_tree.specs.code.Tree.{IsTree, IsNode, IsEntry, Relinked, node_fields_at};
-ghost use Rattle.cfdp_tree.specs.code.Index.{node_hash, head_place, index_chain, list_of, without_node, head_count, IsIndex};
+ghost use Rattle.cfdp_tree.specs.code.Index.{node_hash, bucket_of, index_chain, list_of, without_node, head_count, IsIndex};
 ghost use Rattle.cfdp_tree.specs.code.Orders.{IsInOrders};
 
 use crate::node_block::{home_is, name_is, same_head_of, set_same_head};
@@ -15,7 +15,7 @@ use std::hash::{FoldHasher, Hasher};
 /// The nodes of a directory and a name, and of others whose hash leads here too: where the list of some of them begins,
 /// how many are in it, and how many are not. Where the list is empty, its first node means nothing.
 #[derive(Clone, Copy)]
-pub(crate) struct Head {
+pub(crate) struct ListHead {
     pub(crate) first: BlockId,
     pub(crate) listed: u16,
     pub(crate) unlisted: u16,
@@ -24,14 +24,14 @@ pub(crate) struct Head {
 /// The most nodes of a list. In a full store about one head in a million has more nodes by chance.
 const MOST_LISTED: u16 = 8;
 
-impl Head {
+impl ListHead {
     /// The head of no nodes.
-    pub(crate) fn empty() -> Head
+    pub(crate) fn empty() -> ListHead
         ensures first { result.first ≡ 0 }
         ensures listed { result.listed ≡ 0 }
         ensures unlisted { result.unlisted ≡ 0 }
     {
-        Head {
+        ListHead {
             first: BlockId::of_number(0),
             listed: 0,
             unlisted: 0,
@@ -54,9 +54,9 @@ fn hash_of(directory: Option<BlockId>, name: &[u8]) -> u64
 /// The index of the head of a directory and a name: the high 64 bits of their hash times the number of heads. A
 /// division would be many times slower.
 #[inline(always)]
-pub(crate) fn place_of(heads: &[Head], directory: Option<BlockId>, name: &[u8]) -> usize
+pub(crate) fn bucket_of(heads: &[ListHead], directory: Option<BlockId>, name: &[u8]) -> usize
     requires some { 0 < length heads.now }
-    ensures place { result ≡ head_place directory name.now (length heads.now) }
+    ensures bucket { result ≡ bucket_of directory name.now (length heads.now) }
     ensures within { result < length heads.now }
 {
     let hash = hash_of(directory, name);
@@ -68,7 +68,7 @@ pub(crate) fn place_of(heads: &[Head], directory: Option<BlockId>, name: &[u8]) 
 /// time.
 pub(crate) fn insert(
     arena: &mut Arena,
-    heads: &mut [Head],
+    heads: &mut [ListHead],
     node: &BlockId,
     directory: Option<BlockId>,
     name: &[u8],
@@ -84,17 +84,17 @@ pub(crate) fn insert(
 {
     // Read for its contract alone: an arena has 1 to 65,536 blocks.
     let _free = arena.free();
-    let place = place_of(heads, directory, name);
-    let head = heads[place];
+    let bucket = bucket_of(heads, directory, name);
+    let head = heads[bucket];
     if head.listed == MOST_LISTED {
-        heads[place] = Head {
+        heads[bucket] = ListHead {
             unlisted: head.unlisted + 1,
             ..head
         };
         return;
     }
     set_same_head(arena.bytes_mut(*node), head.first);
-    heads[place] = Head {
+    heads[bucket] = ListHead {
         first: *node,
         listed: head.listed + 1,
         ..head
@@ -104,7 +104,7 @@ pub(crate) fn insert(
 /// Takes a node out of the index. In constant time: it goes through at most 8 nodes.
 pub(crate) fn remove(
     arena: &mut Arena,
-    heads: &mut [Head],
+    heads: &mut [ListHead],
     node: &BlockId,
     directory: Option<BlockId>,
     name: &[u8],
@@ -118,14 +118,14 @@ pub(crate) fn remove(
     ensures free { free_count arena.new ≡ free_count arena.old }
     ensures size { length arena.new ≡ length arena.old }
 {
-    let place = place_of(heads, directory, name);
-    let head = heads[place];
-    heads[place] = take_out(arena, &head, node);
+    let bucket = bucket_of(heads, directory, name);
+    let head = heads[bucket];
+    heads[bucket] = take_out(arena, &head, node);
 }
 
 /// A head without one of its nodes, which goes out of its list if it is in it. In constant time: the list has at most
 /// 8 nodes.
-fn take_out(arena: &mut Arena, head: &Head, node: &BlockId) -> Head
+fn take_out(arena: &mut Arena, head: &ListHead, node: &BlockId) -> ListHead
     requires tree { IsTree (nodes_in arena.old) }
     requires node { IsNode (nodes_in arena.old) node.now }
     requires nodes { All (IsNode (nodes_in arena.old)) (list_of (nodes_in arena.old) head.now) }
@@ -133,7 +133,7 @@ fn take_out(arena: &mut Arena, head: &Head, node: &BlockId) -> Head
     requires there { (Contains (list_of (nodes_in arena.old) head.now) node.now → ⊥) → 0 < head.now.unlisted }
     requires small { head.now.first < 65536 }
     ensures list { list_of (nodes_in arena.new) result ≡ without_node node.now (list_of (nodes_in arena.old) head.now) }
-    ensures others { (other : Head)
+    ensures others { (other : ListHead)
         → All (λ b. Contains (list_of (nodes_in arena.old) head.now) b → ⊥) (list_of (nodes_in arena.old) other)
         → list_of (nodes_in arena.new) other ≡ list_of (nodes_in arena.old) other }
     ensures count { head_count result + 1 ≡ head_count head.now }
@@ -146,20 +146,20 @@ fn take_out(arena: &mut Arena, head: &Head, node: &BlockId) -> Head
 {
     let next = same_head_of(arena.bytes(*node));
     if head.listed > 0 && head.first == *node {
-        return Head {
+        return ListHead {
             first: next,
             listed: head.listed - 1,
             ..*head
         };
     }
     let Some(before) = node_before(arena, head, node) else {
-        return Head {
+        return ListHead {
             unlisted: head.unlisted - 1,
             ..*head
         };
     };
     set_same_head(arena.bytes_mut(before), next);
-    Head {
+    ListHead {
         listed: head.listed - 1,
         ..*head
     }
@@ -167,7 +167,7 @@ fn take_out(arena: &mut Arena, head: &Head, node: &BlockId) -> Head
 
 /// The node of a list that names this one as the next one. This one is not the list's first; `None` if it is not in the
 /// list.
-fn node_before(arena: &Arena, head: &Head, node: &BlockId) -> Option<BlockId>
+fn node_before(arena: &Arena, head: &ListHead, node: &BlockId) -> Option<BlockId>
     requires nodes { All (IsNode (nodes_in arena.now)) (list_of (nodes_in arena.now) head.now) }
     requires later { 0 < head.now.listed → head.now.first ≢ node.now }
     ensures before { IfSome result (λ b. (node_fields_at (nodes_in arena.now) b).same_head ≡ node.now) }
@@ -192,7 +192,7 @@ fn node_before(arena: &Arena, head: &Head, node: &BlockId) -> Option<BlockId>
 #[inline(always)]
 pub(crate) fn find(
     arena: &Arena,
-    heads: &[Head],
+    heads: &[ListHead],
     orders: &Orders,
     directory: Option<BlockId>,
     name: &[u8],
@@ -200,13 +200,13 @@ pub(crate) fn find(
     requires tree { IsTree (nodes_in arena.now) }
     requires index { IsIndex (nodes_in arena.now) heads.now None }
     requires ordered { IsInOrders (nodes_in arena.now) orders.now None }
-    requires place { (d : ℕ) → directory ≡ Some d → IsNode (nodes_in arena.now) d }
+    requires directory { (d : ℕ) → directory ≡ Some d → IsNode (nodes_in arena.now) d }
     requires short { length name.now ≤ 96 }
     ensures found { IfSome result (λ b. IsEntry (nodes_in arena.now) directory name.now b) }
     ensures none { IfNone result ((b : ℕ) → IsEntry (nodes_in arena.now) directory name.now b → ⊥) }
 {
-    let place = place_of(heads, directory, name);
-    let head = heads[place];
+    let bucket = bucket_of(heads, directory, name);
+    let head = heads[bucket];
     let mut node = head.first;
     for _step in 0..head.listed {
         if is_entry(arena, &node, &directory, name) {

@@ -10,8 +10,8 @@
 //! beside the arena (`cursor`, `cfdp_ways`). A file or a directory is a node, one block with its name (`node_block`,
 //! `nodes`). Nodes are found by their directory and their name (`index`, `lookup`), and each directory has its entries
 //! in order of their names (`orders`), by which what is below a path is walked over in path order (`walk`, `beside`)
-//! and reported (`survey`, `spelling`, `listing`), or one by one (`next`); `found` says and reads it by lent names. The
-//! store puts these together (`tree_store`, `install`).
+//! and reported (`nodes_below`, `spelling`, `listing`), or one by one (`next`); `found` says and reads it by lent
+//! names. The store puts these together (`tree_store`, `install`).
 //!
 //! Nodes, octets of files and octets of staged lists are in the arena. The heads of the index's lists, the orders of
 //! the entries, the slots of the staged lists and the ways of all blocks are in vectors beside it, whose memory
@@ -33,13 +33,13 @@ mod lookup;
 mod next;
 mod node_block;
 mod nodes;
+mod nodes_below;
 mod orders;
 mod payload;
 mod runs;
 mod slots;
 mod spelling;
 mod summing;
-mod survey;
 mod transfer;
 mod tree_store;
 mod walk;

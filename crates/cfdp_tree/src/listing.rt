@@ -6,7 +6,7 @@ ghost use Rattle.cfdp_actions.specs.Filestore.{octets_in};
 ghost use Rattle.cfdp_actions.specs.Store.{listing_entry, kind_of, standing_of};
 ghost use Rattle.cfdp_tree.specs.code.Kept.{node_of};
 ghost use Rattle.cfdp_tree.specs.code.Nodes.{nodes_in};
-ghost use Rattle.cfdp_tree.specs.code.Survey.{shown_node, IsSoundNode};
+ghost use Rattle.cfdp_tree.specs.code.NodesBelow.{shown_node, IsSoundNode};
 
 use crate::node_block::{kind_of, size_of, sum_of};
 use cfdp_actions::{Entry, Kind, Standing};

@@ -6,7 +6,7 @@ ghost use Rattle.cfdp_tree.specs.code.Tree.{IsTree, IsNode, path_of_node};
 ghost use Rattle.cfdp_tree.specs.code.Index.{IsIndex};
 ghost use Rattle.cfdp_tree.specs.code.Orders.{IsInOrders};
 
-use crate::index::{Head, find};
+use crate::index::{ListHead, find};
 use crate::orders::Orders;
 use cfdp_arena::{Arena, BlockId};
 use cfdp_paths::{Names, Path};
@@ -15,7 +15,7 @@ use cfdp_paths::{Names, Path};
 /// compared with each, whatever the names are.
 pub(crate) fn find_names(
     arena: &Arena,
-    heads: &[Head],
+    heads: &[ListHead],
     orders: &Orders,
     names: Names<'_>,
 ) -> Option<BlockId>
@@ -28,18 +28,18 @@ pub(crate) fn find_names(
     ensures none { IfNone result ((b : ℕ) → IsNode (nodes_in arena.now) b →
         path_of_node (nodes_in arena.now) b ≡ names.entry → ⊥) }
 {
-    let mut place = None;
+    let mut directory = None;
     for name in names {
-        let node = find(arena, heads, orders, place, name)?;
-        place = Some(node);
+        let node = find(arena, heads, orders, directory, name)?;
+        directory = Some(node);
     }
-    place
+    directory
 }
 
 /// The node of the path of the first `depth` names; none for no name. In expected time linear in their octets.
 pub(crate) fn lookup(
     arena: &Arena,
-    heads: &[Head],
+    heads: &[ListHead],
     orders: &Orders,
     path: &Path,
     depth: usize,
@@ -59,7 +59,7 @@ pub(crate) fn lookup(
 /// The node of a path. In expected time linear in its octets.
 pub(crate) fn find_path(
     arena: &Arena,
-    heads: &[Head],
+    heads: &[ListHead],
     orders: &Orders,
     path: &Path,
 ) -> Option<BlockId>

@@ -3,7 +3,7 @@ ghost use Rattle.std.specs.Prelude.{◌≡◌, ◌≤◌, ◌++◌, ℕ, Some, N
 ghost use Rattle.cfdp_paths.specs.Paths.{IsName};
 ghost use Rattle.cfdp_tree.specs.code.Nodes.{nodes_in};
 ghost use Rattle.cfdp_tree.specs.code.Tree.{IsTree, IsNode};
-ghost use Rattle.cfdp_tree.specs.code.Places.{path_at};
+ghost use Rattle.cfdp_tree.specs.code.Directories.{path_at};
 ghost use Rattle.cfdp_tree.specs.code.Orders.{IsInOrders};
 ghost use Rattle.cfdp_tree.specs.Next.{IsNextEntry, IsLast};
 ghost use Rattle.cfdp_tree.specs.code.Next.{ComesAfter, IsFirst};
@@ -69,26 +69,27 @@ impl TreeStore {
 fn next_below(
     arena: &Arena,
     orders: &Orders,
-    place: &Option<BlockId>,
+    directory: &Option<BlockId>,
     mut names: Names<'_>,
 ) -> Option<BlockId>
     requires tree { IsTree (nodes_in arena.now) }
     requires ordered { IsInOrders (nodes_in arena.now) orders.now None }
-    requires place { (d : ℕ) → place.now ≡ Some d → IsNode (nodes_in arena.now) d }
+    requires directory { (d : ℕ) → directory.now ≡ Some d → IsNode (nodes_in arena.now) d }
     requires names { All IsName names }
     ensures first { IfSome result (λ b. IsFirst (nodes_in arena.now)
-        (path_at (nodes_in arena.now) place.now) (path_at (nodes_in arena.now) place.now ++ names.entry) b) }
+        (path_at (nodes_in arena.now) directory.now) (path_at (nodes_in arena.now) directory.now ++ names.entry) b) }
     ensures none { IfNone result ((b : ℕ) → ComesAfter (nodes_in arena.now)
-        (path_at (nodes_in arena.now) place.now) (path_at (nodes_in arena.now) place.now ++ names.entry) b → ⊥) }
+        (path_at (nodes_in arena.now) directory.now) (path_at (nodes_in arena.now) directory.now ++ names.entry) b →
+        ⊥) }
 {
     let Some(name) = names.next() else {
-        return orders.least_after(arena, place, None);
+        return orders.least_after(arena, directory, None);
     };
-    if let Some(node) = orders.find(arena, place, name) {
+    if let Some(node) = orders.find(arena, directory, name) {
         let below = next_below(arena, orders, &Some(node), names);
         if below.is_some() {
             return below;
         }
     }
-    orders.least_after(arena, place, Some(name))
+    orders.least_after(arena, directory, Some(name))
 }

@@ -53,7 +53,7 @@ impl Orders {
     pub(crate) fn new(alloc: Global, blocks: u32) -> Result<Orders, Memory>
         ensures links { IfOk result (λ orders. length orders.links.items ≡ blocks) }
         ensures directories { IfOk result (λ orders. length orders.directories.items ≡ blocks) }
-        ensures empty { IfOk result (λ orders. (place : Option ℕ) → (order_at orders place).height ≡ 0) }
+        ensures empty { IfOk result (λ orders. (directory : Option ℕ) → (order_at orders directory).height ≡ 0) }
     {
         let mut links = Vec::new(alloc);
         links.resize(blocks as usize, Links::none())?;
@@ -146,7 +146,7 @@ impl Orders {
     ) -> Option<BlockId>
         requires tree { IsTree (nodes_in arena.now) }
         requires ordered { IsInOrders (nodes_in arena.now) self.now None }
-        requires place { (d : ℕ) → directory.now ≡ Some d → IsNode (nodes_in arena.now) d }
+        requires directory { (d : ℕ) → directory.now ≡ Some d → IsNode (nodes_in arena.now) d }
         requires short { length name.now ≤ 96 }
         ensures found { IfSome result (λ b. IsEntry (nodes_in arena.now) directory.now name.now b) }
         ensures none { IfNone result ((b : ℕ) → IsEntry (nodes_in arena.now) directory.now name.now b → ⊥) }
@@ -174,7 +174,7 @@ impl Orders {
     ) -> Option<BlockId>
         requires tree { IsTree (nodes_in arena.now) }
         requires ordered { IsInOrders (nodes_in arena.now) self.now None }
-        requires place { (d : ℕ) → directory.now ≡ Some d → IsNode (nodes_in arena.now) d }
+        requires directory { (d : ℕ) → directory.now ≡ Some d → IsNode (nodes_in arena.now) d }
         ensures least { IfSome result (λ b. IsLeast (nodes_in arena.now)
             (option_map (λ name. name.now) after.entry) (in_order self.now directory.now) b) }
         ensures none { IfNone result (All (λ c. IsBehind (option_map (λ name. name.now) after.entry)

@@ -70,7 +70,7 @@ impl Run {
         ensures size { length arena.new ≡ length arena.old }
         ensures others { OtherRunsStay arena.old arena.new self.old }
         ensures first { self.new.first ≡ self.old.first }
-        ensures places { (k : ℕ) → k < self.old.count → nth arena.new self.new.first k
+        ensures sequence { (k : ℕ) → k < self.old.count → nth arena.new self.new.first k
             ≡ nth arena.old self.old.first k }
         ensures nodes { nodes_in arena.new ≡ nodes_in arena.old }
         ensures live { StayLive arena.old arena.new }
@@ -95,7 +95,7 @@ impl Run {
         ensures size { length arena.new ≡ length arena.old }
         ensures others { OtherRunsStay arena.old arena.new self.old }
         ensures first { self.new.first ≡ self.old.first }
-        ensures places { (k : ℕ) → k < self.old.count → nth arena.new self.new.first k
+        ensures sequence { (k : ℕ) → k < self.old.count → nth arena.new self.new.first k
             ≡ nth arena.old self.old.first k }
         ensures nodes { nodes_in arena.new ≡ nodes_in arena.old }
         ensures live { StayLive arena.old arena.new }
@@ -132,7 +132,7 @@ impl Run {
         ensures others { OtherRunsStay arena.old arena.new self.new }
         ensures first { 0 < self.old.count → self.new.first ≡ self.old.first }
         ensures fresh { self.old.count ≡ 0 → 0 < count → octets_at arena.old self.new.first ≡ None }
-        ensures places { (k : ℕ) → k < self.old.count → nth arena.new self.new.first k
+        ensures sequence { (k : ℕ) → k < self.old.count → nth arena.new self.new.first k
             ≡ nth arena.old self.old.first k }
         ensures nodes { nodes_in arena.new ≡ nodes_in arena.old }
         ensures live { StayLive arena.old arena.new }

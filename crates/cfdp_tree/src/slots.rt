@@ -8,7 +8,7 @@ ghost use Rattle.cfdp_tree.specs.code.Nodes.{nodes_in};
 ghost use Rattle.cfdp_tree.specs.code.Runs.{Spares};
 ghost use Rattle.cfdp_tree.specs.code.Ways.{HasWays, KeepsWays};
 ghost use Rattle.cfdp_tree.specs.code.Contents.{IsFilled, contents_in};
-ghost use Rattle.cfdp_tree.specs.code.Slots.{no_gap, IsBlank, IsUnwrittenSlot, IsPlaced, IsFreshSlot};
+ghost use Rattle.cfdp_tree.specs.code.Slots.{no_gap, IsBlank, IsUnwrittenSlot, IsSoundSlot, IsFreshSlot};
 
 use crate::contents::Contents;
 use crate::gap::Gap;
@@ -21,7 +21,7 @@ use cfdp_ways::{Cursor, Way};
 #[derive(Clone, Copy)]
 pub(crate) struct Slot {
     pub(crate) contents: Contents,
-    pub(crate) place: Cursor,
+    pub(crate) cursor: Cursor,
     pub(crate) blank_from: usize,
     pub(crate) gap: Gap,
 }
@@ -34,7 +34,7 @@ impl Slot {
         let contents = Contents::empty();
         Slot {
             contents,
-            place: contents.run.start(),
+            cursor: contents.run.start(),
             blank_from: 0,
             gap: Gap::empty(),
         }
@@ -44,13 +44,13 @@ impl Slot {
     /// constant time.
     pub(crate) fn hold(&mut self, contents: Contents)
         ensures contents { self.new.contents ≡ contents }
-        ensures block { self.new.place.block ≡ contents.run.first }
-        ensures index { self.new.place.index ≡ 0 }
+        ensures block { self.new.cursor.block ≡ contents.run.first }
+        ensures index { self.new.cursor.index ≡ 0 }
         ensures blank { self.new.blank_from ≡ contents.size }
         ensures gap { self.new.gap ≡ no_gap }
     {
         self.contents = contents;
-        self.place = contents.run.start();
+        self.cursor = contents.run.start();
         self.blank_from = contents.size as usize;
         self.gap = Gap::empty();
     }
@@ -60,12 +60,12 @@ impl Slot {
     pub(crate) fn extend(&mut self, arena: &mut Arena, ways: &mut [Way], size: u32)
         requires filled { IsFilled arena.old self.old.contents }
         requires ways { HasWays arena.old ways.old self.old.contents.run }
-        requires placed { IsPlaced arena.old self.old }
+        requires sound { IsSoundSlot arena.old self.old }
         requires longer { self.old.contents.size ≤ size }
         requires most { size ≤ 7864320 }
         requires room { blocks_of size ≤ free_count arena.old + blocks_of self.old.contents.size }
         ensures filled { IsFilled arena.new self.new.contents }
-        ensures placed { IsPlaced arena.new self.new }
+        ensures sound { IsSoundSlot arena.new self.new }
         ensures size { self.new.contents.size ≡ size }
         ensures octets { contents_in arena.new self.new.contents
             ≡ extended (contents_in arena.old self.old.contents) size }
@@ -77,10 +77,10 @@ impl Slot {
         ensures ways { HasWays arena.new ways.new self.new.contents.run }
         ensures other_ways { KeepsWays arena.old arena.new ways.old ways.new self.old.contents.run }
     {
-        let within = self.place.index < self.contents.run.count;
+        let within = self.cursor.index < self.contents.run.count;
         self.contents.extend(arena, ways, size);
         if !within {
-            self.place = self.contents.run.start();
+            self.cursor = self.contents.run.start();
         }
     }
 
@@ -90,8 +90,8 @@ impl Slot {
     /// position is that of the first of them.
     fn sum_there(&self, arena: &Arena, at: u32, end: usize) -> u32
         requires filled { IsFilled arena.now self.now.contents }
-        requires placed { IsPlaced arena.now self.now }
-        requires index { self.now.place.index ≡ at / 120 }
+        requires sound { IsSoundSlot arena.now self.now }
+        requires index { self.now.cursor.index ≡ at / 120 }
         requires ordered { at ≤ end }
         requires range { end ≤ self.now.contents.size }
         ensures { result ≡ checksum_at at (slice_range (contents_in arena.now self.now.contents) at end) }
@@ -102,7 +102,7 @@ impl Slot {
         }
         self.contents
             .run
-            .sum_of(arena, self.place, start, end - start, at)
+            .sum_of(arena, self.cursor, start, end - start, at)
     }
 
     /// Overwrites the octets from the offset `at` on. In time linear in the octets. The first block is found from that
@@ -110,12 +110,12 @@ impl Slot {
     pub(crate) fn put(&mut self, arena: &mut Arena, ways: &[Way], at: u32, octets: &[u8])
         requires filled { IsFilled arena.old self.old.contents }
         requires ways { HasWays arena.old ways.now self.old.contents.run }
-        requires placed { IsPlaced arena.old self.old }
+        requires sound { IsSoundSlot arena.old self.old }
         requires range { at + length octets.now ≤ self.old.contents.size }
         ensures run { self.new.contents.run ≡ self.old.contents.run }
         ensures size { self.new.contents.size ≡ self.old.contents.size }
         ensures filled { IsFilled arena.new self.new.contents }
-        ensures placed { IsPlaced arena.new self.new }
+        ensures sound { IsSoundSlot arena.new self.new }
         ensures octets { contents_in arena.new self.new.contents
             ≡ overwritten (contents_in arena.old self.old.contents) at octets.now }
         ensures free { free_count arena.new ≡ free_count arena.old }
@@ -127,9 +127,9 @@ impl Slot {
     {
         let end = at as usize + octets.len();
         let index = at / PAYLOAD_OCTETS as u32;
-        self.place = self.contents.run.find(arena, ways, self.place, index);
+        self.cursor = self.contents.run.find(arena, ways, self.cursor, index);
         let before = self.sum_there(arena, at, end);
-        self.place = self.contents.put(arena, self.place, at, octets, before);
+        self.cursor = self.contents.put(arena, self.cursor, at, octets, before);
         self.gap = self.gap_after(at as usize, end);
         self.blank_from = self.blank_from.max(end);
     }
@@ -156,10 +156,10 @@ impl Slot {
     pub(crate) fn get(&self, arena: &Arena, ways: &[Way], at: u32, buffer: &mut [u8])
         requires filled { IsFilled arena.now self.now.contents }
         requires ways { HasWays arena.now ways.now self.now.contents.run }
-        requires placed { IsPlaced arena.now self.now }
+        requires sound { IsSoundSlot arena.now self.now }
         requires range { at + length buffer.old ≤ self.now.contents.size }
         ensures { buffer.new ≡ slice_range (contents_in arena.now self.now.contents) at (at + length buffer.old) }
     {
-        self.contents.get(arena, ways, self.place, at, buffer);
+        self.contents.get(arena, ways, self.cursor, at, buffer);
     }
 }

@@ -29,7 +29,7 @@ impl Run {
     /// they begin at the offset `offset`. In time linear in the octets.
     fn sum_in(&self, arena: &Arena, cursor: &Cursor, at: usize, len: usize, offset: usize) -> u32
         requires held { IsHeld arena.now self.now }
-        requires place { IsAt arena.now self.now cursor.now }
+        requires cursor { IsAt arena.now self.now cursor.now }
         requires within { cursor.now.index < self.now.count }
         requires fits { at + len ≤ 120 }
         ensures { let start = 120 * cursor.now.index + at in
@@ -54,18 +54,18 @@ impl Run {
         requires range { at + len ≤ 120 * self.now.count }
         ensures { result ≡ checksum_at offset (slice_range (octets_of_run arena.now self.now) at (at + len)) }
     {
-        let mut place = at % PAYLOAD_OCTETS;
+        let mut block_offset = at % PAYLOAD_OCTETS;
         let mut offset = offset as usize;
         let mut left = len;
         let mut cursor = first;
         let mut sum = 0u32;
         'parts: while left > 0 {
-            let count = left.min(PAYLOAD_OCTETS - place);
-            sum = sum.wrapping_add(self.sum_in(arena, &cursor, place, count, offset));
+            let count = left.min(PAYLOAD_OCTETS - block_offset);
+            sum = sum.wrapping_add(self.sum_in(arena, &cursor, block_offset, count, offset));
             cursor = self.after(arena, &cursor);
             offset += count;
             left -= count;
-            place = 0;
+            block_offset = 0;
         }
         sum
     }

@@ -16,13 +16,13 @@ impl Run {
     /// Puts octets into the payload of one block, from offset `at` in it on. In time linear in the octets.
     pub(crate) fn put_in(&self, arena: &mut Arena, cursor: &Cursor, at: usize, part: &[u8])
         requires held { IsHeld arena.old self.now }
-        requires place { IsAt arena.old self.now cursor.now }
+        requires cursor { IsAt arena.old self.now cursor.now }
         requires within { cursor.now.index < self.now.count }
         requires fits { at + length part.now ≤ 120 }
         ensures held { IsHeld arena.new self.now }
         ensures octets { octets_of_run arena.new self.now
             ≡ overwritten (octets_of_run arena.old self.now) (120 * cursor.now.index + at) part.now }
-        ensures places { (k : ℕ) → k ≤ self.now.count → nth arena.new self.now.first k
+        ensures sequence { (k : ℕ) → k ≤ self.now.count → nth arena.new self.now.first k
             ≡ nth arena.old self.now.first k }
         ensures free { free_count arena.new ≡ free_count arena.old }
         ensures size { length arena.new ≡ length arena.old }
@@ -36,7 +36,7 @@ impl Run {
     /// octets.
     pub(crate) fn get_in(&self, arena: &Arena, cursor: &Cursor, at: usize, buffer: &mut [u8])
         requires held { IsHeld arena.now self.now }
-        requires place { IsAt arena.now self.now cursor.now }
+        requires cursor { IsAt arena.now self.now cursor.now }
         requires within { cursor.now.index < self.now.count }
         requires fits { at + length buffer.old ≤ 120 }
         ensures { buffer.new
@@ -57,25 +57,25 @@ impl Run {
         ensures held { IsHeld arena.new self.now }
         ensures octets { octets_of_run arena.new self.now ≡ overwritten
             (octets_of_run arena.old self.now) at octets.now }
-        ensures place { IsAt arena.new self.now result }
-        ensures places { (k : ℕ) → k ≤ self.now.count → nth arena.new self.now.first k
+        ensures cursor { IsAt arena.new self.now result }
+        ensures sequence { (k : ℕ) → k ≤ self.now.count → nth arena.new self.now.first k
             ≡ nth arena.old self.now.first k }
         ensures free { free_count arena.new ≡ free_count arena.old }
         ensures size { length arena.new ≡ length arena.old }
         ensures others { OtherRunsStay arena.old arena.new self.now }
         ensures nodes { nodes_in arena.new ≡ nodes_in arena.old }
     {
-        let mut place = at % PAYLOAD_OCTETS;
+        let mut block_offset = at % PAYLOAD_OCTETS;
         let mut rest = octets;
         let mut cursor = first;
         let mut last = first;
         'parts: while !rest.is_empty() {
-            let (part, more) = rest.split_at(rest.len().min(PAYLOAD_OCTETS - place));
-            self.put_in(arena, &cursor, place, part);
+            let (part, more) = rest.split_at(rest.len().min(PAYLOAD_OCTETS - block_offset));
+            self.put_in(arena, &cursor, block_offset, part);
             last = cursor;
             cursor = self.after(arena, &cursor);
             rest = more;
-            place = 0;
+            block_offset = 0;
         }
         last
     }
@@ -95,19 +95,19 @@ impl Run {
         requires from { IsAt arena.now self.now from }
         requires range { at + length buffer.old ≤ 120 * self.now.count }
         ensures octets { buffer.new ≡ slice_range (octets_of_run arena.now self.now) at (at + length buffer.old) }
-        ensures place { IsAt arena.now self.now result }
+        ensures cursor { IsAt arena.now self.now result }
     {
-        let mut place = at % PAYLOAD_OCTETS;
+        let mut block_offset = at % PAYLOAD_OCTETS;
         let mut filled = 0;
         let mut cursor = self.find(arena, ways, from, (at / PAYLOAD_OCTETS) as u32);
         let mut last = cursor;
         'parts: while filled < buffer.len() {
-            let stop = buffer.len().min(filled + (PAYLOAD_OCTETS - place));
-            self.get_in(arena, &cursor, place, &mut buffer[filled..stop]);
+            let stop = buffer.len().min(filled + (PAYLOAD_OCTETS - block_offset));
+            self.get_in(arena, &cursor, block_offset, &mut buffer[filled..stop]);
             last = cursor;
             cursor = self.after(arena, &cursor);
             filled = stop;
-            place = 0;
+            block_offset = 0;
         }
         last
     }

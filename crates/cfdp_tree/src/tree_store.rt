@@ -9,14 +9,14 @@ use crate::beside::{Others, Search, any_beside, deepest_beside};
 use crate::contents::{Contents, contents_of, held_by};
 use crate::files::{find_file, set_contents};
 use crate::index;
-use crate::index::{Head, insert};
+use crate::index::{ListHead, insert};
 use crate::listing::{entries, only_standing, standings};
 use crate::lookup::{find_path, lookup};
 use crate::node_block::{home_of, kind_of, size_of, sum_of};
 use crate::nodes::{create_node, delete_node, rename_node};
+use crate::nodes_below::nodes_below;
 use crate::orders::Orders;
 use crate::slots::Slot;
-use crate::survey::survey;
 use crate::walk::deepest_in;
 use cfdp_actions::{Entry, Filestore, Kind, Standing};
 use cfdp_arena::Arena;
@@ -59,7 +59,7 @@ use std::marker::Model;
 pub struct TreeStore {
     pub(crate) arena: Arena,
     pub(crate) ways: Vec<Way>,
-    pub(crate) heads: Vec<Head>,
+    pub(crate) heads: Vec<ListHead>,
     pub(crate) orders: Orders,
     pub(crate) slots: Vec<Slot>,
 }
@@ -100,7 +100,7 @@ impl TreeStore {
         let mut ways = Vec::new(alloc);
         ways.resize(blocks as usize, Way::none())?;
         let mut heads = Vec::new(alloc);
-        heads.resize(blocks as usize, Head::empty())?;
+        heads.resize(blocks as usize, ListHead::empty())?;
         let mut slots = Vec::with_capacity(alloc, SLOTS)?;
         for _slot in 0..SLOTS {
             slots.push(Slot::empty())?;
@@ -245,7 +245,7 @@ impl Filestore for TreeStore {
     }
 
     fn listing(&self, alloc: Global) -> Result<Vec<Entry>, Memory> {
-        let found = survey(alloc, &self.arena, &self.orders, &None, 0)?;
+        let found = nodes_below(alloc, &self.arena, &self.orders, &None, 0)?;
         entries(alloc, &self.arena, found)
     }
 
@@ -253,11 +253,11 @@ impl Filestore for TreeStore {
         let Some(node) = find_path(&self.arena, &self.heads, &self.orders, path) else {
             return Ok(Vec::new(alloc));
         };
-        let place = &Some(node);
-        if self.orders.of(place).is_empty() {
+        let directory = &Some(node);
+        if self.orders.of(directory).is_empty() {
             return only_standing(alloc, &self.arena, path, &node);
         }
-        let found = survey(alloc, &self.arena, &self.orders, place, path.depth())?;
+        let found = nodes_below(alloc, &self.arena, &self.orders, directory, path.depth())?;
         standings(alloc, &self.arena, found)
     }
 

@@ -2,12 +2,12 @@
 --   kind_words    a kind;  Damaged: the octets are no PDU
 --   name_words    the name of a field in CCSDS 727.0-B-5 §5
 use Rattle.std.specs.Prelude.{ℕ, List, codes}
-use Rattle.cfdp_words.specs.declared.names.Kind.{Kind}
-use Rattle.cfdp_words.specs.declared.names.Kind.TheVariants as kinds
+use Rattle.cfdp_words.specs.declared.names.PduKind.{PduKind}
+use Rattle.cfdp_words.specs.declared.names.PduKind.TheVariants as kinds
 use Rattle.cfdp_words.specs.declared.names.Name.{Name}
 use Rattle.cfdp_words.specs.declared.names.Name.TheVariants as names
 
-unfoldable pub kind_words : Kind → List ℕ
+unfoldable pub kind_words : PduKind → List ℕ
 kind_words kinds.Metadata = codes "Metadata"
 kind_words kinds.FileData = codes "File Data"
 kind_words kinds.Eof = codes "EOF"

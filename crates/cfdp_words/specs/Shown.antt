@@ -29,8 +29,8 @@ use Rattle.cfdp_crc.specs.declared.sealing.CrcFault.{CrcFault}
 use Rattle.cfdp_crc.specs.declared.sealing.CrcFault.TheVariants as crc
 use Rattle.cfdp_words.specs.Codes.{action_words, checksum_words, condition_words, directive_words, file_status_words, status_words, transaction_words}
 use Rattle.cfdp_words.specs.Names.{kind_words}
-use Rattle.cfdp_words.specs.declared.names.Kind.{Kind}
-use Rattle.cfdp_words.specs.declared.names.Kind.TheVariants as kinds
+use Rattle.cfdp_words.specs.declared.names.PduKind.{PduKind}
+use Rattle.cfdp_words.specs.declared.names.PduKind.TheVariants as kinds
 use Rattle.cfdp_words.specs.declared.names.Name.{Name}
 use Rattle.cfdp_words.specs.declared.names.Name.TheVariants as names
 use Rattle.cfdp_words.specs.Style.{code_field, digits_field, flag_field, label, name_field, number_field, plain_field}
@@ -39,7 +39,7 @@ use Rattle.cfdp_words.specs.declared.style.Style.TheVariants.{Text, Json}
 
 -- ---- the beginning and the end
 
-abbrev pub opening : Style → Kind → ℕ → List ℕ
+abbrev pub opening : Style → PduKind → ℕ → List ℕ
 opening Text kind len = kind_words kind ++ codes " PDU, " ++ decimal len ++ codes " octets\n"
 opening Json kind len = codes "{\"kind\":\"" ++ kind_words kind ++ codes "\",\"octets\":" ++ decimal len
 
@@ -192,7 +192,7 @@ nak_fields style nak =
 -- ---- whole PDUs
 
 -- len: how many octets came;  crc: they had a CRC
-abbrev pub pdu_text : Style → ℕ → Bool → Kind → Header → List ℕ → List ℕ
+abbrev pub pdu_text : Style → ℕ → Bool → PduKind → Header → List ℕ → List ℕ
 pdu_text style len crc kind h fields = opening style kind len ++ header_fields style crc h ++ fields
     ++ closing_text style
 

@@ -9,9 +9,9 @@ mod codes;
 mod fields;
 mod lists;
 mod names;
-mod said;
+mod pdu_text;
 mod style;
 
 pub use codes::condition_words;
-pub use said::show;
+pub use pdu_text::show;
 pub use style::Style;

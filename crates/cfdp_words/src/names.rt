@@ -5,7 +5,7 @@ ghost use Rattle.cfdp_words.specs.Names.{kind_words, name_words};
 
 /// The kinds of PDU.
 #[derive(Clone, Copy, Debug, PartialEq, Eq)]
-pub(crate) enum Kind {
+pub(crate) enum PduKind {
     Metadata,
     FileData,
     Eof,
@@ -63,22 +63,22 @@ pub(crate) enum Name {
     Fault,
 }
 
-impl Kind {
+impl PduKind {
     /// The kind in words. `Damaged`: the octets are no PDU.
     #[tactic(auto, unfolding(crate::specs::Names::kind_words))]
     pub(crate) fn words(self) -> &'static [u8]
         ensures { result.now ≡ kind_words self }
     {
         match self {
-            Kind::Metadata => b"Metadata",
-            Kind::FileData => b"File Data",
-            Kind::Eof => b"EOF",
-            Kind::Finished => b"Finished",
-            Kind::Ack => b"ACK",
-            Kind::Nak => b"NAK",
-            Kind::Prompt => b"Prompt",
-            Kind::KeepAlive => b"Keep Alive",
-            Kind::Damaged => b"Damaged",
+            PduKind::Metadata => b"Metadata",
+            PduKind::FileData => b"File Data",
+            PduKind::Eof => b"EOF",
+            PduKind::Finished => b"Finished",
+            PduKind::Ack => b"ACK",
+            PduKind::Nak => b"NAK",
+            PduKind::Prompt => b"Prompt",
+            PduKind::KeepAlive => b"Keep Alive",
+            PduKind::Damaged => b"Damaged",
         }
     }
 }

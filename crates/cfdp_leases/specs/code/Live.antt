@@ -9,7 +9,7 @@
 use Rattle.std.specs.Prelude.{◌≢◌, ◌==◌, ℕ, IsSome, IsTrue, List, [], ◌∷◌, map, unwrap_or}
 use Rattle.std.specs.List.{AllByRecursion, list_any}
 use Rattle.slab.specs.Slab.{Slab, get}
-use Rattle.cfdp_leases.specs.declared.leases.Live.{Live}
+use Rattle.cfdp_leases.specs.declared.leases.LiveGrant.{LiveGrant}
 use Rattle.cfdp_leases.specs.declared.leased_paths.LeasedPaths.{LeasedPaths}
 use Rattle.cfdp_leases.specs.Footprint.{Footprint}
 use Rattle.cfdp_leases.specs.code.Footprint.{of_lists, HasAncestors}
@@ -19,20 +19,20 @@ use Rattle.cfdp_leases.specs.code.Holders.{Holds, holders_at}
 abbrev pub footprint_at : Slab Footprint → ℕ → Footprint
 footprint_at footprints key = unwrap_or (get footprints key) (of_lists [] [])
 
-abbrev pub grants_of : Slab Footprint → List Live → Grants
+abbrev pub grants_of : Slab Footprint → List LiveGrant → Grants
 grants_of footprints live = map (λ l. (l.transaction, footprint_at footprints l.key)) live
 
 -- each has a footprint, under a key of its own
-abbrev pub HaveFootprints : Slab Footprint → List Live → Type 0
+abbrev pub HaveFootprints : Slab Footprint → List LiveGrant → Type 0
 HaveFootprints footprints [] = Unit {0}
 HaveFootprints footprints (l ∷ live) = IsSome (get footprints l.key) × AllByRecursion (λ m. m.key ≢ l.key) live
     × HaveFootprints footprints live
 
 -- each key of the slab is a live transaction's
-abbrev pub HasNoOthers : Slab Footprint → List Live → Type 0
+abbrev pub HasNoOthers : Slab Footprint → List LiveGrant → Type 0
 HasNoOthers footprints live = (key : ℕ) → IsSome (get footprints key) → IsTrue (list_any (λ l. l.key == key) live)
 
-pub record AreKept (footprints : Slab Footprint) (live : List Live) (paths : LeasedPaths) : Type 0 where
+pub record AreKept (footprints : Slab Footprint) (live : List LiveGrant) (paths : LeasedPaths) : Type 0 where
   pub kept : HaveFootprints footprints live
   pub no_others : HasNoOthers footprints live
   pub rooted : AllByRecursion (λ g. HasAncestors g.1) (grants_of footprints live)

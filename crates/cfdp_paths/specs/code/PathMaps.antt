@@ -1,7 +1,7 @@
 -- What only the proofs of the code need of `PathMaps`.
 --     rank p es             how many entries are before p
 --     spread p es           how many entries at the front are at or below p
---     IsPlaceOf p es place   the entry of p is at the index
+--     IsIndexOf p es index   the entry of p is at the index
 --     IsPieceOf p es start end    what is at and below p goes from start up to end
 --     with_paths paths es   the entries at other paths
 use Rattle.std.specs.Prelude.{◌≡◌, ℕ, ◌+◌, ◌<◌, ◌≤◌, drop, slice_index_or, List, [], ◌∷◌, length}
@@ -16,10 +16,10 @@ abbrev pub spread : {X : Type 0} → Path → List (Path × X) → ℕ
 spread p es = prefix_len (λ e. is_at_or_below e.0 p) es
 
 -- the index of the entry of p
-pub record IsPlaceOf {X : Type 0} (p : Path) (es : List (Path × X)) (place : ℕ) : Type 0 where
-  pub first : place ≡ rank p es
-  pub within : place < length es
-  pub path : (d : Path × X) → (slice_index_or es place d).0 ≡ p
+pub record IsIndexOf {X : Type 0} (p : Path) (es : List (Path × X)) (index : ℕ) : Type 0 where
+  pub first : index ≡ rank p es
+  pub within : index < length es
+  pub path : (d : Path × X) → (slice_index_or es index d).0 ≡ p
 
 -- what is at and below p
 pub record IsPieceOf {X : Type 0} (p : Path) (es : List (Path × X)) (start end : ℕ) : Type 0 where

@@ -8,11 +8,11 @@ const MOST: usize = 33;
 /// Octets that rise, of which the one at the index, if it is there, is another one.
 fn with_other(index: usize, other: u8) -> [u8; MOST] {
     let mut octets = [0; MOST];
-    for (place, octet) in octets.iter_mut().enumerate() {
-        *octet = if place == index {
+    for (offset, octet) in octets.iter_mut().enumerate() {
+        *octet = if offset == index {
             other
         } else {
-            100 + place as u8
+            100 + offset as u8
         };
     }
     octets

@@ -10,8 +10,8 @@ const MOST: usize = 40;
 /// Octets with a separator at one index and at another.
 fn with_separators(first: usize, second: usize) -> [u8; MOST] {
     let mut octets = [b'x'; MOST];
-    for (place, octet) in octets.iter_mut().enumerate() {
-        if place == first || place == second {
+    for (offset, octet) in octets.iter_mut().enumerate() {
+        if offset == first || offset == second {
             *octet = SEPARATOR;
         }
     }

@@ -10,14 +10,14 @@ use Rattle.cfdp_transactions.specs.declared.finished_in_buffer.ShortBuffer.{Shor
 use Rattle.cfdp_transactions.specs.declared.finished_in_buffer.TakenFinished.{TakenFinished}
 use Rattle.cfdp_transactions.specs.declared.outcome.Outcome.{Outcome}
 use Rattle.cfdp_transactions.specs.Ending.{taken_out}
-use Rattle.cfdp_transactions.specs.Engine.{outcome_in}
+use Rattle.cfdp_transactions.specs.CoreFields.{outcome_in}
 use Rattle.cfdp_transactions.specs.Entry.{Entry, is_live}
 use Rattle.cfdp_transactions.specs.Events.{Reply, Take}
 use Rattle.cfdp_transactions.specs.FinishedInBuffer.{sent, taken_by}
 use Rattle.cfdp_transactions.specs.code.FinishedInBuffer.{FallsShort, Issues}
 use Rattle.cfdp_transactions.specs.Next.{next}
 use Rattle.cfdp_transactions.specs.Outcome.{outcome_of}
-use Rattle.cfdp_transactions.specs.code.TableEntries.{kept_place}
+use Rattle.cfdp_transactions.specs.code.TableEntries.{kept_index}
 use Rattle.cfdp_transactions.specs.Sound.{Sound}
 use Rattle.cfdp_transactions.specs.World.{World, index_of}
 use Rattle.cfdp_transactions.specs.Writable.{IsWritable, finished_octets}
@@ -91,27 +91,27 @@ err_at : (W V : World) (k : ℕ) (e : Entry) (answer : World × Reply) (out writ
 err_at W V k e answer out written (Ok told) at is short = tt
 err_at W V k e answer out written (Err why) at is short = subst (λ (a : World × Reply). FallsShort a W V out written why) (sym is) (short e at)
 
-module _ (s : Store) (b : Books) (id : TransactionId) (place : ℕ) (is : place ≡ kept_place id b.table) where
+module _ (s : Store) (b : Books) (id : TransactionId) (index : ℕ) (is : index ≡ kept_index id b.table) where
   abbrev W : World
   W = world_of s b
 
-  index : index_of W id ≡ place
-  index = index_is s b id ∙ sym is
+  is_index : index_of W id ≡ index
+  is_index = index_is s b id ∙ sym is
 
-  pub told_so : place < length b.table → (V : World) (out written : List ℕ) (result : Result (Option TakenFinished) ShortBuffer) →
-      IfOk result (λ told. (f : Entry) → slice_get W.table place ≡ Some f → Issues (taken_out W place (Some f)) V out written told) →
-      IfErr result (λ short. (f : Entry) → slice_get W.table place ≡ Some f → FallsShort (taken_out W place (Some f)) W V out written short) →
+  pub told_so : index < length b.table → (V : World) (out written : List ℕ) (result : Result (Option TakenFinished) ShortBuffer) →
+      IfOk result (λ told. (f : Entry) → slice_get W.table index ≡ Some f → Issues (taken_out W index (Some f)) V out written told) →
+      IfErr result (λ short. (f : Entry) → slice_get W.table index ≡ Some f → FallsShort (taken_out W index (Some f)) W V out written short) →
       Told (next W (Take id)) W V out written result
   told_so within V out written result issues short =
-      let here = found_entry s b id place is within in
-      let at : slice_get W.table place ≡ Some here.0 = ap (λ (k : ℕ). slice_get W.table k) (sym index) ∙ here.1 in
-      let answer : next W (Take id) ≡ taken_out W place (Some here.0) = rw (index, at) refl in
-      told_of (next W (Take id)) W V out written result (ok_at W V place here.0 (next W (Take id)) out written result at answer issues)
-      (err_at W V place here.0 (next W (Take id)) out written result at answer short)
+      let here = found_entry s b id index is within in
+      let at : slice_get W.table index ≡ Some here.0 = ap (λ (k : ℕ). slice_get W.table k) (sym is_index) ∙ here.1 in
+      let answer : next W (Take id) ≡ taken_out W index (Some here.0) = rw (is_index, at) refl in
+      told_of (next W (Take id)) W V out written result (ok_at W V index here.0 (next W (Take id)) out written result at answer issues)
+      (err_at W V index here.0 (next W (Take id)) out written result at answer short)
 
   over_by : (live : Bool) (o : Outcome) → IfSome (if live then None else Some o) IsWritable → IsFalse live → IsWritable o
   over_by true o fits over = absurd cc
   over_by false o fits over = fits
 
-  pub writable_at : IfSome (outcome_in W id) IsWritable → (e : Entry) → slice_get W.table place ≡ Some e → IsFalse (is_live e.phase) → IsWritable (outcome_of e)
-  writable_at fits e at over = over_by (is_live e.phase) (outcome_of e) (rw (index, at) at fits) over
+  pub writable_at : IfSome (outcome_in W id) IsWritable → (e : Entry) → slice_get W.table index ≡ Some e → IsFalse (is_live e.phase) → IsWritable (outcome_of e)
+  writable_at fits e at over = over_by (is_live e.phase) (outcome_of e) (rw (is_index, at) at fits) over

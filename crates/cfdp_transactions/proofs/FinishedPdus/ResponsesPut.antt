@@ -18,15 +18,15 @@ use Rattle.cfdp_pdus.proofs.OutcomeSteps.{and_true}
 
 -- the responses to the requests from an index on
 abbrev pub responses_from : List RequestFields → ℕ → ℕ → List ResponseFields
-responses_from requests performed place = responses_of (drop place requests) (statuses_of (performed - place) (drop place requests))
+responses_from requests performed index = responses_of (drop index requests) (statuses_of (performed - index) (drop index requests))
 
-pub next_is : (requests : List RequestFields) (performed place : ℕ) (r : RequestFields) → place < length requests → r ≡ get_or requests place r →
-    responses_from requests performed place ≡ answered r (status_at (performed - place) r) ∷ responses_from requests performed (place + 1)
-next_is requests performed place r there is =
-    let rest = drop (suc place) requests in
-    let here : drop place requests ≡ r ∷ rest = drop-cons requests place r there ∙ ap (λ (q : RequestFields). q ∷ rest) (sym is) in
-    let less : performed - place - 1 ≡ performed - (place + 1) = omega arith in
-    ap (λ (rs : List RequestFields). responses_of rs (statuses_of (performed - place) rs)) here ∙ one_response (performed - place) r rest
+pub next_is : (requests : List RequestFields) (performed index : ℕ) (r : RequestFields) → index < length requests → r ≡ get_or requests index r →
+    responses_from requests performed index ≡ answered r (status_at (performed - index) r) ∷ responses_from requests performed (index + 1)
+next_is requests performed index r there is =
+    let rest = drop (suc index) requests in
+    let here : drop index requests ≡ r ∷ rest = drop-cons requests index r there ∙ ap (λ (q : RequestFields). q ∷ rest) (sym is) in
+    let less : performed - index - 1 ≡ performed - (index + 1) = omega arith in
+    ap (λ (rs : List RequestFields). responses_of rs (statuses_of (performed - index) rs)) here ∙ one_response (performed - index) r rest
     ∙ rw (less, add-one) refl
 
 -- where those left follow those written, they still do after one more

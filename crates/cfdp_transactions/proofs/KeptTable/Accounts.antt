@@ -12,7 +12,7 @@ use Rattle.cfdp_transactions.specs.Entry.{is_live, Entry, name_of, footprint, re
 use Rattle.cfdp_transactions.specs.World.{World, free, leases_of, change_at}
 use Rattle.cfdp_transactions.specs.Sound.{Each, EachTwo, IsVacant, Sound}
 use Rattle.cfdp_transactions.specs.code.Books.{FitsBudget}
-use Rattle.cfdp_transactions.proofs.Places.{set_each, get_set_other, get_set_same, get_same}
+use Rattle.cfdp_transactions.proofs.Indexes.{set_each, get_set_other, get_set_same, get_same}
 use Rattle.cfdp_transactions.proofs.Soundness.OwnChange.{reserves-set}
 use Rattle.cfdp_transactions.proofs.Finding.{is_same-same}
 use Rattle.cfdp_transactions.proofs.Lookups.{differs}

@@ -8,24 +8,25 @@ use Rattle.cfdp_transactions.specs.Events.{Reply}
 use Rattle.cfdp_transactions.specs.World.{World}
 use Rattle.cfdp_transactions.specs.Ending.{ends, cancelled}
 use Rattle.cfdp_transactions.specs.Delivery.{is_right_checksum, whole, checked}
-use Rattle.cfdp_transactions.specs.code.TableEntries.{TableEntry, entry_in}
+use Rattle.cfdp_transactions.specs.code.TableEntries.{TableEntryFields, entry_in}
 use Rattle.cfdp_transactions.specs.Books.{IsAnswered}
 use Rattle.cfdp_transactions.specs.code.Books.{EndsAt, TurnsAt, IsLiveAt, Carries, world_of}
 use Rattle.cfdp_actions.specs.Actions.{Answer}
 use Rattle.cfdp_transactions.specs.Execution.{replied}
 use Rattle.cfdp_transactions.specs.declared.books.Books.{Books}
-use Rattle.cfdp_transactions.proofs.Places.{get_same}
+use Rattle.cfdp_transactions.proofs.Indexes.{get_same}
 use Rattle.cfdp_transactions.proofs.KeptTable.WorldOfTable.{row_at}
 use Rattle.cfdp_paths.proofs.Scanning.{or_false}
 
-pub live_at : (s : Store) (b : Books) (k : ℕ) (r : TableEntry) → slice_get b.table k ≡ Some r → IsTrue (is_live r.phase) → IsLiveAt (world_of s b) k
+pub live_at : (s : Store) (b : Books) (k : ℕ) (r : TableEntryFields) → slice_get b.table k ≡ Some r → IsTrue (is_live r.phase) → IsLiveAt (world_of s b) k
 live_at s b k r at live = (entry_in s.filestore r, row_at s.filestore b.table k r at, live)
 
-pub entry_is : (s : Store) (b : Books) (k : ℕ) (r : TableEntry) → slice_get b.table k ≡ Some r → (e : Entry) → slice_get (world_of s b).table k ≡ Some e → e
+pub entry_is : (s : Store) (b : Books) (k : ℕ) (r : TableEntryFields) → slice_get b.table k ≡ Some r → (e : Entry) → slice_get (world_of s b).table k ≡ Some e →
+    e
     ≡ entry_in s.filestore r
 entry_is s b k r at e there = get_same (world_of s b).table k k e (entry_in s.filestore r) there (row_at s.filestore b.table k r at) refl
 
-pub phase_is : (s : Store) (b : Books) (k : ℕ) (r : TableEntry) → slice_get b.table k ≡ Some r → (e : Entry) → slice_get (world_of s b).table k ≡ Some e →
+pub phase_is : (s : Store) (b : Books) (k : ℕ) (r : TableEntryFields) → slice_get b.table k ≡ Some r → (e : Entry) → slice_get (world_of s b).table k ≡ Some e →
     (phase : Phase) → r.phase ≡ phase → e.phase ≡ phase
 phase_is s b k r at e there phase is = rw (entry_is s b k r at e there) is
 

@@ -10,7 +10,7 @@ use Rattle.cfdp_pdus.specs.declared.eof.Eof.{Eof}
 use Rattle.cfdp_transactions.specs.Received.{Received, kept_with, pieces, is_whole}
 use Rattle.cfdp_transactions.specs.Pieces.{received_in, with_range}
 use Rattle.cfdp_transactions.specs.Entry.{Awaiting, is_live, takes_data, Entry}
-use Rattle.cfdp_transactions.specs.code.TableEntries.{TableEntry, entry_in, table_of}
+use Rattle.cfdp_transactions.specs.code.TableEntries.{TableEntryFields, entry_in, table_of}
 use Rattle.cfdp_transactions.specs.declared.books.Books.{Books}
 use Rattle.cfdp_transactions.specs.Events.{Reply}
 use Rattle.cfdp_transactions.specs.World.{World}
@@ -18,7 +18,7 @@ use Rattle.cfdp_transactions.specs.Delivery.{storing, stores, limit, whole, stor
 use Rattle.cfdp_transactions.specs.Books.{IsAnswered}
 use Rattle.cfdp_transactions.specs.code.Books.{EndsAt, StoresAt, Carries, IsBooked, world_of}
 use Rattle.cfdp_transactions.proofs.KeptTable.Answering.{carry, plain_end}
-use Rattle.cfdp_transactions.proofs.Places.{get_set_same}
+use Rattle.cfdp_transactions.proofs.Indexes.{get_set_same}
 use Rattle.cfdp_transactions.proofs.Received.RangesAdded.{pieces_kept}
 use Rattle.cfdp_transactions.proofs.KeptTable.WorldOfTable.{row_at}
 
@@ -32,7 +32,7 @@ pub last_whole : (W : World) (k : ℕ) (e : Entry) (checks : ℕ) (eof : Eof) �
     stored e.phase W k e ≡ whole W k e eof.checksum
 last_whole W k e checks eof waits came all = rw (waits, came, all) refl
 
-pub stored_length : (s t : Store) (b d : Books) (k : ℕ) (r : TableEntry) (piece : FileDataFields) → slice_get b.table k ≡ Some r →
+pub stored_length : (s t : Store) (b d : Books) (k : ℕ) (r : TableEntryFields) (piece : FileDataFields) → slice_get b.table k ≡ Some r →
     StoresAt (world_of s b) (world_of t d) k piece → length d.table ≡ length b.table
 stored_length s t b d k r piece at stores_is =
     let e = entry_in s.filestore r in
@@ -43,7 +43,7 @@ stored_length s t b d k r piece at stores_is =
 
 -- how many pieces there would be ------------------------------------------------------------
 
-module _ (s : Store) (b : Books) (booked : IsBooked s b) (k : ℕ) (r : TableEntry) (at : slice_get b.table k ≡ Some r) (live : IsTrue (is_live r.phase))
+module _ (s : Store) (b : Books) (booked : IsBooked s b) (k : ℕ) (r : TableEntryFields) (at : slice_get b.table k ≡ Some r) (live : IsTrue (is_live r.phase))
     (piece : FileDataFields) (some : 0 < length piece.octets) where
   abbrev count : ℕ
   count = length (with_range piece.offset (piece.offset + length piece.octets) r.ranges)

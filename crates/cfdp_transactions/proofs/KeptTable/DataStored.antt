@@ -15,7 +15,7 @@ use Rattle.cfdp_transactions.specs.Delivery.{storing, stores}
 use Rattle.cfdp_transactions.specs.code.LowerLaws.{LowerLaws}
 use Rattle.cfdp_transactions.specs.Needs.{HasRoomFor}
 use Rattle.cfdp_transactions.specs.Sound.{Sound}
-use Rattle.cfdp_transactions.specs.code.TableEntries.{TableEntry, entry_in, received_by, entry_stored}
+use Rattle.cfdp_transactions.specs.code.TableEntries.{TableEntryFields, entry_in, received_by, entry_stored}
 use Rattle.cfdp_transactions.specs.code.TableChanges.{CanStore}
 use Rattle.cfdp_transactions.specs.code.Books.{IsBooked, IsTakenAt, StoresAt, TakesPiece, ArePiecesIn, world_of}
 use Rattle.cfdp_transactions.specs.declared.books.Books.{Books}
@@ -32,7 +32,7 @@ use Rattle.cfdp_transactions.proofs.SlotChanges.{blocks-staged}
 use Rattle.cfdp_transactions.proofs.Soundness.Turning.{length-staged_of, reserve_live}
 use Rattle.cfdp_transactions.proofs.Received.Writing.{kept_length}
 
-module _ (s : Store) (b : Books) (sound : Sound (world_of s b)) (booked : IsBooked s b) (k : ℕ) (r : TableEntry) (at : slice_get b.table k ≡ Some r)
+module _ (s : Store) (b : Books) (sound : Sound (world_of s b)) (booked : IsBooked s b) (k : ℕ) (r : TableEntryFields) (at : slice_get b.table k ≡ Some r)
     (piece : FileDataFields) (takes : IsTakenAt (world_of s b) k piece) where
   abbrev F : Filestore
   F = s.filestore
@@ -120,7 +120,7 @@ module _ (s : Store) (b : Books) (sound : Sound (world_of s b)) (booked : IsBook
     abbrev G : Filestore
     G = after F changes
 
-    abbrev now : TableEntry
+    abbrev now : TableEntryFields
     now = entry_stored r piece.offset end taken
 
     abbrev V : World

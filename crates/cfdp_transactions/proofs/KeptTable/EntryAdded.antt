@@ -12,18 +12,18 @@ use Rattle.cfdp_quota.specs.Budget.{entry_at}
 use Rattle.cfdp_transactions.specs.Entry.{Phase, is_live, Entry, reserve}
 use Rattle.cfdp_transactions.specs.World.{World, reserves, leases_of}
 use Rattle.cfdp_transactions.specs.Admission.{refused_entry, with_new}
-use Rattle.cfdp_transactions.specs.code.TableEntries.{TableEntry, entry_in, fresh_entry}
+use Rattle.cfdp_transactions.specs.code.TableEntries.{TableEntryFields, entry_in, fresh_entry}
 use Rattle.cfdp_transactions.specs.code.Books.{FitsBudget, ArePiecesIn, IsBooked, world_of}
 use Rattle.cfdp_transactions.specs.declared.books.Books.{Books}
 use Rattle.cfdp_transactions.proofs.KeptTable.Accounts.{leases_added}
 use Rattle.cfdp_transactions.proofs.Soundness.OwnChange.{reserves_total}
-use Rattle.cfdp_transactions.proofs.Places.{append_cases, append_each, get_append, total-append}
+use Rattle.cfdp_transactions.proofs.Indexes.{append_cases, append_each, get_append, total-append}
 use Rattle.cfdp_transactions.proofs.KeptTable.WorldOfTable.{append_in}
 
 pub reserves_added : (t : List Entry) (new : Entry) → reserves (t ++ new ∷ []) ≡ reserves t + reserve new
 reserves_added t new = omega (arith, reserves_total t, reserves_total (t ++ new ∷ []), total-append reserve t new)
 
-pub world_added : (s : Store) (b : Books) (r : TableEntry) → world_of s (record b { table = b.table ++ r ∷ [] }) ≡ with_new (world_of s b)
+pub world_added : (s : Store) (b : Books) (r : TableEntryFields) → world_of s (record b { table = b.table ++ r ∷ [] }) ≡ with_new (world_of s b)
     (entry_in s.filestore r)
 world_added s b r = ap (λ (t : List Entry). record (world_of s b) { table = t }) (append_in s.filestore b.table r)
 
@@ -56,7 +56,7 @@ module _ (s : Store) (b : Books) (booked : IsBooked s b) (h : Header) (m : Metad
     closed = λ slot vacant. booked.budget.closed slot (λ j d there. vacant j d (get_append W.table new j d there));
   }
 
-  final_pieces : (k : ℕ) (r : TableEntry) → slice_get (b.table ++ fresh_entry h m phase 0 [] 0 0 ∷ []) k ≡ Some r → ArePiecesIn s.filestore r
+  final_pieces : (k : ℕ) (r : TableEntryFields) → slice_get (b.table ++ fresh_entry h m phase 0 [] 0 0 ∷ []) k ≡ Some r → ArePiecesIn s.filestore r
   final_pieces k r at = elim (append_cases b.table (fresh_entry h m phase 0 [] 0 0) k r at) [
     | inl last ↦ λ live. absurd (never (rw last.1 at live))
     | inr before ↦ booked.pieces k r before.1

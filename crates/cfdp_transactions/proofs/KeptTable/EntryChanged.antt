@@ -10,16 +10,16 @@ use Rattle.cfdp_leases.specs.Leases.{Grants, without_grant}
 use Rattle.cfdp_transactions.specs.Entry.{is_live, Entry, reserve}
 use Rattle.cfdp_transactions.specs.World.{World, leases_of, change_at}
 use Rattle.cfdp_transactions.specs.Sound.{IsKept, Sound}
-use Rattle.cfdp_transactions.specs.code.TableEntries.{TableEntry, entry_in, kept_name, table_of}
+use Rattle.cfdp_transactions.specs.code.TableEntries.{TableEntryFields, entry_in, kept_name, table_of}
 use Rattle.cfdp_transactions.specs.code.Books.{FitsBudget, IsBooked, ArePiecesIn, IsLiveAt, world_of}
 use Rattle.cfdp_transactions.specs.declared.books.Books.{Books}
 use Rattle.cfdp_transactions.proofs.Balance.{left_is}
-use Rattle.cfdp_transactions.proofs.Places.{set_each, get_same}
+use Rattle.cfdp_transactions.proofs.Indexes.{set_each, get_same}
 use Rattle.cfdp_transactions.proofs.SlotChanges.{IsInSlot, after-elsewhere, blocks-staged}
 use Rattle.cfdp_transactions.proofs.KeptTable.Accounts.{Adjusts, fits_after, leases_changed, leases_ended}
 use Rattle.cfdp_transactions.proofs.KeptTable.WorldOfTable.{row_at, set_in}
 
-pub live_row : (s : Store) (b : Books) (k : ℕ) (r : TableEntry) → IsLiveAt (world_of s b) k → slice_get b.table k ≡ Some r → IsTrue (is_live r.phase)
+pub live_row : (s : Store) (b : Books) (k : ℕ) (r : TableEntryFields) → IsLiveAt (world_of s b) k → slice_get b.table k ≡ Some r → IsTrue (is_live r.phase)
 live_row s b k r there at =
     let same : there.0 ≡ entry_in s.filestore r = get_same (world_of s b).table k k there.0 (entry_in s.filestore r) there.1
     (row_at s.filestore b.table k r at) refl in
@@ -27,7 +27,7 @@ live_row s b k r there at =
 
 -- what is known of a live row --------------------------------------------------------
 
-module _ (s : Store) (b : Books) (sound : Sound (world_of s b)) (booked : IsBooked s b) (k : ℕ) (r : TableEntry) (at : slice_get b.table k ≡ Some r)
+module _ (s : Store) (b : Books) (sound : Sound (world_of s b)) (booked : IsBooked s b) (k : ℕ) (r : TableEntryFields) (at : slice_get b.table k ≡ Some r)
     (live : IsTrue (is_live r.phase)) where
   abbrev F : Filestore
   F = s.filestore
@@ -61,11 +61,11 @@ module _ (s : Store) (b : Books) (sound : Sound (world_of s b)) (booked : IsBook
   unfolding blocks_of
   blocks-unstaged = omega (arith, blocks-staged F r.slot [] kept_row.slot)
 
-  module _ (changes : List Change) (in_slot : AllByRecursion (IsInSlot r.slot) changes) (now : TableEntry) where
+  module _ (changes : List Change) (in_slot : AllByRecursion (IsInSlot r.slot) changes) (now : TableEntryFields) where
     abbrev G : Filestore
     G = after F changes
 
-    staged_other : (j : ℕ) (q : TableEntry) → slice_get b.table j ≡ Some q → j ≢ k → IsTrue (is_live q.phase) → staged_in G q.slot ≡ staged_in F q.slot
+    staged_other : (j : ℕ) (q : TableEntryFields) → slice_get b.table j ≡ Some q → j ≢ k → IsTrue (is_live q.phase) → staged_in G q.slot ≡ staged_in F q.slot
     staged_other j q there ne alive =
         after-elsewhere F r.slot q.slot changes in_slot (sound.apart j k (entry_in F q) e (row_at F b.table j q there) entry_at_k ne alive live).slots
 
@@ -87,7 +87,7 @@ module _ (s : Store) (b : Books) (sound : Sound (world_of s b)) (booked : IsBook
           leases_ended (table_of F b.table) k e (entry_in G now) entry_at_k live final sound.names
           ∙ ap (λ (g : Grants). without_grant g (kept_name r)) (sym booked.leases)
 
-      pieces_other : (j : ℕ) (o : TableEntry) → slice_get b.table j ≡ Some o → j ≢ k → ArePiecesIn G o
+      pieces_other : (j : ℕ) (o : TableEntryFields) → slice_get b.table j ≡ Some o → j ≢ k → ArePiecesIn G o
       pieces_other j o there ne alive = rw (staged_other j o there ne alive) (booked.pieces j o there alive)
 
       pub booked_now : (leases : Grants) → leases ≡ (if is_live now.phase then b.leases else without_grant b.leases (kept_name r)) →
@@ -98,5 +98,5 @@ module _ (s : Store) (b : Books) (sound : Sound (world_of s b)) (booked : IsBook
             (fits_after (world_of s b) sound k e (entry_in G now) entry_at_k live slot changes b.quota q booked.budget adjusts);
         capacity = booked.capacity;
         few = booked.few;
-        pieces = set_each (λ _ (o : TableEntry). ArePiecesIn G o) b.table k now pieces pieces_other;
+        pieces = set_each (λ _ (o : TableEntryFields). ArePiecesIn G o) b.table k now pieces pieces_other;
       }

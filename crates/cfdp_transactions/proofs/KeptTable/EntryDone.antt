@@ -8,7 +8,7 @@ use Rattle.cfdp_leases.specs.Leases.{without_grant}
 use Rattle.cfdp_transactions.specs.Entry.{Phase, Receiving, Awaiting, Executing, Refused, Done, Ended, is_live, Entry, items_left, rest, reserve}
 use Rattle.cfdp_transactions.specs.World.{change_at}
 use Rattle.cfdp_transactions.specs.Sound.{is_next_install, Sound}
-use Rattle.cfdp_transactions.specs.code.TableEntries.{TableEntry, received_by, entry_in, kept_name, entry_turned}
+use Rattle.cfdp_transactions.specs.code.TableEntries.{TableEntryFields, received_by, entry_in, kept_name, entry_turned}
 use Rattle.cfdp_transactions.specs.code.Books.{IsBooked, IsDoneAt, IsBareAt, world_of}
 use Rattle.cfdp_transactions.specs.declared.books.Books.{Books}
 use Rattle.cfdp_transactions.proofs.KeptTable.Accounts.{Adjusts}
@@ -29,9 +29,9 @@ drop_nothing Refused items is = refl
 drop_nothing Done items is = refl
 drop_nothing (Ended condition) items is = refl
 
-module _ (s : Store) (b : Books) (sound : Sound (world_of s b)) (booked : IsBooked s b) (k : ℕ) (r : TableEntry) (at : slice_get b.table k ≡ Some r)
+module _ (s : Store) (b : Books) (sound : Sound (world_of s b)) (booked : IsBooked s b) (k : ℕ) (r : TableEntryFields) (at : slice_get b.table k ≡ Some r)
     (live : IsTrue (is_live r.phase)) (bare : IsBareAt (world_of s b) k) where
-  abbrev now : TableEntry
+  abbrev now : TableEntryFields
   now = entry_turned r Done r.eof true
 
   abbrev e : Entry

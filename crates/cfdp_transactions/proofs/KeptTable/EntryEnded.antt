@@ -8,15 +8,15 @@ use Rattle.cfdp_leases.specs.Leases.{without_grant}
 use Rattle.cfdp_transactions.specs.Entry.{is_live, reserve}
 use Rattle.cfdp_transactions.specs.World.{World, change_at}
 use Rattle.cfdp_transactions.specs.Sound.{Sound}
-use Rattle.cfdp_transactions.specs.code.TableEntries.{TableEntry, entry_in, kept_name, entry_ended}
+use Rattle.cfdp_transactions.specs.code.TableEntries.{TableEntryFields, entry_in, kept_name, entry_ended}
 use Rattle.cfdp_transactions.specs.code.Books.{IsBooked, EndsAt, world_of}
 use Rattle.cfdp_transactions.specs.declared.books.Books.{Books}
-use Rattle.cfdp_transactions.proofs.Places.{get_same}
+use Rattle.cfdp_transactions.proofs.Indexes.{get_same}
 use Rattle.cfdp_transactions.proofs.KeptTable.Accounts.{Adjusts}
 use Rattle.cfdp_transactions.proofs.KeptTable.Budgets.{given_here, closed_here, given_elsewhere, closed_elsewhere, reserve_is}
 use Rattle.cfdp_transactions.proofs.KeptTable.EntryChanged.{entry_at_k, reserve_open, blocks-unstaged, table_now, booked_now}
 
-module _ (s : Store) (b : Books) (sound : Sound (world_of s b)) (booked : IsBooked s b) (k : ℕ) (r : TableEntry) (at : slice_get b.table k ≡ Some r)
+module _ (s : Store) (b : Books) (sound : Sound (world_of s b)) (booked : IsBooked s b) (k : ℕ) (r : TableEntryFields) (at : slice_get b.table k ≡ Some r)
     (live : IsTrue (is_live r.phase))
     (condition : ℕ) (by_eof : Bool) (given : ℕ) (unstaged : given ≡ blocks_of (length (staged_in s.filestore r.slot))) where
   abbrev F : Filestore
@@ -25,7 +25,7 @@ module _ (s : Store) (b : Books) (sound : Sound (world_of s b)) (booked : IsBook
   abbrev G : Filestore
   G = after F (Stages r.slot [] ∷ [])
 
-  abbrev now : TableEntry
+  abbrev now : TableEntryFields
   now = entry_ended r condition by_eof given
 
   abbrev W : World

@@ -13,19 +13,19 @@ use Rattle.cfdp_status.specs.declared.transaction.TransactionId.{TransactionId}
 use Rattle.cfdp_leases.specs.Footprint.{footprint_of}
 use Rattle.cfdp_leases.specs.Leases.{Grants, is_same, holds}
 use Rattle.cfdp_transactions.specs.Entry.{Receiving, is_live, Entry, id_of, name_of, footprint, reserve}
-use Rattle.cfdp_transactions.specs.World.{World, reserves, leases_of, place_of, has_slot, slot_from, free_slot}
+use Rattle.cfdp_transactions.specs.World.{World, reserves, leases_of, index_in, has_slot, slot_from, free_slot}
 use Rattle.cfdp_transactions.specs.Admission.{new_entry, with_new, proposal_of}
 use Rattle.cfdp_transactions.specs.Sound.{IsVacant, Sound}
 use Rattle.cfdp_transactions.specs.code.Adding.{AddsEntry}
-use Rattle.cfdp_transactions.specs.code.TableEntries.{TableEntry, entry_in, table_of, kept_place, fresh_entry}
+use Rattle.cfdp_transactions.specs.code.TableEntries.{TableEntryFields, entry_in, table_of, kept_index, fresh_entry}
 use Rattle.cfdp_transactions.specs.code.Books.{FitsBudget, ArePiecesIn, IsBooked, world_of}
 use Rattle.cfdp_transactions.specs.declared.books.Books.{Books}
 use Rattle.cfdp_transactions.proofs.KeptTable.Accounts.{leases_added}
 use Rattle.cfdp_transactions.proofs.KeptTable.Budgets.{reserved_elsewhere}
 use Rattle.cfdp_transactions.proofs.KeptTable.EntryAdded.{reserves_added, world_added}
 use Rattle.cfdp_transactions.proofs.FreeSlots.{free_slot_is, free_vacant}
-use Rattle.cfdp_transactions.proofs.Places.{append_cases, append_each, get_append}
-use Rattle.cfdp_transactions.proofs.KeptTable.WorldOfTable.{place_in, length_in}
+use Rattle.cfdp_transactions.proofs.Indexes.{append_cases, append_each, get_append}
+use Rattle.cfdp_transactions.proofs.KeptTable.WorldOfTable.{index_among, length_in}
 
 -- one that is granted its items --------------------------------------------------------------
 
@@ -33,27 +33,27 @@ pub got : {X : Type 0} (t : List X) (new : X) → slice_get (t ++ new ∷ []) (l
 got [] x = refl
 got (y ∷ t) x = got t x
 
-pub remove_last : (rows : List TableEntry) (new : TableEntry) (place : ℕ) → place ≡ length rows → remove (rows ++ new ∷ []) place ≡ rows
+pub remove_last : (rows : List TableEntryFields) (new : TableEntryFields) (index : ℕ) → index ≡ length rows → remove (rows ++ new ∷ []) index ≡ rows
 remove_last [] new zero e = refl
-remove_last [] new (suc place) e = absurd (omega arith)
+remove_last [] new (suc index) e = absurd (omega arith)
 remove_last (r ∷ rows) new zero e = absurd (omega arith)
-remove_last (r ∷ rows) new (suc place) e = ap (λ (rs : List TableEntry). r ∷ rs) (remove_last rows new place (omega (arith, e)))
+remove_last (r ∷ rows) new (suc index) e = ap (λ (rs : List TableEntryFields). r ∷ rs) (remove_last rows new index (omega (arith, e)))
 
 -- nobody of that name holds leases
 holds_step : (e : Entry) (t : List Entry) (id : TransactionId) (live b : Bool) → is_live e.phase ≡ live → is_same (name_of e) id ≡ b →
-    (place_of id t ≡ length t → IsFalse (holds (leases_of t) id)) → (if b then 0 else suc (place_of id t)) ≡ suc (length t) →
+    (index_in id t ≡ length t → IsFalse (holds (leases_of t) id)) → (if b then 0 else suc (index_in id t)) ≡ suc (length t) →
     IsFalse (holds (if live then (name_of e, footprint e) ∷ leases_of t else leases_of t) id)
 holds_step e t id live true is same later h = absurd (omega arith)
 holds_step e t id true false is same later h = rw same (later (omega (arith, h)))
 holds_step e t id false false is same later h = later (omega (arith, h))
 
-holds_none : (t : List Entry) (id : TransactionId) → place_of id t ≡ length t → IsFalse (holds (leases_of t) id)
+holds_none : (t : List Entry) (id : TransactionId) → index_in id t ≡ length t → IsFalse (holds (leases_of t) id)
 holds_none [] id h = refl
 holds_none (e ∷ t) id h = holds_step e t id (is_live e.phase) (is_same (name_of e) id) refl refl (holds_none t id) h
 
-pub unheld : (s : Store) (b : Books) → IsBooked s b → (id : TransactionId) → kept_place id b.table ≡ length b.table → IsFalse (holds b.leases id)
+pub unheld : (s : Store) (b : Books) → IsBooked s b → (id : TransactionId) → kept_index id b.table ≡ length b.table → IsFalse (holds b.leases id)
 unheld s b booked id absent =
-    rw booked.leases (holds_none (table_of s.filestore b.table) id (place_in s.filestore id b.table ∙ absent ∙ sym (length_in s.filestore b.table)))
+    rw booked.leases (holds_none (table_of s.filestore b.table) id (index_among s.filestore id b.table ∙ absent ∙ sym (length_in s.filestore b.table)))
 
 module _ (s : Store) (b : Books) (sound : Sound (world_of s b)) (booked : IsBooked s b) (few : length b.table < 64) (h : Header) (m : MetadataFields)
     (slot blocks steps : ℕ) (items : List Item)
@@ -61,7 +61,7 @@ module _ (s : Store) (b : Books) (sound : Sound (world_of s b)) (booked : IsBook
   abbrev W : World
   W = world_of s b
 
-  abbrev row : TableEntry
+  abbrev row : TableEntryFields
   row = fresh_entry h m Receiving slot items blocks steps
 
   abbrev new : Entry
@@ -95,7 +95,7 @@ module _ (s : Store) (b : Books) (sound : Sound (world_of s b)) (booked : IsBook
       closed = closed_now;
     }
 
-    granted_pieces : (k : ℕ) (r : TableEntry) → slice_get (b.table ++ row ∷ []) k ≡ Some r → ArePiecesIn s.filestore r
+    granted_pieces : (k : ℕ) (r : TableEntryFields) → slice_get (b.table ++ row ∷ []) k ≡ Some r → ArePiecesIn s.filestore r
     granted_pieces k r at = elim (append_cases b.table row k r at) [
       | inl last ↦ λ live. rw (last.1, sound.vacant slot vacant) (record { pieces = record { runs = tt; within = tt }; to_end = refl })
       | inr before ↦ booked.pieces k r before.1

@@ -13,14 +13,14 @@ use Rattle.cfdp_transactions.specs.declared.outcome.Outcome.{Outcome}
 use Rattle.cfdp_transactions.specs.Outcome.{answered, responses_of, outcome_of}
 use Rattle.cfdp_transactions.specs.World.{World, leases_of}
 use Rattle.cfdp_transactions.specs.Ending.{taken_out}
-use Rattle.cfdp_transactions.specs.code.TableEntries.{TableEntry, entry_in, table_of}
+use Rattle.cfdp_transactions.specs.code.TableEntries.{TableEntryFields, entry_in, table_of}
 use Rattle.cfdp_transactions.specs.code.Books.{FitsBudget, IsBooked, world_of}
 use Rattle.cfdp_transactions.specs.declared.books.Books.{Books}
 use Rattle.cfdp_transactions.specs.code.TakenOutcome.{statuses_of}
 use Rattle.cfdp_transactions.proofs.KeptTable.Accounts.{leases_removed}
 use Rattle.cfdp_transactions.proofs.KeptTable.Answering.{entry_is}
 use Rattle.cfdp_transactions.proofs.Soundness.OwnChange.{reserves_total}
-use Rattle.cfdp_transactions.proofs.Places.{before, behind, remove_place, remove_others, get_same, total-remove}
+use Rattle.cfdp_transactions.proofs.Indexes.{before, behind, remove_index, remove_others, get_same, total-remove}
 use Rattle.cfdp_transactions.proofs.KeptTable.WorldOfTable.{row_at, remove_in}
 
 -- the responses ---------------------------------------------------------------------------
@@ -47,24 +47,24 @@ next_answer r rs performed n done now total response is pushed all =
     ap (λ (xs : List ResponseFields). xs ++ responses_of rs (statuses_of (performed - (n + 1)) rs)) pushed
     ∙ append_assoc done (response ∷ []) (responses_of rs (statuses_of (performed - (n + 1)) rs)) ∙ ap (λ (xs : List ResponseFields). done ++ xs) (sym one) ∙ all
 
-pub next_response : (requests : List RequestFields) (performed place : ℕ) (d : RequestFields) (done now total : List ResponseFields)
-    (response : ResponseFields) → place < length requests
-    → response ≡ answered (get_or requests place d) (status_at (performed - place) (get_or requests place d)) → now ≡ done ++ response ∷ []
-    → done ++ responses_of (drop place requests) (statuses_of (performed - place) (drop place requests)) ≡ total
-    → now ++ responses_of (drop (place + 1) requests) (statuses_of (performed - (place + 1)) (drop (place + 1) requests)) ≡ total
-next_response requests performed place d done now total response there is pushed all =
-    let r = get_or requests place d in
-    let rest = drop (suc place) requests in
-    let here : drop place requests ≡ r ∷ rest = drop-cons requests place d there in
-    let whole : done ++ responses_of (r ∷ rest) (statuses_of (performed - place) (r ∷ rest)) ≡ total =
-    ap (λ (rs : List RequestFields). done ++ responses_of rs (statuses_of (performed - place) rs)) (sym here) ∙ all in
-    rw add-one (rw add-one at (next_answer r rest performed place done now total response is pushed whole))
+pub next_response : (requests : List RequestFields) (performed index : ℕ) (d : RequestFields) (done now total : List ResponseFields)
+    (response : ResponseFields) → index < length requests
+    → response ≡ answered (get_or requests index d) (status_at (performed - index) (get_or requests index d)) → now ≡ done ++ response ∷ []
+    → done ++ responses_of (drop index requests) (statuses_of (performed - index) (drop index requests)) ≡ total
+    → now ++ responses_of (drop (index + 1) requests) (statuses_of (performed - (index + 1)) (drop (index + 1) requests)) ≡ total
+next_response requests performed index d done now total response there is pushed all =
+    let r = get_or requests index d in
+    let rest = drop (suc index) requests in
+    let here : drop index requests ≡ r ∷ rest = drop-cons requests index d there in
+    let whole : done ++ responses_of (r ∷ rest) (statuses_of (performed - index) (r ∷ rest)) ≡ total =
+    ap (λ (rs : List RequestFields). done ++ responses_of rs (statuses_of (performed - index) rs)) (sym here) ∙ all in
+    rw add-one (rw add-one at (next_answer r rest performed index done now total response is pushed whole))
 
-pub status_performed : (performed place : ℕ) (r : RequestFields) → place < performed → status_at (performed - place) r ≡ Successful r.action
-status_performed performed place r h = let e : performed - place ≡ suc (performed - place - 1) = omega arith in rw e refl
+pub status_performed : (performed index : ℕ) (r : RequestFields) → index < performed → status_at (performed - index) r ≡ Successful r.action
+status_performed performed index r h = let e : performed - index ≡ suc (performed - index - 1) = omega arith in rw e refl
 
-pub status_left : (performed place : ℕ) (r : RequestFields) → performed ≤ place → status_at (performed - place) r ≡ NotPerformed r.action
-status_left performed place r h = let e : performed - place ≡ 0 = omega arith in rw e refl
+pub status_left : (performed index : ℕ) (r : RequestFields) → performed ≤ index → status_at (performed - index) r ≡ NotPerformed r.action
+status_left performed index r h = let e : performed - index ≡ 0 = omega arith in rw e refl
 
 pub status_of_number : (performed number : ℕ) (r : RequestFields) (status : Status) → (number < performed → status ≡ Successful r.action)
     → (performed ≤ number → status ≡ NotPerformed r.action) → status ≡ status_at (performed - number) r
@@ -75,7 +75,8 @@ status_of_number performed number r status done left = elim (cases_lt number per
 
 -- the transaction at k is forgotten ---------------------------------------------------------
 
-module _ (s : Store) (b : Books) (booked : IsBooked s b) (k : ℕ) (r : TableEntry) (at : slice_get b.table k ≡ Some r) (over : IsFalse (is_live r.phase)) where
+module _ (s : Store) (b : Books) (booked : IsBooked s b) (k : ℕ) (r : TableEntryFields) (at : slice_get b.table k ≡ Some r)
+    (over : IsFalse (is_live r.phase)) where
   abbrev W : World
   W = world_of s b
 
@@ -110,7 +111,7 @@ module _ (s : Store) (b : Books) (booked : IsBooked s b) (k : ℕ) (r : TableEnt
       total-remove reserve W.table k e at_k,
       none,
     );
-    opened = λ j d there. booked.budget.opened (before k j) d (sym (remove_place W.table k j) ∙ there);
+    opened = λ j d there. booked.budget.opened (before k j) d (sym (remove_index W.table k j) ∙ there);
     closed = λ slot vacant. booked.budget.closed slot (λ j d there live. vacant (behind k j) d
         (remove_others W.table k j (λ q. let same : d ≡ e = get_same W.table j k d e there at_k q in
         both_ways (is_live r.phase) over (subst (λ (x : Entry). IsTrue (is_live x.phase)) same live)) ∙ there) live);
@@ -124,5 +125,5 @@ module _ (s : Store) (b : Books) (booked : IsBooked s b) (k : ℕ) (r : TableEnt
         budget = rw table fits;
         capacity = booked.capacity;
         few = booked.few;
-        pieces = λ j d there. booked.pieces (before k j) d (sym (remove_place b.table k j) ∙ there);
+        pieces = λ j d there. booked.pieces (before k j) d (sym (remove_index b.table k j) ∙ there);
       }

@@ -6,17 +6,17 @@ use Rattle.cfdp_actions.specs.Store.{Store}
 use Rattle.cfdp_transactions.specs.Entry.{Phase, is_live}
 use Rattle.cfdp_transactions.specs.World.{change_at}
 use Rattle.cfdp_transactions.specs.Sound.{Sound}
-use Rattle.cfdp_transactions.specs.code.TableEntries.{TableEntry, entry_in, entry_turned}
+use Rattle.cfdp_transactions.specs.code.TableEntries.{TableEntryFields, entry_in, entry_turned}
 use Rattle.cfdp_transactions.specs.code.Books.{IsBooked, TurnsAt, world_of}
 use Rattle.cfdp_transactions.specs.declared.books.Books.{Books}
-use Rattle.cfdp_transactions.proofs.Places.{get_same}
+use Rattle.cfdp_transactions.proofs.Indexes.{get_same}
 use Rattle.cfdp_transactions.proofs.KeptTable.Accounts.{Adjusts}
 use Rattle.cfdp_transactions.proofs.KeptTable.EntryChanged.{entry_at_k, reserve_open, table_now, booked_now}
 
-module _ (s : Store) (b : Books) (sound : Sound (world_of s b)) (booked : IsBooked s b) (k : ℕ) (r : TableEntry) (at : slice_get b.table k ≡ Some r)
+module _ (s : Store) (b : Books) (sound : Sound (world_of s b)) (booked : IsBooked s b) (k : ℕ) (r : TableEntryFields) (at : slice_get b.table k ≡ Some r)
     (live : IsTrue (is_live r.phase))
     (phase : Phase) (still : IsTrue (is_live phase)) (eof : Option Eof) (complete : Bool) where
-  abbrev now : TableEntry
+  abbrev now : TableEntryFields
   now = entry_turned r phase eof complete
 
   pub turned_world : TurnsAt (world_of s b) (world_of s (record b { table = slice_set b.table k now })) k phase eof complete

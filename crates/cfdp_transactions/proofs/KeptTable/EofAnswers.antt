@@ -14,7 +14,7 @@ use Rattle.cfdp_transactions.specs.Received.{is_whole}
 use Rattle.cfdp_transactions.specs.Pieces.{received_in}
 use Rattle.cfdp_transactions.specs.code.Pieces.{is_all}
 use Rattle.cfdp_transactions.specs.Sound.{Sound}
-use Rattle.cfdp_transactions.specs.code.TableEntries.{TableEntry, entry_in}
+use Rattle.cfdp_transactions.specs.code.TableEntries.{TableEntryFields, entry_in}
 use Rattle.cfdp_transactions.specs.code.Books.{EndsAt, TurnsAt, IsDoneAt, IsBooked, world_of}
 use Rattle.cfdp_transactions.specs.declared.books.Books.{Books}
 use Rattle.cfdp_transactions.proofs.KeptTable.Answering.{plain_end}
@@ -89,7 +89,7 @@ eof_whole W k eof e some file right all = by_tests W k e eof false true false tr
 
 -- what the row's ranges and the staged list say of what was received ---------------------
 
-module _ (s : Store) (b : Books) (sound : Sound (world_of s b)) (booked : IsBooked s b) (k : ℕ) (r : TableEntry) (at : slice_get b.table k ≡ Some r)
+module _ (s : Store) (b : Books) (sound : Sound (world_of s b)) (booked : IsBooked s b) (k : ℕ) (r : TableEntryFields) (at : slice_get b.table k ≡ Some r)
     (live : IsTrue (is_live r.phase)) where
   abbrev e : Entry
   e = entry_in s.filestore r

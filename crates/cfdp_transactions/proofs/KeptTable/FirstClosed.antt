@@ -16,9 +16,9 @@ use Rattle.cfdp_transactions.proofs.KeptTable.WorldOfTable.{length_in}
 -- slots -------------------------------------------------------------------------------------
 
 record IsTakenAt (t : List Entry) (slot : ℕ) : Type 0 where
-  place : ℕ
+  index : ℕ
   entry : Entry
-  at : slice_get t place ≡ Some entry
+  at : slice_get t index ≡ Some entry
   live : IsTrue (is_live entry.phase)
   same : entry.slot ≡ slot
 
@@ -26,9 +26,9 @@ taken_at : (t : List Entry) (slot : ℕ) → IsTrue (taken slot t) → IsTakenAt
 taken_at [] slot h = absurd cc
 taken_at (e ∷ t) slot h = elim (or_cases (has_slot slot e) (taken slot t) h) [
   | inl here ↦ let both = and_parts (is_live e.phase) (e.slot == slot) here in
-      record { place = 0; entry = e; at = refl; live = both.0; same = eqb-true e.slot slot both.1 }
+      record { index = 0; entry = e; at = refl; live = both.0; same = eqb-true e.slot slot both.1 }
   | inr later ↦ let behind = taken_at t slot later in record {
-    place = suc behind.place;
+    index = suc behind.index;
     entry = behind.entry;
     at = behind.at;
     live = behind.live;
@@ -57,7 +57,7 @@ module _ (s : Store) (b : Books) (sound : Sound (world_of s b)) (booked : IsBook
   few_entries = omega (arith, few, length_in s.filestore b.table)
 
   taken_open : (slot : ℕ) → IsTrue (taken slot W.table) → IsOpen b.quota slot
-  taken_open slot h = let e = taken_at W.table slot h in rw (← e.same, booked.budget.opened e.place e.entry e.at e.live) refl
+  taken_open slot h = let e = taken_at W.table slot h in rw (← e.same, booked.budget.opened e.index e.entry e.at e.live) refl
 
   -- the first slot that is closed is the first that no live entry has
   pub first_free : (slot : ℕ) → (slot < 64 → IsOpen b.quota slot → ⊥) → ((before : ℕ) → before < slot → IsOpen b.quota before) → (slot ≡ free_slot W.table)

@@ -11,17 +11,17 @@ use Rattle.cfdp_leases.specs.Leases.{is_same}
 use Rattle.cfdp_verifier.specs.declared.refusal.Refusal.TheVariants.{TooManyRequests}
 use Rattle.cfdp_transactions.specs.Entry.{Entry, id_of, is_live}
 use Rattle.cfdp_transactions.specs.Events.{Event, MetadataCame, Reply}
-use Rattle.cfdp_transactions.specs.World.{World, place_of, index_of, entry_of}
+use Rattle.cfdp_transactions.specs.World.{World, index_in, index_of, entry_of}
 use Rattle.cfdp_transactions.specs.Next.{for_us, next}
 use Rattle.cfdp_transactions.specs.Needs.{Follows, FollowsIsSound}
 use Rattle.cfdp_transactions.specs.Outcome.{outcome_of}
 use Rattle.cfdp_transactions.specs.declared.outcome.Outcome.{Outcome}
-use Rattle.cfdp_transactions.specs.code.TableEntries.{TableEntry, entry_in, table_of, kept_name, kept_place}
+use Rattle.cfdp_transactions.specs.code.TableEntries.{TableEntryFields, entry_in, table_of, kept_name, kept_index}
 use Rattle.cfdp_transactions.specs.code.Books.{AnswersAt, Carries, IsBooked, IsLiveAt, world_of}
-use Rattle.cfdp_transactions.specs.Engine.{may_begin, outcome_in}
-use Rattle.cfdp_transactions.specs.code.Engine.{IsWholeCore}
+use Rattle.cfdp_transactions.specs.CoreFields.{may_begin, outcome_in}
+use Rattle.cfdp_transactions.specs.code.CoreFields.{IsWholeCore}
 use Rattle.cfdp_transactions.specs.declared.books.Books.{Books}
-use Rattle.cfdp_transactions.proofs.KeptTable.WorldOfTable.{place_in, get_in, row_at}
+use Rattle.cfdp_transactions.proofs.KeptTable.WorldOfTable.{index_among, get_in, row_at}
 
 pub carries_follows : (W V : World) (event : Event) (reply : Reply) → Carries W V (next W event) reply → Follows W event reply V
 carries_follows W V event Reply.Memory h = h
@@ -40,18 +40,18 @@ module _ (s : Store) (b : Books) (id : TransactionId) where
   abbrev W : World
   W = world_of s b
 
-  pub index_is : index_of W id ≡ kept_place id b.table
-  index_is = place_in s.filestore id b.table
+  pub index_is : index_of W id ≡ kept_index id b.table
+  index_is = index_among s.filestore id b.table
 
-  pub found_carries : (f : ℕ → Option Entry → World × Reply) (V : World) (reply : Reply) (place : ℕ) → place ≡ kept_place id b.table → place < length b.table →
-      AnswersAt W V place (f place) reply → Carries W V (f (index_of W id) (entry_of W id)) reply
-  found_carries f V reply place is within answers =
-      let here = get_at b.table place within in
-      let at = row_at s.filestore b.table place here.0 here.1 in
-      let index : index_of W id ≡ place = index_is ∙ sym is in
-      rw (index, at) (answers (entry_in s.filestore here.0) at)
+  pub found_carries : (f : ℕ → Option Entry → World × Reply) (V : World) (reply : Reply) (index : ℕ) → index ≡ kept_index id b.table → index < length b.table →
+      AnswersAt W V index (f index) reply → Carries W V (f (index_of W id) (entry_of W id)) reply
+  found_carries f V reply index is within answers =
+      let here = get_at b.table index within in
+      let at = row_at s.filestore b.table index here.0 here.1 in
+      let is_index : index_of W id ≡ index = index_is ∙ sym is in
+      rw (is_index, at) (answers (entry_in s.filestore here.0) at)
 
-  pub absent_entry : kept_place id b.table ≡ length b.table → entry_of W id ≡ None
+  pub absent_entry : kept_index id b.table ≡ length b.table → entry_of W id ≡ None
   absent_entry gone = rw (index_is, gone, get_in s.filestore b.table (length b.table), get_past b.table) refl
 
 -- a transaction that is there and has no outcome is live
@@ -72,29 +72,29 @@ pub outcome_where_over : (W : World) (id : TransactionId) (e : Entry) (given : O
 outcome_where_over W id e given there made over = over_by (is_live e.phase) (outcome_of e) given (rw there at made) over
 
 module _ (s : Store) (b : Books) (id : TransactionId) where
-  pub outcome_made : (place : ℕ) → place ≡ kept_place id b.table → (given : Outcome) → outcome_in (world_of s b) id ≡ Some given →
-      (e : Entry) → slice_get (world_of s b).table place ≡ Some e → IsFalse (is_live e.phase) → given ≡ outcome_of e
-  outcome_made place is given made e at over = outcome_where_over (world_of s b) id e given (rw (index_is s b id ∙ sym is) at) made over
+  pub outcome_made : (index : ℕ) → index ≡ kept_index id b.table → (given : Outcome) → outcome_in (world_of s b) id ≡ Some given →
+      (e : Entry) → slice_get (world_of s b).table index ≡ Some e → IsFalse (is_live e.phase) → given ≡ outcome_of e
+  outcome_made index is given made e at over = outcome_where_over (world_of s b) id e given (rw (index_is s b id ∙ sym is) at) made over
 
-  pub found_entry : (place : ℕ) → place ≡ kept_place id b.table → place < length b.table → (e : Entry) × (entry_of (world_of s b) id ≡ Some e)
-  found_entry place is within =
-      let here = get_at b.table place within in
-      (entry_in s.filestore here.0, rw (index_is s b id ∙ sym is) (row_at s.filestore b.table place here.0 here.1))
+  pub found_entry : (index : ℕ) → index ≡ kept_index id b.table → index < length b.table → (e : Entry) × (entry_of (world_of s b) id ≡ Some e)
+  found_entry index is within =
+      let here = get_at b.table index within in
+      (entry_in s.filestore here.0, rw (index_is s b id ∙ sym is) (row_at s.filestore b.table index here.0 here.1))
 
   -- where a look-up finds it, and where it finds nothing
-  pub found_some : (o : Option ℕ) → IfSome o (λ place. place ≡ kept_place id b.table) → IfSome o (λ place. place < length b.table) → is_some o ≡ true →
+  pub found_some : (o : Option ℕ) → IfSome o (λ index. index ≡ kept_index id b.table) → IfSome o (λ index. index < length b.table) → is_some o ≡ true →
       (e : Entry) × (entry_of (world_of s b) id ≡ Some e)
-  found_some (Some place) is within some = found_entry place is within
+  found_some (Some index) is within some = found_entry index is within
   found_some None is within some = absurd cc
 
-  pub absent_none : (o : Option ℕ) → IfNone o (kept_place id b.table ≡ length b.table) → is_some o ≡ false → entry_of (world_of s b) id ≡ None
+  pub absent_none : (o : Option ℕ) → IfNone o (kept_index id b.table ≡ length b.table) → is_some o ≡ false → entry_of (world_of s b) id ≡ None
   absent_none None gone none = absent_entry s b id gone
-  absent_none (Some place) gone none = absurd cc
+  absent_none (Some index) gone none = absurd cc
 
-  pub live_place : (place : ℕ) → place ≡ kept_place id b.table → place < length b.table → IsNone (outcome_in (world_of s b) id) → IsLiveAt (world_of s b) place
-  live_place place is within none =
-      let here = get_at b.table place within in
-      let at = row_at s.filestore b.table place here.0 here.1 in
+  pub live_index : (index : ℕ) → index ≡ kept_index id b.table → index < length b.table → IsNone (outcome_in (world_of s b) id) → IsLiveAt (world_of s b) index
+  live_index index is within none =
+      let here = get_at b.table index within in
+      let at = row_at s.filestore b.table index here.0 here.1 in
       (entry_in s.filestore here.0, at, live_where_none (world_of s b) id (entry_in s.filestore here.0) (rw (index_is s b id ∙ sym is) at) none)
 
 pub still_whole : FollowsIsSound → (s t : Store) (b d : Books) (event : Event) (reply : Reply) → IsWholeCore s b →
@@ -127,21 +127,21 @@ begins_so W h m begun =
 pub begins_when : (W : World) (h : Header) (m : MetadataFields) → Begins W h m → IsTrue (may_begin W h m)
 begins_when W h m b = rw (b.mine, b.absent, lt-ltb (length W.table) 64 b.few, le-leb (length m.requests) 64 b.short) refl
 
-absent_step : (F : Filestore) (id : TransactionId) (r : TableEntry) (rows : List TableEntry) (b : Bool) →
-    (slice_get (table_of F rows) (place_of id (table_of F rows)) ≡ None → kept_place id rows ≡ length rows) →
-    slice_get (entry_in F r ∷ table_of F rows) (if b then 0 else suc (place_of id (table_of F rows))) ≡ None → (if b then 0 else suc (kept_place id rows))
+absent_step : (F : Filestore) (id : TransactionId) (r : TableEntryFields) (rows : List TableEntryFields) (b : Bool) →
+    (slice_get (table_of F rows) (index_in id (table_of F rows)) ≡ None → kept_index id rows ≡ length rows) →
+    slice_get (entry_in F r ∷ table_of F rows) (if b then 0 else suc (index_in id (table_of F rows))) ≡ None → (if b then 0 else suc (kept_index id rows))
     ≡ suc (length rows)
 absent_step F id r rows true later none = absurd cc
 absent_step F id r rows false later none = ap suc (later none)
 
-absent_rows : (F : Filestore) (id : TransactionId) (rows : List TableEntry) → slice_get (table_of F rows) (place_of id (table_of F rows)) ≡ None →
-    kept_place id rows
+absent_rows : (F : Filestore) (id : TransactionId) (rows : List TableEntryFields) → slice_get (table_of F rows) (index_in id (table_of F rows)) ≡ None →
+    kept_index id rows
     ≡ length rows
 absent_rows F id [] none = refl
 absent_rows F id (r ∷ rows) none = absent_step F id r rows (is_same (kept_name r) id) (absent_rows F id rows) none
 
-pub absent_place : (s : Store) (b : Books) (id : TransactionId) → entry_of (world_of s b) id ≡ None → kept_place id b.table ≡ length b.table
-absent_place s b id none = absent_rows s.filestore id b.table none
+pub absent_index : (s : Store) (b : Books) (id : TransactionId) → entry_of (world_of s b) id ≡ None → kept_index id b.table ≡ length b.table
+absent_index s b id none = absent_rows s.filestore id b.table none
 
 -- and that begin none: they meet a full table, or have too long a list
 

@@ -20,7 +20,7 @@ use Rattle.cfdp_transactions.specs.Events.{Reply}
 use Rattle.cfdp_transactions.specs.World.{World, free, change_at}
 use Rattle.cfdp_transactions.specs.code.LowerLaws.{LowerLaws}
 use Rattle.cfdp_transactions.specs.Sound.{requests_in, all_successful, Sound}
-use Rattle.cfdp_transactions.specs.code.TableEntries.{TableEntry, received_by, entry_in, kept_name, entry_stepped}
+use Rattle.cfdp_transactions.specs.code.TableEntries.{TableEntryFields, received_by, entry_in, kept_name, entry_stepped}
 use Rattle.cfdp_transactions.specs.code.Books.{IsBooked, Settles, ArePiecesIn, AnswersAt, world_of}
 use Rattle.cfdp_transactions.specs.code.TableChanges.{CanAdvance}
 use Rattle.cfdp_transactions.specs.declared.books.Books.{Books}
@@ -33,7 +33,7 @@ use Rattle.cfdp_transactions.proofs.Soundness.RowAnswers.{row_of_request, row_of
 use Rattle.cfdp_transactions.proofs.KeptTable.EntryChanged.{entry_at_k, kept_row, least_spent, most_spent, reserve_open, in_use, table_now, booked_now}
 use Rattle.cfdp_transactions.proofs.Soundness.Stepping.{noted_none, noted_one, enough, succeeded_now, takes_within, steps_within, gone, honest_now, rest_is}
 use Rattle.cfdp_transactions.proofs.Soundness.Turning.{live_counted, reserve_live, empty_by_length}
-use Rattle.cfdp_transactions.proofs.Places.{get_inside}
+use Rattle.cfdp_transactions.proofs.Indexes.{get_inside}
 
 pub drop_get : {X : Type 0} (n : ℕ) (xs : List X) (x : X) → slice_get xs n ≡ Some x → drop n xs ≡ x ∷ drop (suc n) xs
 drop_get n [] x h = absurd cc
@@ -77,7 +77,7 @@ both_none false xs is = refl
 staged_none : (ranges : Ranges) (xs : List ℕ) → xs ≡ [] → received_in ranges xs ≡ []
 staged_none ranges xs is = rw is refl
 
-module _ (laws : LowerLaws) (s : Store) (b : Books) (sound : Sound (world_of s b)) (booked : IsBooked s b) (k : ℕ) (r : TableEntry)
+module _ (laws : LowerLaws) (s : Store) (b : Books) (sound : Sound (world_of s b)) (booked : IsBooked s b) (k : ℕ) (r : TableEntryFields)
     (at : slice_get b.table k ≡ Some r)
     (n : ℕ) (executing : r.phase ≡ Executing n) (item : Item) (there : slice_get r.items n ≡ Some item) where
   abbrev F : Filestore
@@ -177,7 +177,7 @@ module _ (laws : LowerLaws) (s : Store) (b : Books) (sound : Sound (world_of s b
   module _ (before later t : ℕ) (last install : Bool) (is_before : before ≡ free_blocks s) (is_later : later ≡ free_blocks (with_changes s o.changes)) (is_t : t
       ≡ ticks o)
       (is_i : install ≡ is_install item) (is_last : last ≡ (suc n == length r.items)) where
-    abbrev now : TableEntry
+    abbrev now : TableEntryFields
     now = entry_stepped r n last install before later t
 
     abbrev V : World
@@ -304,6 +304,7 @@ drop_none (suc n) [] h = refl
 drop_none zero (x ∷ xs) h = absurd cc
 drop_none (suc n) (x ∷ xs) h = drop_none n xs h
 
-pub idle_step : (s : Store) (b : Books) (k : ℕ) (r : TableEntry) (n : ℕ) → slice_get b.table k ≡ Some r → r.phase ≡ Executing n → slice_get r.items n ≡ None →
+pub idle_step : (s : Store) (b : Books) (k : ℕ) (r : TableEntryFields) (n : ℕ) → slice_get b.table k ≡ Some r → r.phase ≡ Executing n → slice_get r.items n
+    ≡ None →
     (e : Entry) → slice_get (world_of s b).table k ≡ Some e → stepped (world_of s b) k (Some e) ≡ (world_of s b, Reply.Idle)
 idle_step s b k r n at executing nothing e there = rw (entry_is s b k r at e there, executing, drop_none n r.items nothing) refl

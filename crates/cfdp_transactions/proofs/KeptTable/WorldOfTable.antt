@@ -5,56 +5,58 @@ use Rattle.cfdp_status.specs.declared.transaction.TransactionId.{TransactionId}
 use Rattle.cfdp_actions.specs.Filestore.{Filestore, staged_in}
 use Rattle.cfdp_transactions.specs.Received.{Received}
 use Rattle.cfdp_transactions.specs.Entry.{Phase, Receiving, Awaiting, Executing, Refused, Done, Ended, is_live, name_of, Entry}
-use Rattle.cfdp_transactions.specs.World.{place_of, next_runnable, next_outcome}
-use Rattle.cfdp_transactions.specs.code.TableEntries.{TableEntry, received_by, entry_in, table_of, kept_name, kept_place, first_executing, first_entry_over}
+use Rattle.cfdp_transactions.specs.World.{index_in, next_runnable, next_outcome}
+use Rattle.cfdp_transactions.specs.code.TableEntries.{TableEntryFields, received_by, entry_in, table_of, kept_name, kept_index, first_executing, first_entry_over}
 
-pub place_in : (F : Filestore) (id : TransactionId) (rows : List TableEntry) → place_of id (table_of F rows) ≡ kept_place id rows
-place_in F id [] = refl
-place_in F id (r ∷ rows) = rw (place_in F id rows) refl
+pub index_among : (F : Filestore) (id : TransactionId) (rows : List TableEntryFields) → index_in id (table_of F rows) ≡ kept_index id rows
+index_among F id [] = refl
+index_among F id (r ∷ rows) = rw (index_among F id rows) refl
 
-pub get_in : (F : Filestore) (rows : List TableEntry) (k : ℕ) → slice_get (table_of F rows) k ≡ option_map (entry_in F) (slice_get rows k)
+pub get_in : (F : Filestore) (rows : List TableEntryFields) (k : ℕ) → slice_get (table_of F rows) k ≡ option_map (entry_in F) (slice_get rows k)
 get_in F [] k = refl
 get_in F (r ∷ rows) zero = refl
 get_in F (r ∷ rows) (suc k) = get_in F rows k
 
-pub row_at : (F : Filestore) (rows : List TableEntry) (k : ℕ) (r : TableEntry) → slice_get rows k ≡ Some r → slice_get (table_of F rows) k ≡ Some (entry_in F r)
+pub row_at : (F : Filestore) (rows : List TableEntryFields) (k : ℕ) (r : TableEntryFields) → slice_get rows k ≡ Some r → slice_get (table_of F rows) k ≡ Some
+    (entry_in F r)
 row_at F rows k r at = rw (get_in F rows k, at) refl
 
-pub length_in : (F : Filestore) (rows : List TableEntry) → length (table_of F rows) ≡ length rows
+pub length_in : (F : Filestore) (rows : List TableEntryFields) → length (table_of F rows) ≡ length rows
 length_in F [] = refl
 length_in F (r ∷ rows) = ap suc (length_in F rows)
 
 -- the filestore changes elsewhere ----------------------------------------------------
 
-same_received : (F G : Filestore) (r : TableEntry) (live : Bool) → is_live r.phase ≡ live → (IsTrue (is_live r.phase) → staged_in G r.slot ≡ staged_in F r.slot)
+same_received : (F G : Filestore) (r : TableEntryFields) (live : Bool) → is_live r.phase ≡ live →
+    (IsTrue (is_live r.phase) → staged_in G r.slot ≡ staged_in F r.slot)
     →
     received_by G r ≡ received_by F r
 same_received F G r true is same = rw (is, same is) refl
 same_received F G r false is same = rw is refl
 
-pub same_entry : (F G : Filestore) (r : TableEntry) → (IsTrue (is_live r.phase) → staged_in G r.slot ≡ staged_in F r.slot) → entry_in G r ≡ entry_in F r
+pub same_entry : (F G : Filestore) (r : TableEntryFields) → (IsTrue (is_live r.phase) → staged_in G r.slot ≡ staged_in F r.slot) → entry_in G r ≡ entry_in F r
 same_entry F G r same = let received = same_received F G r (is_live r.phase) refl same in
     ap (λ (xs : Received). record (entry_in F r) { received = xs }) received
 
-pub same_table : (F G : Filestore) (rows : List TableEntry) → ((j : ℕ) (r : TableEntry) → slice_get rows j ≡ Some r → IsTrue (is_live r.phase) →
+pub same_table : (F G : Filestore) (rows : List TableEntryFields) → ((j : ℕ) (r : TableEntryFields) → slice_get rows j ≡ Some r → IsTrue (is_live r.phase) →
     staged_in G r.slot
     ≡ staged_in F r.slot) → table_of G rows ≡ table_of F rows
 same_table F G [] same = refl
 same_table F G (r ∷ rows) same = rw (same_entry F G r (same 0 r refl), same_table F G rows (λ j q at. same (suc j) q at)) refl
 
-pub set_in : (F G : Filestore) (rows : List TableEntry) (k : ℕ) (new : TableEntry) →
-    ((j : ℕ) (r : TableEntry) → slice_get rows j ≡ Some r → j ≢ k → IsTrue (is_live r.phase) → staged_in G r.slot ≡ staged_in F r.slot) →
+pub set_in : (F G : Filestore) (rows : List TableEntryFields) (k : ℕ) (new : TableEntryFields) →
+    ((j : ℕ) (r : TableEntryFields) → slice_get rows j ≡ Some r → j ≢ k → IsTrue (is_live r.phase) → staged_in G r.slot ≡ staged_in F r.slot) →
     table_of G (slice_set rows k new) ≡ slice_set (table_of F rows) k (entry_in G new)
 set_in F G [] k new same = refl
 set_in F G (r ∷ rows) zero new same = rw (same_table F G rows (λ j q at. same (suc j) q at (λ n. absurd (omega arith)))) refl
 set_in F G (r ∷ rows) (suc k) new same =
     rw (same_entry F G r (same 0 r refl (λ n. absurd (omega arith))), set_in F G rows k new (λ j q at ne. same (suc j) q at (λ n. ne (omega arith)))) refl
 
-pub append_in : (F : Filestore) (rows : List TableEntry) (new : TableEntry) → table_of F (rows ++ new ∷ []) ≡ table_of F rows ++ entry_in F new ∷ []
+pub append_in : (F : Filestore) (rows : List TableEntryFields) (new : TableEntryFields) → table_of F (rows ++ new ∷ []) ≡ table_of F rows ++ entry_in F new ∷ []
 append_in F [] new = refl
 append_in F (r ∷ rows) new = rw (append_in F rows new) refl
 
-pub remove_in : (F : Filestore) (rows : List TableEntry) (k : ℕ) → table_of F (remove rows k) ≡ remove (table_of F rows) k
+pub remove_in : (F : Filestore) (rows : List TableEntryFields) (k : ℕ) → table_of F (remove rows k) ≡ remove (table_of F rows) k
 remove_in F [] zero = refl
 remove_in F [] (suc k) = refl
 remove_in F (r ∷ rows) zero = refl
@@ -62,14 +64,15 @@ remove_in F (r ∷ rows) (suc k) = ap (λ (t : List Entry). entry_in F r ∷ t) 
 
 -- the first one in Executing -----------------------------------------------------------
 
-pub executing_here : (rows : List TableEntry) (k : ℕ) (r : TableEntry) (n : ℕ) → slice_get rows k ≡ Some r → r.phase ≡ Executing n → first_executing
+pub executing_here : (rows : List TableEntryFields) (k : ℕ) (r : TableEntryFields) (n : ℕ) → slice_get rows k ≡ Some r → r.phase ≡ Executing n → first_executing
     (drop k rows)
     ≡ Some (kept_name r)
 executing_here [] k r n at phase = absurd cc
 executing_here (q ∷ rows) zero r n at phase = let same : q ≡ r = cc in rw (same, phase) refl
 executing_here (q ∷ rows) (suc k) r n at phase = executing_here rows k r n at phase
 
-passed : (r : TableEntry) (rows : List TableEntry) (phase : Phase) → r.phase ≡ phase → ((n : ℕ) → phase ≡ Executing n → ⊥) → first_executing (r ∷ rows)
+passed : (r : TableEntryFields) (rows : List TableEntryFields) (phase : Phase) → r.phase ≡ phase → ((n : ℕ) → phase ≡ Executing n → ⊥) → first_executing
+    (r ∷ rows)
     ≡ first_executing rows
 passed r rows Receiving is not = rw is refl
 passed r rows (Awaiting checks) is not = rw is refl
@@ -78,14 +81,15 @@ passed r rows Refused is not = rw is refl
 passed r rows Done is not = rw is refl
 passed r rows (Ended condition) is not = rw is refl
 
-pub executing_later : (rows : List TableEntry) (k : ℕ) (r : TableEntry) → slice_get rows k ≡ Some r → ((n : ℕ) → r.phase ≡ Executing n → ⊥) → first_executing
+pub executing_later : (rows : List TableEntryFields) (k : ℕ) (r : TableEntryFields) → slice_get rows k ≡ Some r → ((n : ℕ) → r.phase ≡ Executing n → ⊥) →
+    first_executing
     (drop k rows)
     ≡ first_executing (drop (suc k) rows)
 executing_later [] k r at not = absurd cc
 executing_later (q ∷ rows) zero r at not = let same : q ≡ r = cc in rw same (passed r rows r.phase refl not)
 executing_later (q ∷ rows) (suc k) r at not = executing_later rows k r at not
 
-pub executing_none : (rows : List TableEntry) (k : ℕ) → length rows ≤ k → first_executing (drop k rows) ≡ None
+pub executing_none : (rows : List TableEntryFields) (k : ℕ) → length rows ≤ k → first_executing (drop k rows) ≡ None
 executing_none [] zero h = refl
 executing_none [] (suc k) h = refl
 executing_none (r ∷ rows) zero h = absurd (omega arith)
@@ -93,42 +97,45 @@ executing_none (r ∷ rows) (suc k) h = executing_none rows k (omega arith)
 
 -- the first one that is over -----------------------------------------------------------
 
-pub over_here : (rows : List TableEntry) (k : ℕ) (r : TableEntry) → slice_get rows k ≡ Some r → is_live r.phase ≡ false → first_entry_over (drop k rows) ≡ Some
+pub over_here : (rows : List TableEntryFields) (k : ℕ) (r : TableEntryFields) → slice_get rows k ≡ Some r → is_live r.phase ≡ false → first_entry_over
+    (drop k rows) ≡ Some
     (kept_name r)
 over_here [] k r at over = absurd cc
 over_here (q ∷ rows) zero r at over = let same : q ≡ r = cc in rw (same, over) refl
 over_here (q ∷ rows) (suc k) r at over = over_here rows k r at over
 
-pub over_later : (rows : List TableEntry) (k : ℕ) (r : TableEntry) → slice_get rows k ≡ Some r → is_live r.phase ≡ true → first_entry_over (drop k rows)
+pub over_later : (rows : List TableEntryFields) (k : ℕ) (r : TableEntryFields) → slice_get rows k ≡ Some r → is_live r.phase ≡ true → first_entry_over
+    (drop k rows)
     ≡ first_entry_over (drop (suc k) rows)
 over_later [] k r at live = absurd cc
 over_later (q ∷ rows) zero r at live = let same : q ≡ r = cc in rw (same, live) refl
 over_later (q ∷ rows) (suc k) r at live = over_later rows k r at live
 
-pub over_none : (rows : List TableEntry) (k : ℕ) → length rows ≤ k → first_entry_over (drop k rows) ≡ None
+pub over_none : (rows : List TableEntryFields) (k : ℕ) → length rows ≤ k → first_entry_over (drop k rows) ≡ None
 over_none [] zero h = refl
 over_none [] (suc k) h = refl
 over_none (r ∷ rows) zero h = absurd (omega arith)
 over_none (r ∷ rows) (suc k) h = over_none rows k (omega arith)
 
-pub over_in : (F : Filestore) (rows : List TableEntry) → next_outcome (table_of F rows) ≡ first_entry_over rows
+pub over_in : (F : Filestore) (rows : List TableEntryFields) → next_outcome (table_of F rows) ≡ first_entry_over rows
 over_in F [] = refl
 over_in F (r ∷ rows) = rw (over_in F rows) refl
 
-pub names_in : (F : Filestore) (rows : List TableEntry) → map name_of (table_of F rows) ≡ map kept_name rows
+pub names_in : (F : Filestore) (rows : List TableEntryFields) → map name_of (table_of F rows) ≡ map kept_name rows
 names_in F [] = refl
 names_in F (r ∷ rows) = rw (names_in F rows) refl
 
 -- what is read by name -----------------------------------------------------------------
 
-twice : {X : Type 0} (f : Entry → X) (F : Filestore) (o : Option TableEntry) → option_map f (option_map (entry_in F) o) ≡ option_map (λ r. f (entry_in F r)) o
+twice : {X : Type 0} (f : Entry → X) (F : Filestore) (o : Option TableEntryFields) → option_map f (option_map (entry_in F) o) ≡ option_map
+    (λ r. f (entry_in F r)) o
 twice f F None = refl
 twice f F (Some r) = refl
 
-pub runnable_in : (F : Filestore) (rows : List TableEntry) → next_runnable (table_of F rows) ≡ first_executing rows
+pub runnable_in : (F : Filestore) (rows : List TableEntryFields) → next_runnable (table_of F rows) ≡ first_executing rows
 runnable_in F [] = refl
 runnable_in F (r ∷ rows) = rw (runnable_in F rows) refl
 
-pub read_in : {X : Type 0} (f : Entry → X) (F : Filestore) (id : TransactionId) (rows : List TableEntry) →
-    option_map f (slice_get (table_of F rows) (place_of id (table_of F rows))) ≡ option_map (λ r. f (entry_in F r)) (slice_get rows (kept_place id rows))
-read_in f F id rows = rw (place_in F id rows, get_in F rows (kept_place id rows)) (twice f F (slice_get rows (kept_place id rows)))
+pub read_in : {X : Type 0} (f : Entry → X) (F : Filestore) (id : TransactionId) (rows : List TableEntryFields) →
+    option_map f (slice_get (table_of F rows) (index_in id (table_of F rows))) ≡ option_map (λ r. f (entry_in F r)) (slice_get rows (kept_index id rows))
+read_in f F id rows = rw (index_among F id rows, get_in F rows (kept_index id rows)) (twice f F (slice_get rows (kept_index id rows)))

@@ -18,7 +18,7 @@ use Rattle.cfdp_transactions.specs.Next.{for_us, next}
 use Rattle.cfdp_transactions.specs.code.LowerLaws.{LowerLaws}
 use Rattle.cfdp_transactions.specs.Sound.{Sound}
 use Rattle.cfdp_transactions.specs.Headline.{performs, IsCarriedOn}
-use Rattle.cfdp_transactions.proofs.Places.{before, before_other, remove_place}
+use Rattle.cfdp_transactions.proofs.Indexes.{before, before_other, remove_index}
 use Rattle.cfdp_transactions.proofs.Finding.{found_name}
 use Rattle.cfdp_transactions.proofs.Lookups.{set_other, append_other, remove_other, set_own}
 use Rattle.cfdp_transactions.proofs.Soundness.OwnChange.{Moves}
@@ -125,7 +125,7 @@ module _ (laws : LowerLaws) (W : World) (s : Sound W) where
   gone_unknown id e now found after =
       let k = index_of W id in
       let i = index_of (record W { table = remove W.table k }) id in
-      s.names (before k i) k now e (sym (remove_place W.table k i) ∙ after) found (before_other k i)
+      s.names (before k i) k now e (sym (remove_index W.table k i) ∙ after) found (before_other k i)
       (found_name (remove W.table k) id now after ∙ sym (found_name W.table id e found))
 
   moved_name : (event : Event) (e new : Entry) → entry_of W (about event) ≡ Some e → new.header ≡ e.header → name_of new ≡ about event

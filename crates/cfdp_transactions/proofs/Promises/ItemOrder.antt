@@ -26,7 +26,7 @@ use Rattle.cfdp_transactions.specs.Admission.{proposal_of, judged, is_known_chec
 use Rattle.cfdp_transactions.specs.Next.{for_us, next, run}
 use Rattle.cfdp_transactions.specs.Sound.{Each, is_counted, is_next_install}
 use Rattle.cfdp_transactions.proofs.Promises.ItemsListed.{has_install, IsListed, install_at_front, granted_listed}
-use Rattle.cfdp_transactions.proofs.Places.{set_each, append_each, remove_place, before, get_set_same}
+use Rattle.cfdp_transactions.proofs.Indexes.{set_each, append_each, remove_index, before, get_set_same}
 use Rattle.cfdp_transactions.proofs.Soundness.Stepping.{drop_next}
 use Rattle.cfdp_transactions.proofs.Soundness.Turning.{empty_by_length}
 
@@ -116,7 +116,7 @@ module _ (W : World) (all : Each IsInOrder W.table) where
     cancelled_ordered = cond_both (is_live e.phase) _ _ Ordered (λ _. ends_ordered e 15 refl refl) (λ _. all)
 
     taken_ordered : Ordered (taken_out W k (Some e))
-    taken_ordered = cond_both (is_live e.phase) _ _ Ordered (λ _. all) (λ _ j d here. all (before k j) d (sym (remove_place W.table k j) ∙ here))
+    taken_ordered = cond_both (is_live e.phase) _ _ Ordered (λ _. all) (λ _ j d here. all (before k j) d (sym (remove_index W.table k j) ∙ here))
 
     check_ordered : (phase : Phase) → e.phase ≡ phase → Ordered (check_at phase W k e)
     check_ordered (Awaiting checks) is = cond_both (nat_le W.config.checks (checks + 1)) _ _ Ordered

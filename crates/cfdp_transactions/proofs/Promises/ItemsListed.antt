@@ -95,12 +95,12 @@ record AreRequests (items : List Item) : Type 0 where
   pub none : has_install items ≡ false
 
 abbrev OfRequests : Parsed → Type 0
-OfRequests (Bad place) = ⊤
+OfRequests (Bad index) = ⊤
 OfRequests (Good items) = AreRequests items
 
 and_then_requests : (r : Option Request) (i : ℕ) (rest : Parsed) → OfPaths r → OfRequests rest → OfRequests (and_then_parsed r i rest)
 and_then_requests None i rest own h = tt
-and_then_requests (Some r) i (Bad place) own h = tt
+and_then_requests (Some r) i (Bad index) own h = tt
 and_then_requests (Some r) i (Good items) own h = record { paths = (own, h.paths); none = h.none }
 
 from_requests : (i : ℕ) (rs : List RequestFields) → OfRequests (parsed_from i rs)
@@ -112,7 +112,7 @@ from_requests i (r ∷ rs) =
 -- lists ------------------------------------------------------------------------------
 
 abbrev OfList : Bool → Parsed → Type 0
-OfList file (Bad place) = ⊤
+OfList file (Bad index) = ⊤
 OfList file (Good items) = IsListed file items
 
 requests_listed : (items : List Item) → AreRequests items → IsListed false items
@@ -122,12 +122,12 @@ requests_listed (item ∷ items) h =
     record { paths = h.paths; first = rw (first_is item items) parts.0; behind = parts.1 }
 
 without_file : (q : Parsed) → OfRequests q → OfList false q
-without_file (Bad place) h = tt
+without_file (Bad index) h = tt
 without_file (Good items) h = requests_listed items h
 
 with_its_file : (p : Option Path) (q : Parsed) → IsOptionalPath p → OfRequests q → OfList true (with_file p q)
 with_its_file None q v h = tt
-with_its_file (Some p) (Bad place) v h = tt
+with_its_file (Some p) (Bad index) v h = tt
 with_its_file (Some p) (Good items) v h = record { paths = ((v, tt), h.paths); first = refl; behind = h.none }
 
 destination_listed : (file : Bool) (name : List ℕ) (q : Parsed) → OfRequests q → OfList file (with_destination (if file then Some name else None) q)

@@ -25,7 +25,7 @@ use Rattle.cfdp_transactions.specs.Sound.{Each}
 use Rattle.cfdp_transactions.specs.Writable.{IsWritable, FitsReply, IsShort, IsReadable, OutcomesFit}
 use Rattle.cfdp_transactions.specs.Beginning.{start_with, OutcomesFitFrom}
 use Rattle.cfdp_transactions.proofs.FinishedPdus.Lengths.{fields_fit, octets_fit}
-use Rattle.cfdp_transactions.proofs.Places.{set_each, append_each, remove_place, before, get_set_same}
+use Rattle.cfdp_transactions.proofs.Indexes.{set_each, append_each, remove_index, before, get_set_same}
 
 -- what an entry keeps for its outcome
 pub record IsSendable (e : Entry) : Type 0 where
@@ -104,7 +104,7 @@ module _ (W : World) (all : Each IsSendable W.table) where
 
     taken_fits : AnswerFits (taken_out W k (Some e))
     taken_fits = cond_both (is_live e.phase) _ _ AnswerFits (λ _. stays_fit Reply.Idle tt)
-        (λ _. record { table = λ j d here. all (before k j) d (sym (remove_place W.table k j) ∙ here); reply = outcome_fits e (all k e at) })
+        (λ _. record { table = λ j d here. all (before k j) d (sym (remove_index W.table k j) ∙ here); reply = outcome_fits e (all k e at) })
 
     check_fits : (phase : Phase) → AnswerFits (check_at phase W k e)
     check_fits (Awaiting checks) = cond_both (nat_le W.config.checks (checks + 1)) _ _ AnswerFits

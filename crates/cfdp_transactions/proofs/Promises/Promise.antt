@@ -18,7 +18,7 @@ use Rattle.cfdp_transactions.specs.Next.{next, is_done, completes}
 use Rattle.cfdp_transactions.specs.code.LowerLaws.{LowerLaws}
 use Rattle.cfdp_transactions.specs.Sound.{all_successful, IsHonest, Sound}
 use Rattle.cfdp_transactions.specs.Headline.{IsPerformed, IsSuccessful, Promised, AtEach}
-use Rattle.cfdp_transactions.proofs.Places.{set_cases, get_same}
+use Rattle.cfdp_transactions.proofs.Indexes.{set_cases, get_same}
 use Rattle.cfdp_transactions.proofs.Finding.{found_name, absent_name}
 use Rattle.cfdp_transactions.proofs.Lookups.{set_own}
 use Rattle.cfdp_transactions.proofs.Promises.Carried.{next_carried, next_others}
@@ -47,14 +47,14 @@ get_drop (suc n) [] ys x h = absurd cc
 get_drop (suc n) (z ∷ xs) ys x h = get_drop n xs ys x h
 
 -- an entry is where its name is found
-place_there : (W : World) → Sound W → (k : ℕ) (e : Entry) → slice_get W.table k ≡ Some e → (o : Option Entry) → slice_get W.table (index_of W (name_of e)) ≡ o →
+index_there : (W : World) → Sound W → (k : ℕ) (e : Entry) → slice_get W.table k ≡ Some e → (o : Option Entry) → slice_get W.table (index_of W (name_of e)) ≡ o →
     k ≡ index_of W (name_of e)
-place_there W s k e at None none = absurd (absent_name W.table (name_of e) none k e at refl)
-place_there W s k e at (Some d) there = elim (cases_eq k (index_of W (name_of e)))
+index_there W s k e at None none = absurd (absent_name W.table (name_of e) none k e at refl)
+index_there W s k e at (Some d) there = elim (cases_eq k (index_of W (name_of e)))
     [ inl same ↦ same | inr other ↦ absurd (s.names k (index_of W (name_of e)) e d at there other (sym (found_name W.table (name_of e) d there))) ]
 
 found_itself : (W : World) → Sound W → (k : ℕ) (e : Entry) → slice_get W.table k ≡ Some e → k ≡ index_of W (name_of e)
-found_itself W s k e at = place_there W s k e at (slice_get W.table (index_of W (name_of e))) refl
+found_itself W s k e at = index_there W s k e at (slice_get W.table (index_of W (name_of e))) refl
 
 -- steps ------------------------------------------------------------------------------
 

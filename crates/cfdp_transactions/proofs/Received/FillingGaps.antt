@@ -63,8 +63,8 @@ module _ (ranges : Ranges) (at : ℕ) (octets xs ys : List ℕ) (from start stop
   inside_gap : (j : ℕ) → start ≤ at + j → at + j < stop → get_or zs (at + j) 0 ≡ get_or octets j 0
   inside_gap j lo hi =
       let k : ℕ = (at + j) - start in
-      let place : at + j ≡ start + k = omega arith in
-      ap (λ (i : ℕ). get_or zs i 0) place ∙ overwritten-inside ys start (slice_range octets (start - at) (stop - at)) fits k (omega (arith, piece_long))
+      let index : at + j ≡ start + k = omega arith in
+      ap (λ (i : ℕ). get_or zs i 0) index ∙ overwritten-inside ys start (slice_range octets (start - at) (stop - at)) fits k (omega (arith, piece_long))
       ∙ get_or-take ((stop - at) - (start - at)) (drop (start - at) octets) k 0 (omega (arith, gap.from))
       ∙ get_or-drop (start - at) octets k 0 ∙ ap (λ (i : ℕ). get_or octets i 0) (let e : start - at + k ≡ j = omega (arith, gap.from) in e)
 
@@ -127,8 +127,8 @@ module _ (ranges : Ranges) (at : ℕ) (octets xs zs : List ℕ) (size : ℕ) (lo
     | inl old ↦ get_or_append_left xs (replicate (size - length xs) 0) 0 i old ∙ zero_at ranges xs i zeros old out
     | inr new ↦
         let k : ℕ = i - length xs in
-        let place : i ≡ length xs + k = omega arith in
-        ap (λ (j : ℕ). get_or (extended xs size) j 0) place ∙ get_or-append-add xs (replicate (size - length xs) 0) k 0
+        let index : i ≡ length xs + k = omega arith in
+        ap (λ (j : ℕ). get_or (extended xs size) j 0) index ∙ get_or-append-add xs (replicate (size - length xs) 0) k 0
         ∙ get_or-replicate (size - length xs) k 0 0 (omega (arith, extended_long))
   ]
 

@@ -9,14 +9,14 @@ use Rattle.cfdp_transactions.specs.Pieces.{received_in}
 use Rattle.cfdp_transactions.specs.code.Pieces.{end_of}
 use Rattle.cfdp_transactions.specs.Entry.{Phase, Receiving, Awaiting, Executing, Refused, Done, Ended, Entry, awaited, gaps, gaps_in, is_live, progress, reach, reach_in}
 use Rattle.cfdp_transactions.specs.Sound.{Sound}
-use Rattle.cfdp_transactions.specs.code.TableEntries.{TableEntry, entry_in, kept_gaps, kept_gaps_in, kept_progress, kept_reach, kept_reach_in}
+use Rattle.cfdp_transactions.specs.code.TableEntries.{TableEntryFields, entry_in, kept_gaps, kept_gaps_in, kept_progress, kept_reach, kept_reach_in}
 use Rattle.cfdp_transactions.specs.code.Books.{IsBooked, world_of}
 use Rattle.cfdp_transactions.specs.declared.books.Books.{Books}
 use Rattle.cfdp_transactions.proofs.Received.PieceRanges.{gaps_are_between}
 use Rattle.cfdp_transactions.proofs.KeptTable.EntryChanged.{kept_row}
 use Rattle.cfdp_transactions.proofs.Received.Writing.{length-received}
 
-module _ (s : Store) (b : Books) (sound : Sound (world_of s b)) (booked : IsBooked s b) (k : ℕ) (r : TableEntry) (at : slice_get b.table k ≡ Some r) where
+module _ (s : Store) (b : Books) (sound : Sound (world_of s b)) (booked : IsBooked s b) (k : ℕ) (r : TableEntryFields) (at : slice_get b.table k ≡ Some r) where
   abbrev e : Entry
   e = entry_in s.filestore r
 

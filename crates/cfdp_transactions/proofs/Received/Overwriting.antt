@@ -30,7 +30,7 @@ module _ (ys : List ℕ) (a : ℕ) (p : List ℕ) (fits : a + length p ≤ lengt
   pub overwritten-behind : (i : ℕ) → a + length p ≤ i → get_or (overwritten ys a p) i 0 ≡ get_or ys i 0
   overwritten-behind i h =
       let whole : length (take a ys ++ p) ≡ a + length p = omega (arith, length-append (take a ys) p, front) in
-      let place : i ≡ length (take a ys ++ p) + (i - (a + length p)) = omega (arith, whole) in
-      ap (λ (k : ℕ). get_or (overwritten ys a p) k 0) place ∙ get_or-append-add (take a ys ++ p) (drop (a + length p) ys) (i - (a + length p)) 0
+      let index : i ≡ length (take a ys ++ p) + (i - (a + length p)) = omega (arith, whole) in
+      ap (λ (k : ℕ). get_or (overwritten ys a p) k 0) index ∙ get_or-append-add (take a ys ++ p) (drop (a + length p) ys) (i - (a + length p)) 0
       ∙ get_or-drop (a + length p) ys (i - (a + length p)) 0 ∙ ap (λ (k : ℕ). get_or ys k 0) (let e : a + length p + (i - (a + length p)) ≡ i = omega arith in
       e)

@@ -131,17 +131,17 @@ kept_at ranges xs at octets ys p some w i below = elim (cases_Bool (is_in i rang
   | inl old ↦
       let inside : i < length xs = member_below ranges (length xs) i p.within old in
       let now : is_in i (with_range at (at + length octets) ranges) ≡ true = added ∙ or_right (is_inside at (at + length octets) i) (is_in i ranges) old in
-      rw (now, (received_at 0 ranges xs i inside ∙ same_place old)) (ap (λ (x : ℕ). Some x) (w.kept i inside old))
+      rw (now, (received_at 0 ranges xs i inside ∙ same_index old)) (ap (λ (x : ℕ). Some x) (w.kept i inside old))
   | inr new ↦ rw (absent new) (elim (cases_lt i at) [
     | inl early ↦ rw (gone new (before_false at (at + length octets) i early)) (sym (brought_before at octets i early))
     | inr late ↦ elim (cases_lt i (at + length octets)) [
       | inl inside ↦
           let j : ℕ = i - at in
-          let place : i ≡ at + j = omega arith in
+          let index : i ≡ at + j = omega arith in
           let now : is_in i (with_range at (at + length octets) ranges) ≡ true = added
           ∙ or_left (is_inside at (at + length octets) i) (is_in i ranges) (inside_true at (at + length octets) i late inside) in
-          let value : get_or ys (at + j) 0 ≡ get_or octets j 0 = w.written j (omega arith) (rw (← place) new) in
-          rw now (ap (λ (k : ℕ). Some (get_or ys k 0)) place ∙ ap (λ (x : ℕ). Some x) value
+          let value : get_or ys (at + j) 0 ≡ get_or octets j 0 = w.written j (omega arith) (rw (← index) new) in
+          rw now (ap (λ (k : ℕ). Some (get_or ys k 0)) index ∙ ap (λ (x : ℕ). Some x) value
           ∙ sym (brought_there at octets i late ∙ get_there octets j (omega arith)))
       | inr past ↦ rw (gone new (behind_false at (at + length octets) i past)) (sym (brought_there at octets i late ∙ get_behind octets (i - at) (omega arith)))
     ]
@@ -154,8 +154,8 @@ kept_at ranges xs at octets ys p some w i below = elim (cases_Bool (is_in i rang
     gone : is_in i ranges ≡ false → is_inside at (at + length octets) i ≡ false → is_in i (with_range at (at + length octets) ranges) ≡ false
     gone new out = added ∙ or_from (is_inside at (at + length octets) i) (is_in i ranges) out new
 
-    same_place : is_in i ranges ≡ true → (if is_in (0 + i) ranges then Some (get_or xs i 0) else None) ≡ Some (get_or xs i 0)
-    same_place old = let z : 0 + i ≡ i = omega arith in rw (z, old) refl
+    same_index : is_in i ranges ≡ true → (if is_in (0 + i) ranges then Some (get_or xs i 0) else None) ≡ Some (get_or xs i 0)
+    same_index old = let z : 0 + i ≡ i = omega arith in rw (z, old) refl
 
     absent : is_in i ranges ≡ false → octet_at (received_in ranges xs) i ≡ None
     absent new = elim (cases_lt i (length xs)) [

@@ -19,7 +19,7 @@ use Rattle.cfdp_transactions.specs.Execution.{entry_after, step_at, step_in}
 use Rattle.cfdp_transactions.specs.code.LowerLaws.{LowerLaws}
 use Rattle.cfdp_transactions.specs.Sound.{longest, Sound}
 use Rattle.cfdp_transactions.specs.Headline.{IsCarriedOn}
-use Rattle.cfdp_transactions.proofs.Places.{get_set_other, get_set_same, set_set_same, set_get_same}
+use Rattle.cfdp_transactions.proofs.Indexes.{get_set_other, get_set_same, set_set_same, set_get_same}
 use Rattle.cfdp_transactions.proofs.Balance.{spend-even, spend-then}
 use Rattle.cfdp_transactions.proofs.Soundness.OwnChange.{Goes, MovesTo, Moves}
 use Rattle.cfdp_transactions.proofs.Soundness.Ending.{is_ending, ends_moves}

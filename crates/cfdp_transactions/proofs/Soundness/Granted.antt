@@ -43,12 +43,12 @@ pub record IsListed (n : ℕ) (items : List Item) : Type 0 where
   pub count : requests_in items ≡ n
 
 abbrev pub GoodListed : ℕ → Parsed → Type 0
-GoodListed n (Bad place) = ⊤
+GoodListed n (Bad index) = ⊤
 GoodListed n (Good items) = IsListed n items
 
 and_then_listed : (r : Option Request) (i n : ℕ) (rest : Parsed) → GoodListed n rest → GoodListed (suc n) (and_then_parsed r i rest)
 and_then_listed None i n rest h = tt
-and_then_listed (Some r) i n (Bad place) h = tt
+and_then_listed (Some r) i n (Bad index) h = tt
 and_then_listed (Some r) i n (Good items) h = record { all = (tt, h.all); count = ap suc h.count }
 
 parsed_listed : (i : ℕ) (rs : List RequestFields) → GoodListed (length rs) (parsed_from i rs)
@@ -61,7 +61,7 @@ pub record IsProposed (destination : Option (List ℕ)) (n : ℕ) (items : List 
   pub file : IsFalse (is_next_install items) → destination ≡ None
 
 abbrev pub GoodProposed : Option (List ℕ) → ℕ → Parsed → Type 0
-GoodProposed destination n (Bad place) = ⊤
+GoodProposed destination n (Bad index) = ⊤
 GoodProposed destination n (Good items) = IsProposed destination n items
 
 requests_shape : (items : List Item) → AreRequests items → AreItems items
@@ -70,12 +70,12 @@ requests_shape (Install p ∷ items) h = elim h.0 [ ]
 requests_shape (Perform request ∷ items) h = h.1
 
 without_file : (n : ℕ) (q : Parsed) → GoodListed n q → GoodProposed None n q
-without_file n (Bad place) h = tt
+without_file n (Bad index) h = tt
 without_file n (Good items) h = record { shape = requests_shape items h.all; count = h.count; file = λ _. refl }
 
 with_file_proposed : (octets : List ℕ) (p : Option Path) (n : ℕ) (q : Parsed) → GoodListed n q → GoodProposed (Some octets) n (with_file p q)
 with_file_proposed octets None n q h = tt
-with_file_proposed octets (Some p) n (Bad place) h = tt
+with_file_proposed octets (Some p) n (Bad index) h = tt
 with_file_proposed octets (Some p) n (Good items) h = record { shape = h.all; count = h.count; file = λ no. absurd cc }
 
 with_destination_proposed : (destination : Option (List ℕ)) (n : ℕ) (q : Parsed) → GoodListed n q → GoodProposed destination n (with_destination destination q)
@@ -179,7 +179,7 @@ module _ (prefixes : List Path) (F : Filestore) (leases : List (TransactionId ×
       (λ allowed. judged_just items proposed is allowed (first_failure 0 (statuses_alone prefixes F x items)) refl) (λ _. tt)
 
   verdict_of_just : (q : Parsed) → GoodProposed P.destination (length P.requests) q → IsJust (verdict_of prefixes F leases spare P q)
-  verdict_of_just (Bad place) h = tt
+  verdict_of_just (Bad index) h = tt
   verdict_of_just (Good items) h = apart_just items h (first_conflict leases (footprint_of items)) refl
 
   pub verdict_just : IsJust (verdict prefixes F leases spare P)

@@ -8,7 +8,7 @@ use Rattle.cfdp_transactions.specs.Entry.{is_live, Entry, name_of, footprint, re
 use Rattle.cfdp_transactions.specs.World.{World, spare_blocks}
 use Rattle.cfdp_transactions.specs.Admission.{with_new}
 use Rattle.cfdp_transactions.specs.Sound.{Each, IsKept, IsApart, IsHonest, Sound}
-use Rattle.cfdp_transactions.proofs.Places.{append_each, append_two, get_append, before, before_apart, behind, remove_place, remove_others, length_remove, total-append, total-remove, get_same}
+use Rattle.cfdp_transactions.proofs.Indexes.{append_each, append_two, get_append, before, before_apart, behind, remove_index, remove_others, length_remove, total-append, total-remove, get_same}
 use Rattle.cfdp_transactions.proofs.Soundness.OwnChange.{reserves_total}
 
 -- what a new entry owes: no conflict, a slot of its own, and a promise within the spare blocks
@@ -42,12 +42,12 @@ new_sound W e s a = record {
 pub taken_sound : (W : World) (k : ℕ) (e : Entry) → Sound W → slice_get W.table k ≡ Some e → IsFalse (is_live e.phase) →
     Sound (record W { table = remove W.table k })
 taken_sound W k e s at final = record {
-  covered = λ j d here. s.covered (before k j) d (sym (remove_place W.table k j) ∙ here);
-  live = λ j d here. s.live (before k j) d (sym (remove_place W.table k j) ∙ here);
-  apart = λ i j d f h g ne. s.apart (before k i) (before k j) d f (sym (remove_place W.table k i) ∙ h) (sym (remove_place W.table k j) ∙ g)
+  covered = λ j d here. s.covered (before k j) d (sym (remove_index W.table k j) ∙ here);
+  live = λ j d here. s.live (before k j) d (sym (remove_index W.table k j) ∙ here);
+  apart = λ i j d f h g ne. s.apart (before k i) (before k j) d f (sym (remove_index W.table k i) ∙ h) (sym (remove_index W.table k j) ∙ g)
       (before_apart k i j ne);
-  honest = λ j d here. s.honest (before k j) d (sym (remove_place W.table k j) ∙ here);
-  names = λ i j d f h g ne. s.names (before k i) (before k j) d f (sym (remove_place W.table k i) ∙ h) (sym (remove_place W.table k j) ∙ g)
+  honest = λ j d here. s.honest (before k j) d (sym (remove_index W.table k j) ∙ here);
+  names = λ i j d f h g ne. s.names (before k i) (before k j) d f (sym (remove_index W.table k i) ∙ h) (sym (remove_index W.table k j) ∙ g)
       (before_apart k i j ne);
   few = omega (arith, s.few, length_remove W.table k);
   slots = s.slots;
@@ -56,5 +56,5 @@ taken_sound W k e s at final = record {
       ∙ here) live);
   rooted = s.rooted;
   room = omega (arith, s.room, reserves_total W.table, reserves_total (remove W.table k), total-remove reserve W.table k e at);
-  given = λ j d here. s.given (before k j) d (sym (remove_place W.table k j) ∙ here);
+  given = λ j d here. s.given (before k j) d (sym (remove_index W.table k j) ∙ here);
 }

@@ -11,7 +11,7 @@ use Rattle.cfdp_transactions.specs.World.{World, reserves, change_at}
 use Rattle.cfdp_transactions.specs.code.LowerLaws.{LowerLaws}
 use Rattle.cfdp_transactions.specs.Sound.{IsKept, IsApart, IsHonest, IsVacant, Sound}
 use Rattle.cfdp_transactions.specs.Headline.{IsCarriedOn}
-use Rattle.cfdp_transactions.proofs.Places.{set_each, set_two, total, total-set, get_set_other, get_set_same, get_same}
+use Rattle.cfdp_transactions.proofs.Indexes.{set_each, set_two, total, total-set, get_set_other, get_set_same, get_same}
 use Rattle.cfdp_transactions.proofs.SlotChanges.{IsInSlot, after-slots, after-elsewhere}
 use Rattle.cfdp_transactions.proofs.Soundness.LeftAlone.{kept_alike}
 

@@ -46,13 +46,13 @@ of_action action.DenyDirectory (Some p) q = refl
 
 -- the items' actions are the requests', in order
 abbrev InOrder : List RequestFields → Parsed → Type 0
-InOrder rs (Bad place) = ⊤
+InOrder rs (Bad index) = ⊤
 InOrder rs (Good items) = successes items ≡ all_successful rs
 
 and_then_order : (f : RequestFields) (rs : List RequestFields) (r : Option Request) (i : ℕ) (rest : Parsed) → IsOfAction f.action r → InOrder rs rest →
     InOrder (f ∷ rs) (and_then_parsed r i rest)
 and_then_order f rs None i rest own h = tt
-and_then_order f rs (Some r) i (Bad place) own h = tt
+and_then_order f rs (Some r) i (Bad index) own h = tt
 and_then_order f rs (Some r) i (Good items) own h = rw (own, h) refl
 
 from_order : (i : ℕ) (rs : List RequestFields) → InOrder rs (parsed_from i rs)
@@ -62,7 +62,7 @@ from_order i (r ∷ rs) = and_then_order r rs (request_by r) i (parsed_from (i +
 
 file_order : (p : Option Path) (rs : List RequestFields) (q : Parsed) → InOrder rs q → InOrder rs (with_file p q)
 file_order None rs q h = tt
-file_order (Some p) rs (Bad place) h = tt
+file_order (Some p) rs (Bad index) h = tt
 file_order (Some p) rs (Good items) h = h
 
 destination_order : (destination : Option (List ℕ)) (rs : List RequestFields) (q : Parsed) → InOrder rs q → InOrder rs (with_destination destination q)
@@ -93,7 +93,7 @@ module _ (prefixes : List Path) (F : Filestore) (leases : List (TransactionId ×
       (λ _ granted b s q. absurd cc)
 
   granted_of : (q : Parsed) (items : List Item) (blocks steps : ℕ) → verdict_of prefixes F leases spare P q ≡ Grant items blocks steps → q ≡ Good items
-  granted_of (Bad place) items b s h = absurd cc
+  granted_of (Bad index) items b s h = absurd cc
   granted_of (Good there) items b s h = ap Good (sym (apart_of there _ items b s h))
 
   pub granted_parsed : (items : List Item) (blocks steps : ℕ) → verdict prefixes F leases spare P ≡ Grant items blocks steps → parsed P ≡ Good items

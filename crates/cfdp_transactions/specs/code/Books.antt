@@ -28,7 +28,7 @@ use Rattle.cfdp_transactions.specs.Received.{kept_with, pieces}
 use Rattle.cfdp_transactions.specs.Events.{Reply}
 use Rattle.cfdp_transactions.specs.Ending.{ends}
 use Rattle.cfdp_transactions.specs.Delivery.{limit, stores, turns}
-use Rattle.cfdp_transactions.specs.code.TableEntries.{TableEntry, table_of}
+use Rattle.cfdp_transactions.specs.code.TableEntries.{TableEntryFields, table_of}
 use Rattle.cfdp_transactions.specs.declared.books.Books.{Books}
 
 abbrev pub world_of : Store → Books → World
@@ -45,7 +45,7 @@ pub record AreAllOf (ranges : Ranges) (xs : List ℕ) : Type 0 where
   pub pieces : ArePieces ranges xs
   pub to_end : end_of ranges ≡ length xs
 
-abbrev pub ArePiecesIn : Filestore → TableEntry → Type 0
+abbrev pub ArePiecesIn : Filestore → TableEntryFields → Type 0
 ArePiecesIn F r = IsTrue (is_live r.phase) → AreAllOf r.ranges (staged_in F r.slot)
 
 pub record IsBooked (s : Store) (b : Books) : Type 0 where
@@ -53,7 +53,7 @@ pub record IsBooked (s : Store) (b : Books) : Type 0 where
   pub budget : FitsBudget b.quota (world_of s b)
   pub capacity : s.capacity ≡ b.config.blocks
   pub few : b.config.blocks ≤ 65536
-  pub pieces : (k : ℕ) (r : TableEntry) → slice_get b.table k ≡ Some r → ArePiecesIn s.filestore r
+  pub pieces : (k : ℕ) (r : TableEntryFields) → slice_get b.table k ≡ Some r → ArePiecesIn s.filestore r
 
 abbrev pub IsLiveAt : World → ℕ → Type 0
 IsLiveAt W k = (e : Entry) × (slice_get W.table k ≡ Some e) × IsTrue (is_live e.phase)

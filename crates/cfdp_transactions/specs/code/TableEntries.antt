@@ -1,9 +1,9 @@
 -- Transactions as the program keeps them: received octets are ranges, whose octets lie in the filestore, and statuses
 -- are a number, since each request that was performed was successful.
---     TableEntry                a transaction of the program's table
+--     TableEntryFields          a transaction of the program's table
 --     received_by F r           what was received, by its ranges and what is staged in its slot
 --     entry_in F r, table_of    the entry that it is, over a filestore;  all of them
---     kept_name, kept_place     its name;  where a transaction is in the table: the length where it is not there
+--     kept_name, kept_index     its name;  where a transaction is in the table: the length where it is not there
 --     first_executing           the first one in Executing
 --     first_entry_over          the first one that is over
 --     kept_progress, kept_reach, kept_reach_in  the end of its last octet;  up to where its gaps say, by its phase
@@ -26,7 +26,7 @@ use Rattle.cfdp_transactions.specs.code.Pieces.{end_of}
 use Rattle.cfdp_transactions.specs.Entry.{Phase, Receiving, Awaiting, Executing, Done, Ended, awaited, is_live, is_executing, id_of, Entry, spend}
 use Rattle.cfdp_transactions.specs.Sound.{all_successful}
 
-pub record TableEntry : Type 0 where
+pub record TableEntryFields : Type 0 where
   pub header : Header
   pub metadata : MetadataFields
   pub phase : Phase
@@ -44,10 +44,10 @@ pub record TableEntry : Type 0 where
   pub steps_spent : ℕ
 
 -- nothing, once it is no longer live
-abbrev pub received_by : Filestore → TableEntry → Received
+abbrev pub received_by : Filestore → TableEntryFields → Received
 received_by F r = if is_live r.phase then received_in r.ranges (staged_in F r.slot) else []
 
-abbrev pub entry_in : Filestore → TableEntry → Entry
+abbrev pub entry_in : Filestore → TableEntryFields → Entry
 entry_in F r = record {
   header = r.header;
   metadata = r.metadata;
@@ -66,44 +66,44 @@ entry_in F r = record {
   steps_spent = r.steps_spent;
 }
 
-abbrev pub table_of : Filestore → List TableEntry → List Entry
+abbrev pub table_of : Filestore → List TableEntryFields → List Entry
 table_of F rows = map (entry_in F) rows
 
-abbrev pub kept_name : TableEntry → TransactionId
+abbrev pub kept_name : TableEntryFields → TransactionId
 kept_name r = id_of r.header
 
-abbrev pub kept_place : TransactionId → List TableEntry → ℕ
-kept_place id [] = 0
-kept_place id (r ∷ rs) = if is_same (kept_name r) id then 0 else suc (kept_place id rs)
+abbrev pub kept_index : TransactionId → List TableEntryFields → ℕ
+kept_index id [] = 0
+kept_index id (r ∷ rs) = if is_same (kept_name r) id then 0 else suc (kept_index id rs)
 
-abbrev pub first_executing : List TableEntry → Option TransactionId
+abbrev pub first_executing : List TableEntryFields → Option TransactionId
 first_executing [] = None
 first_executing (r ∷ rs) = if is_executing r.phase then Some (kept_name r) else first_executing rs
 
-abbrev pub first_entry_over : List TableEntry → Option TransactionId
+abbrev pub first_entry_over : List TableEntryFields → Option TransactionId
 first_entry_over [] = None
 first_entry_over (r ∷ rs) = if is_live r.phase then first_entry_over rs else Some (kept_name r)
 
-abbrev pub kept_progress : TableEntry → ℕ
+abbrev pub kept_progress : TableEntryFields → ℕ
 kept_progress r = if is_live r.phase then end_of r.ranges else 0
 
-abbrev pub kept_reach_in : Phase → TableEntry → ℕ
+abbrev pub kept_reach_in : Phase → TableEntryFields → ℕ
 kept_reach_in Receiving r = end_of r.ranges
 kept_reach_in (Awaiting checks) r = awaited r.eof
 kept_reach_in phase r = 0
 
-abbrev pub kept_reach : TableEntry → ℕ
+abbrev pub kept_reach : TableEntryFields → ℕ
 kept_reach r = kept_reach_in r.phase r
 
-abbrev pub kept_gaps_in : Phase → TableEntry → Ranges
+abbrev pub kept_gaps_in : Phase → TableEntryFields → Ranges
 kept_gaps_in Receiving r = between 0 r.ranges (end_of r.ranges)
 kept_gaps_in (Awaiting checks) r = between 0 r.ranges (awaited r.eof)
 kept_gaps_in phase r = []
 
-abbrev pub kept_gaps : TableEntry → Ranges
+abbrev pub kept_gaps : TableEntryFields → Ranges
 kept_gaps r = kept_gaps_in r.phase r
 
-abbrev pub fresh_entry : Header → MetadataFields → Phase → ℕ → List Item → ℕ → ℕ → TableEntry
+abbrev pub fresh_entry : Header → MetadataFields → Phase → ℕ → List Item → ℕ → ℕ → TableEntryFields
 fresh_entry h m phase slot items blocks steps = record {
   header = h;
   metadata = m;
@@ -123,7 +123,7 @@ fresh_entry h m phase slot items blocks steps = record {
 }
 
 -- the blocks of what was staged are given back
-abbrev pub entry_ended : TableEntry → ℕ → Bool → ℕ → TableEntry
+abbrev pub entry_ended : TableEntryFields → ℕ → Bool → ℕ → TableEntryFields
 entry_ended r condition by_eof given = record r {
   phase = Ended condition;
   ended_by_eof = r.ended_by_eof || by_eof;
@@ -131,18 +131,19 @@ entry_ended r condition by_eof given = record r {
   blocks_spent = spend r.blocks_spent 0 given;
 }
 
-abbrev pub entry_turned : TableEntry → Phase → Option Eof → Bool → TableEntry
+abbrev pub entry_turned : TableEntryFields → Phase → Option Eof → Bool → TableEntryFields
 entry_turned r phase eof complete = record r { phase = phase; eof = eof; complete = complete }
 
 -- the octets of a range were staged, for which this many blocks were taken
-abbrev pub entry_stored : TableEntry → (start end taken : ℕ) → TableEntry
+abbrev pub entry_stored : TableEntryFields → (start end taken : ℕ) → TableEntryFields
 entry_stored r start end taken = record r {
   ranges = with_range start end r.ranges;
   blocks_spent = spend r.blocks_spent taken 0;
 }
 
 -- its item `next` went well: it was the install, or a request; the free blocks were this many before and after
-abbrev pub entry_stepped : TableEntry → (next : ℕ) (last install : Bool) (before after ticks : ℕ) → TableEntry
+abbrev pub entry_stepped : TableEntryFields → (next : ℕ) (last install : Bool) (before after ticks : ℕ) →
+    TableEntryFields
 entry_stepped r next last install before after ticks = record r {
   phase = if last then Done else Executing (suc next);
   installed = r.installed || install;

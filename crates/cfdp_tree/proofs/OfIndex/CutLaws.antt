@@ -10,7 +10,7 @@ use Rattle.std.proofs.lemmas.Bool.{cases_eq, eq-eqb, ne_eqb}
 use Rattle.std.proofs.lemmas.List.Elements.{All-contains}
 use Rattle.std.specs.Prelude.{All, AllPairs, Contains, not}
 use Rattle.cfdp_arena.specs.Arena.{Blocks}
-use Rattle.cfdp_tree.specs.declared.index.Head.{Head}
+use Rattle.cfdp_tree.specs.declared.index.ListHead.{ListHead}
 use Rattle.cfdp_tree.specs.code.Tree.{IsNode, node_fields_at}
 use Rattle.cfdp_tree.specs.code.Index.{index_chain, list_of, without_node}
 use Rattle.cfdp_tree.proofs.OfIndex.IndexLaws.{chain_some, has_longer, own_first, rest_has, has_later, has_first, once_first, kept_chain}
@@ -105,7 +105,7 @@ module _ (old : Blocks) (p b : ℕ) (before : (node_fields_at old p).same_head �
     ]
 
 -- a node that is not the last one of a list is in it
-module _ (nodes : Blocks) (head : Head) (p : ℕ) (there : Contains (index_chain nodes (head.listed - 1) head.first) p) where
+module _ (nodes : Blocks) (head : ListHead) (p : ℕ) (there : Contains (index_chain nodes (head.listed - 1) head.first) p) where
   pub in_list : Contains (list_of nodes head) p
   in_list =
       let some = chain_some nodes (head.listed - 1) head.first p there in

@@ -13,7 +13,7 @@ use Rattle.std.proofs.lemmas.List.Sums.{sum_by-set}
 use Rattle.std.proofs.lemmas.Bool.{cases_eq}
 use Rattle.std.specs.Prelude.{All, AllPairs, Contains}
 use Rattle.cfdp_arena.specs.Arena.{Blocks, live_count}
-use Rattle.cfdp_tree.specs.declared.index.Head.{Head}
+use Rattle.cfdp_tree.specs.declared.index.ListHead.{ListHead}
 use Rattle.cfdp_tree.specs.code.Tree.{node_fields_at}
 use Rattle.cfdp_tree.specs.code.Index.{Heads, index_chain, no_head, list_of, head_count, HasHead, IsHead, count_out, IsIndex}
 use Rattle.cfdp_tree.proofs.OfIndex.IndexLaws.{once_first}
@@ -36,10 +36,10 @@ pub length_chain : (nodes : Blocks) (n b : ℕ) → length (index_chain nodes n 
 length_chain nodes zero b = refl
 length_chain nodes (suc n) b = ap suc (length_chain nodes n (node_fields_at nodes b).same_head)
 
-pub head_here : (heads : Heads) (k : ℕ) (head : Head) → k < length heads → head ≡ get_or heads k head → get_or heads k no_head ≡ head
+pub head_here : (heads : Heads) (k : ℕ) (head : ListHead) → k < length heads → head ≡ get_or heads k head → get_or heads k no_head ≡ head
 head_here heads k head within is = get_or_default heads k no_head head within ∙ sym is
 
-module _ (old new : Blocks) (was now : Option ℕ) (n k : ℕ) (head : Head) (list : list_of new head ≡ list_of old head)
+module _ (old new : Blocks) (was now : Option ℕ) (n k : ℕ) (head : ListHead) (list : list_of new head ≡ list_of old head)
     (stays : (c : ℕ) → HasHead old was n k c → HasHead new now n k c) (stood : (c : ℕ) → HasHead new now n k c → HasHead old was n k c) where
   pub head_kept : IsHead old was n k head → IsHead new now n k head
   head_kept is =
@@ -54,7 +54,7 @@ module _ (old new : Blocks) (was now : Option ℕ) (n k : ℕ) (head : Head) (li
         all = (λ b has. subst (λ xs. Contains xs b) (sym nodes) (is.all b (stood b has)));
       }
 
-module _ (old new : Blocks) (was now : Option ℕ) (heads : Heads) (k : ℕ) (within : k < length heads) (head : Head) (index : IsIndex old heads was)
+module _ (old new : Blocks) (was now : Option ℕ) (heads : Heads) (k : ℕ) (within : k < length heads) (head : ListHead) (index : IsIndex old heads was)
     (here : IsHead new now (length heads) k head)
     (others : (j : ℕ) → j < length heads → j ≢ k → IsHead new now (length heads) j (get_or heads j no_head))
     (counts : head_count head + count_out now + live_count old ≡ head_count (get_or heads k no_head) + count_out was + live_count new) where
@@ -74,5 +74,5 @@ module _ (old new : Blocks) (was now : Option ℕ) (heads : Heads) (k : ℕ) (wi
       record {
         some = omega (arith, long, index.some);
         each = (λ j inside. subst (λ n. IsHead new now n j (get_or after j no_head)) (sym long) (each_at j (omega (arith, inside, long))));
-        counted = omega (arith, sum_by-set (λ (h : Head). head_count h) heads k head no_head within, counts, index.counted);
+        counted = omega (arith, sum_by-set (λ (h : ListHead). head_count h) heads k head no_head within, counts, index.counted);
       }

@@ -23,11 +23,11 @@ pub own_first : (P : ℕ → Type 0) (b : ℕ) (rest : List ℕ) → All P (b �
 own_first P b rest all = all 0 b (omega arith)
 
 pub rest_has : (b : ℕ) (rest : List ℕ) (c : ℕ) → Contains (b ∷ rest) c → b ≢ c → Contains rest c
-rest_has b rest c has other = at_place has.0 has.1 has.2
+rest_has b rest c has other = at_index has.0 has.1 has.2
   where
-    at_place : (k : ℕ) → k < length (b ∷ rest) → get_or (b ∷ rest) k c ≡ c → Contains rest c
-    at_place zero within e = absurd (other e)
-    at_place (suc k) within e = (k, omega arith, e)
+    at_index : (k : ℕ) → k < length (b ∷ rest) → get_or (b ∷ rest) k c ≡ c → Contains rest c
+    at_index zero within e = absurd (other e)
+    at_index (suc k) within e = (k, omega arith, e)
 
 pub no_entry : {b : Bool} → IsTrue b → b ≡ false → ⊥
 no_entry is not = cc

@@ -8,11 +8,11 @@ use Rattle.std.proofs.lemmas.List.Kept.{AllPairs-cons}
 use Rattle.std.proofs.lemmas.Bool.{cases_eq}
 use Rattle.std.specs.Prelude.{All, AllPairs, Contains, unwrap_or}
 use Rattle.cfdp_arena.specs.Arena.{Blocks, with_block}
-use Rattle.cfdp_tree.specs.declared.index.Head.{Head}
+use Rattle.cfdp_tree.specs.declared.index.ListHead.{ListHead}
 use Rattle.cfdp_tree.specs.code.NodeFields.{node_fields_of, node_name}
 use Rattle.cfdp_tree.specs.code.Tree.{IsNode, name_at, home_in, home}
-use Rattle.cfdp_tree.specs.code.Index.{Heads, head_place, index_chain, no_head, list_of, head_count, HasHead, IsHead, IsIndex}
-use Rattle.cfdp_tree.proofs.OfNodes.PlaceLaws.{kept_by}
+use Rattle.cfdp_tree.specs.code.Index.{Heads, bucket_of, index_chain, no_head, list_of, head_count, HasHead, IsHead, IsIndex}
+use Rattle.cfdp_tree.proofs.OfNodes.EntryLaws.{kept_by}
 use Rattle.cfdp_tree.proofs.OfNodes.LinkLaws.{next_here, next_other}
 use Rattle.cfdp_tree.proofs.OfIndex.IndexLaws.{chain_more, has_later, has_first, kept_chain}
 use Rattle.cfdp_tree.proofs.OfIndex.HeadLaws.{once_last, head_kept, index_set}
@@ -31,19 +31,19 @@ module _ (nodes : Blocks) (n b : ℕ) where
   apart j xs own i d less e = (own i d less).inside (ap Some e)
 
   within_now : (j c : ℕ) → HasHead nodes (Some b) n j c → HasHead nodes None n j c
-  within_now j c was = record { node = was.node; place = was.place; inside = none_some }
+  within_now j c was = record { node = was.node; bucket = was.bucket; inside = none_some }
 
   within_then : (j c : ℕ) → c ≢ b → HasHead nodes None n j c → HasHead nodes (Some b) n j c
-  within_then j c other has = record { node = has.node; place = has.place; inside = (λ e. other (sym (some_same e))) }
+  within_then j c other has = record { node = has.node; bucket = has.bucket; inside = (λ e. other (sym (some_same e))) }
 
   -- of another head
-  other_head : (j c k : ℕ) → head_place (home nodes b) (name_at nodes b) n ≡ k → j ≢ k → HasHead nodes None n j c → c ≢ b
-  other_head j c k place other has e =
-      other (sym has.place ∙ ap (λ x. head_place (home nodes x) (name_at nodes x) n) e ∙ place)
+  other_head : (j c k : ℕ) → bucket_of (home nodes b) (name_at nodes b) n ≡ k → j ≢ k → HasHead nodes None n j c → c ≢ b
+  other_head j c k bucket other has e =
+      other (sym has.bucket ∙ ap (λ x. bucket_of (home nodes x) (name_at nodes x) n) e ∙ bucket)
 
 module _ (nodes : Blocks) (heads : Heads) (b k : ℕ) (within : k < length heads) (index : IsIndex nodes heads (Some b)) (node : IsNode nodes b)
-    (place : head_place (home nodes b) (name_at nodes b) (length heads) ≡ k) (head : Head) (head_is : head ≡ get_or heads k no_head) where
-  abbrev more : Head
+    (bucket : bucket_of (home nodes b) (name_at nodes b) (length heads) ≡ k) (head : ListHead) (head_is : head ≡ get_or heads k no_head) where
+  abbrev more : ListHead
   more = record { first = head.first; listed = head.listed; unlisted = head.unlisted + 1 }
 
   is_head : IsHead nodes (Some b) (length heads) k head
@@ -56,7 +56,7 @@ module _ (nodes : Blocks) (heads : Heads) (b k : ℕ) (within : k < length heads
   nodes_beside = sym (append_assoc (list_of nodes head) is_head.rest (b ∷ []))
 
   here : HasHead nodes None (length heads) k b
-  here = record { node = node; place = place; inside = none_some }
+  here = record { node = node; bucket = bucket; inside = none_some }
 
   has_all : (c : ℕ) → HasHead nodes None (length heads) k c → Contains (before ++ b ∷ []) c
   has_all c has = elim (cases_eq c b) [
@@ -82,9 +82,9 @@ module _ (nodes : Blocks) (heads : Heads) (b k : ℕ) (within : k < length heads
       index_set nodes nodes (Some b) None heads k within more index head_beside
       (λ j inside other. head_kept nodes nodes (Some b) None (length heads) j (get_or heads j no_head) refl
       (λ c has. within_now nodes (length heads) b j c has)
-      (λ c has. within_then nodes (length heads) b j c (other_head nodes (length heads) b j c k place other has) has)
+      (λ c has. within_then nodes (length heads) b j c (other_head nodes (length heads) b j c k bucket other has) has)
       (index.each j inside))
-      (omega (arith, ap (λ (h : Head). head_count h) head_is))
+      (omega (arith, ap (λ (h : ListHead). head_count h) head_is))
 
   -- it is written into its block which node is the next one of the list
   module _ (block : List ℕ) (room : head.listed < 8) (link : (node_fields_of block).same_head ≡ head.first) (there : home_in b block ≡ home nodes b)
@@ -92,7 +92,7 @@ module _ (nodes : Blocks) (heads : Heads) (b k : ℕ) (within : k < length heads
     abbrev new : Blocks
     new = with_block nodes b block
 
-    abbrev first : Head
+    abbrev first : ListHead
     first = record { first = b; listed = head.listed + 1; unlisted = head.unlisted }
 
     somes : (c : ℕ) → is_some (get_or new c None) ≡ is_some (get_or nodes c None)
@@ -104,21 +104,21 @@ module _ (nodes : Blocks) (heads : Heads) (b k : ℕ) (within : k < length heads
     names : (c : ℕ) → name_at new c ≡ name_at nodes c
     names = kept_by nodes b block node (λ c entry. node_name (unwrap_or entry [])) name
 
-    places : (c : ℕ) → head_place (home new c) (name_at new c) (length heads) ≡ head_place (home nodes c) (name_at nodes c) (length heads)
-    places c = (λ i. head_place (homes c i) (names c i) (length heads))
+    buckets : (c : ℕ) → bucket_of (home new c) (name_at new c) (length heads) ≡ bucket_of (home nodes c) (name_at nodes c) (length heads)
+    buckets c = (λ i. bucket_of (homes c i) (names c i) (length heads))
 
     stays : (j c : ℕ) → HasHead nodes (Some b) (length heads) j c → HasHead new None (length heads) j c
-    stays j c was = record { node = somes c ∙ was.node; place = places c ∙ was.place; inside = none_some }
+    stays j c was = record { node = somes c ∙ was.node; bucket = buckets c ∙ was.bucket; inside = none_some }
 
     stood : (j c : ℕ) → c ≢ b → HasHead new None (length heads) j c → HasHead nodes (Some b) (length heads) j c
     stood j c other has = record {
       node = sym (somes c) ∙ has.node;
-      place = sym (places c) ∙ has.place;
+      bucket = sym (buckets c) ∙ has.bucket;
       inside = (λ e. other (sym (some_same e)));
     }
 
     -- the list of a head as it was
-    kept_list : (j : ℕ) (h : Head) → IsHead nodes (Some b) (length heads) j h → list_of new h ≡ list_of nodes h
+    kept_list : (j : ℕ) (h : ListHead) → IsHead nodes (Some b) (length heads) j h → list_of new h ≡ list_of nodes h
     kept_list j h is =
         kept_chain nodes new b (next_other nodes b block node) h.listed h.first
         (apart nodes (length heads) b j (list_of nodes h) (All_front (HasHead nodes (Some b) (length heads) j) (list_of nodes h) is.rest is.own))
@@ -133,7 +133,7 @@ module _ (nodes : Blocks) (heads : Heads) (b k : ℕ) (within : k < length heads
     nodes_here = ap (λ xs. xs ++ is_head.rest) list_here
 
     here_listed : HasHead new None (length heads) k b
-    here_listed = record { node = somes b ∙ node; place = places b ∙ place; inside = none_some }
+    here_listed = record { node = somes b ∙ node; bucket = buckets b ∙ bucket; inside = none_some }
 
     has_listed : (c : ℕ) → HasHead new None (length heads) k c → Contains (b ∷ before) c
     has_listed c has = elim (cases_eq c b) [
@@ -156,7 +156,7 @@ module _ (nodes : Blocks) (heads : Heads) (b k : ℕ) (within : k < length heads
 
     other_node : (j c : ℕ) → j ≢ k → HasHead new None (length heads) j c → c ≢ b
     other_node j c other has e =
-        other (sym has.place ∙ places c ∙ ap (λ x. head_place (home nodes x) (name_at nodes x) (length heads)) e ∙ place)
+        other (sym has.bucket ∙ buckets c ∙ ap (λ x. bucket_of (home nodes x) (name_at nodes x) (length heads)) e ∙ bucket)
 
     pub inserted : IsIndex new (set heads k first) None
     inserted =
@@ -164,4 +164,4 @@ module _ (nodes : Blocks) (heads : Heads) (b k : ℕ) (within : k < length heads
         (λ j inside other. head_kept nodes new (Some b) None (length heads) j (get_or heads j no_head)
         (kept_list j (get_or heads j no_head) (index.each j inside)) (λ c has. stays j c has)
         (λ c has. stood j c (other_node j c other has) has) (index.each j inside))
-        (omega (arith, live_count-written nodes b block node, ap (λ (h : Head). head_count h) head_is))
+        (omega (arith, live_count-written nodes b block node, ap (λ (h : ListHead). head_count h) head_is))

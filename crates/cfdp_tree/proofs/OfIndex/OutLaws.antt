@@ -7,11 +7,11 @@ use Rattle.std.proofs.lemmas.List.{get_or-set_same, get_or-set_other, length-map
 use Rattle.std.specs.Prelude.{IsSome, unwrap_or}
 use Rattle.cfdp_arena.specs.Arena.{Blocks, octets_at, octets_of, with_block, without_block, live_count}
 use Rattle.cfdp_arena.proofs.Chains.{live_within}
-use Rattle.cfdp_tree.specs.declared.index.Head.{Head}
+use Rattle.cfdp_tree.specs.declared.index.ListHead.{ListHead}
 use Rattle.cfdp_tree.specs.code.NodeFields.{node_fields_of, node_name}
 use Rattle.cfdp_tree.specs.code.Nodes.{only_node, nodes_in}
-use Rattle.cfdp_tree.specs.code.Tree.{IsNode, node_fields_at, name_at, home_in, home, SamePlaces}
-use Rattle.cfdp_tree.specs.code.Index.{Heads, head_place, index_chain, no_head, list_of, count_out, HasHead, IsHead, IsIndex}
+use Rattle.cfdp_tree.specs.code.Tree.{IsNode, node_fields_at, name_at, home_in, home, SameEntries}
+use Rattle.cfdp_tree.specs.code.Index.{Heads, bucket_of, index_chain, no_head, list_of, count_out, HasHead, IsHead, IsIndex}
 use Rattle.cfdp_tree.proofs.OfRuns.Counts.{live_count-taken, live_count-same}
 use Rattle.cfdp_tree.proofs.OfIndex.IndexLaws.{kept_chain}
 use Rattle.cfdp_tree.proofs.OfIndex.HeadLaws.{head_kept}
@@ -26,8 +26,8 @@ module _ (old new : Blocks) (b : ℕ) (heads : Heads) (was now : Option ℕ) (ot
   octets_other : (c : ℕ) → c ≢ b → octets_of new c ≡ octets_of old c
   octets_other c other = ap (λ entry. unwrap_or entry []) (others c other)
 
-  same_place : (c : ℕ) → c ≢ b → head_place (home new c) (name_at new c) (length heads) ≡ head_place (home old c) (name_at old c) (length heads)
-  same_place c other = ap (λ block. head_place (home_in c block) (node_name block) (length heads)) (octets_other c other)
+  same_bucket : (c : ℕ) → c ≢ b → bucket_of (home new c) (name_at new c) (length heads) ≡ bucket_of (home old c) (name_at old c) (length heads)
+  same_bucket c other = ap (λ block. bucket_of (home_in c block) (node_name block) (length heads)) (octets_other c other)
 
   links_other : (c : ℕ) → b ≢ c → (node_fields_at new c).same_head ≡ (node_fields_at old c).same_head
   links_other c other = ap (λ block. (node_fields_of block).same_head) (octets_other c (λ e. other (sym e)))
@@ -35,7 +35,7 @@ module _ (old new : Blocks) (b : ℕ) (heads : Heads) (was now : Option ℕ) (ot
   head_other : (k c : ℕ) → HasHead old was (length heads) k c → c ≢ b
   head_other k c has e = has.inside (was_out (subst (IsNode old) e has.node) ∙ ap Some (sym e))
 
-  list_same : (k : ℕ) (head : Head) → IsHead old was (length heads) k head → list_of new head ≡ list_of old head
+  list_same : (k : ℕ) (head : ListHead) → IsHead old was (length heads) k head → list_of new head ≡ list_of old head
   list_same k head is =
       let listed = All_front (HasHead old was (length heads) k) (list_of old head) is.rest is.own in
       kept_chain old new b links_other head.listed head.first
@@ -44,12 +44,12 @@ module _ (old new : Blocks) (b : ℕ) (heads : Heads) (was now : Option ℕ) (ot
   stays : (k c : ℕ) → HasHead old was (length heads) k c → HasHead new now (length heads) k c
   stays k c has =
       let other = head_other k c has in
-      record { node = subst IsSome (sym (others c other)) has.node; place = same_place c other ∙ has.place; inside = no_other c other }
+      record { node = subst IsSome (sym (others c other)) has.node; bucket = same_bucket c other ∙ has.bucket; inside = no_other c other }
 
   stood : (k c : ℕ) → HasHead new now (length heads) k c → HasHead old was (length heads) k c
   stood k c has =
       let other : c ≢ b = λ e. has.inside (now_out (subst (IsNode new) e has.node) ∙ ap Some (sym e)) in
-      record { node = subst IsSome (others c other) has.node; place = sym (same_place c other) ∙ has.place; inside = was_no_other c other }
+      record { node = subst IsSome (others c other) has.node; bucket = sym (same_bucket c other) ∙ has.bucket; inside = was_no_other c other }
 
   index_out : IsIndex new heads now
   index_out = record {
@@ -86,24 +86,24 @@ index_deleted old heads b node index =
 pub nodes_long : (arena later : Blocks) → length later ≡ length arena → length (nodes_in later) ≡ length (nodes_in arena)
 nodes_long arena later long = length-map later only_node ∙ long ∙ sym (length-map arena only_node)
 
-module _ (old new : Blocks) (heads : Heads) (out : Option ℕ) (places : SamePlaces old new) (same_heads : (b : ℕ) → (node_fields_at new b).same_head
+module _ (old new : Blocks) (heads : Heads) (out : Option ℕ) (buckets : SameEntries old new) (same_heads : (b : ℕ) → (node_fields_at new b).same_head
     ≡ (node_fields_at old b).same_head)
     (long : length new ≡ length old) (index : IsIndex old heads out) where
   live : live_count new ≡ live_count old
-  live = live_count-same new old long places.nodes
+  live = live_count-same new old long buckets.nodes
 
   chain_same : (n x : ℕ) → index_chain new n x ≡ index_chain old n x
   chain_same zero x = refl
   chain_same (suc n) x = ap (λ y. x ∷ index_chain new n y) (same_heads x) ∙ ap (λ rest. x ∷ rest) (chain_same n (node_fields_at old x).same_head)
 
-  place_kept : (c : ℕ) → head_place (home new c) (name_at new c) (length heads) ≡ head_place (home old c) (name_at old c) (length heads)
-  place_kept c = (λ i. head_place (places.homes c i) (places.names c i) (length heads))
+  bucket_kept : (c : ℕ) → bucket_of (home new c) (name_at new c) (length heads) ≡ bucket_of (home old c) (name_at old c) (length heads)
+  bucket_kept c = (λ i. bucket_of (buckets.homes c i) (buckets.names c i) (length heads))
 
   still : (k c : ℕ) → HasHead old out (length heads) k c → HasHead new out (length heads) k c
-  still k c has = record { node = places.nodes c ∙ has.node; place = place_kept c ∙ has.place; inside = has.inside }
+  still k c has = record { node = buckets.nodes c ∙ has.node; bucket = bucket_kept c ∙ has.bucket; inside = has.inside }
 
   already : (k c : ℕ) → HasHead new out (length heads) k c → HasHead old out (length heads) k c
-  already k c has = record { node = sym (places.nodes c) ∙ has.node; place = sym (place_kept c) ∙ has.place; inside = has.inside }
+  already k c has = record { node = sym (buckets.nodes c) ∙ has.node; bucket = sym (bucket_kept c) ∙ has.bucket; inside = has.inside }
 
   pub index_kept : IsIndex new heads out
   index_kept = record {

@@ -7,20 +7,20 @@ use Rattle.std.proofs.lemmas.List.Kept.{AllPairs-filter}
 use Rattle.std.proofs.lemmas.Bool.{eq-eqb}
 use Rattle.std.specs.Prelude.{◌==◌, not, All, AllPairs, Contains}
 use Rattle.cfdp_arena.specs.Arena.{Blocks, live_count}
-use Rattle.cfdp_tree.specs.declared.index.Head.{Head}
-use Rattle.cfdp_tree.specs.code.Tree.{IsNode, name_at, home, SamePlaces}
-use Rattle.cfdp_tree.specs.code.Index.{Heads, head_place, no_head, list_of, without_node, head_count, HasHead, IsHead, IsIndex}
+use Rattle.cfdp_tree.specs.declared.index.ListHead.{ListHead}
+use Rattle.cfdp_tree.specs.code.Tree.{IsNode, name_at, home, SameEntries}
+use Rattle.cfdp_tree.specs.code.Index.{Heads, bucket_of, no_head, list_of, without_node, head_count, HasHead, IsHead, IsIndex}
 use Rattle.cfdp_tree.proofs.OfIndex.CutLaws.{without_has, length_without}
 use Rattle.cfdp_tree.proofs.OfIndex.HeadLaws.{length_chain, head_kept, index_set}
 use Rattle.cfdp_tree.proofs.OfIndex.InsertLaws.{none_some, some_same}
 
-module _ (nodes new : Blocks) (heads : Heads) (b k : ℕ) (within : k < length heads) (index : IsIndex nodes heads None) (node : IsNode nodes b) (head : Head)
-    (place : head_place (home nodes b) (name_at nodes b) (length heads) ≡ k) (same : SamePlaces nodes new) (small : head.first < 65536)
+module _ (nodes new : Blocks) (heads : Heads) (b k : ℕ) (within : k < length heads) (index : IsIndex nodes heads None) (node : IsNode nodes b) (head : ListHead)
+    (bucket : bucket_of (home nodes b) (name_at nodes b) (length heads) ≡ k) (same : SameEntries nodes new) (small : head.first < 65536)
     (here : list_of new head ≡ without_node b (list_of nodes (get_or heads k no_head)))
     (others : (j : ℕ) → j < length heads → j ≢ k → list_of new (get_or heads j no_head) ≡ list_of nodes (get_or heads j no_head))
     (fewer : head.listed ≤ (get_or heads k no_head).listed) (count : head_count head + 1 ≡ head_count (get_or heads k no_head))
     (live : live_count new ≡ live_count nodes) where
-  abbrev was : Head
+  abbrev was : ListHead
   was = get_or heads k no_head
 
   is_head : IsHead nodes None (length heads) k was
@@ -32,14 +32,14 @@ module _ (nodes new : Blocks) (heads : Heads) (b k : ℕ) (within : k < length h
   nodes_here : list_of new head ++ without_node b is_head.rest ≡ without_node b before
   nodes_here = ap (λ xs. xs ++ without_node b is_head.rest) here ∙ sym (filter-append (λ c. not (c == b)) (list_of nodes was) is_head.rest)
 
-  places : (c : ℕ) → head_place (home new c) (name_at new c) (length heads) ≡ head_place (home nodes c) (name_at nodes c) (length heads)
-  places c = (λ i. head_place (same.homes c i) (same.names c i) (length heads))
+  buckets : (c : ℕ) → bucket_of (home new c) (name_at new c) (length heads) ≡ bucket_of (home nodes c) (name_at nodes c) (length heads)
+  buckets c = (λ i. bucket_of (same.homes c i) (same.names c i) (length heads))
 
   stays : (j c : ℕ) → b ≢ c → HasHead nodes None (length heads) j c → HasHead new (Some b) (length heads) j c
-  stays j c other has = record { node = same.nodes c ∙ has.node; place = places c ∙ has.place; inside = (λ e. other (some_same e)) }
+  stays j c other has = record { node = same.nodes c ∙ has.node; bucket = buckets c ∙ has.bucket; inside = (λ e. other (some_same e)) }
 
   stood : (j c : ℕ) → HasHead new (Some b) (length heads) j c → HasHead nodes None (length heads) j c
-  stood j c has = record { node = sym (same.nodes c) ∙ has.node; place = sym (places c) ∙ has.place; inside = none_some }
+  stood j c has = record { node = sym (same.nodes c) ∙ has.node; bucket = sym (buckets c) ∙ has.bucket; inside = none_some }
 
   -- the test that a node passes which stays
   passes : (c : ℕ) → not (c == b) ≡ true → b ≢ c
@@ -59,7 +59,7 @@ module _ (nodes new : Blocks) (heads : Heads) (b k : ℕ) (within : k < length h
   -- one less
   rest_count : length (without_node b is_head.rest) ≡ head.unlisted
   rest_count =
-      let there = is_head.all b record { node = node; place = place; inside = none_some } in
+      let there = is_head.all b record { node = node; bucket = bucket; inside = none_some } in
       omega (
         arith,
         length_without b before is_head.once there,
@@ -85,7 +85,7 @@ module _ (nodes new : Blocks) (heads : Heads) (b k : ℕ) (within : k < length h
 
   other_node : (j c : ℕ) → j ≢ k → HasHead nodes None (length heads) j c → b ≢ c
   other_node j c other has e =
-      other (sym has.place ∙ ap (λ x. head_place (home nodes x) (name_at nodes x) (length heads)) (sym e) ∙ place)
+      other (sym has.bucket ∙ ap (λ x. bucket_of (home nodes x) (name_at nodes x) (length heads)) (sym e) ∙ bucket)
 
   pub removed : IsIndex new (set heads k head) (Some b)
   removed =

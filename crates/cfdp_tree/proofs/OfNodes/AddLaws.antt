@@ -15,10 +15,10 @@ use Rattle.cfdp_arena.specs.Arena.{Blocks, octets_at, octets_of, with_block}
 use Rattle.cfdp_actions.specs.Filestore.{Node}
 use Rattle.cfdp_tree.specs.code.NodeFields.{node_fields_of, node_name, kind_told}
 use Rattle.cfdp_tree.specs.code.Tree.{IsNode, IsDirectory, name_at, home_in, home, climb, most_names, path_of_node, Ends, IsEntry, IsNamed, IsTree}
-use Rattle.cfdp_tree.specs.code.Places.{path_at}
+use Rattle.cfdp_tree.specs.code.Directories.{path_at}
 use Rattle.cfdp_tree.specs.code.Kept.{node_of, Shows}
 use Rattle.cfdp_tree.proofs.OfNodes.TreeLaws.{same_node}
-use Rattle.cfdp_tree.proofs.OfNodes.PlaceLaws.{kept_climb, kept_ends}
+use Rattle.cfdp_tree.proofs.OfNodes.EntryLaws.{kept_climb, kept_ends}
 use Rattle.cfdp_tree.proofs.OfNodes.ClimbLaws.{most_is, ends_by_length, path_by_home}
 
 module _ (old : Blocks) (b : ℕ) (block : List ℕ) (within : b < length old) (free : octets_at old b ≡ None) (tree : IsTree old) (named : IsNamed block)

@@ -21,10 +21,10 @@ use Rattle.cfdp_order.proofs.TreeLaws.{no_nodes, opened_at}
 use Rattle.cfdp_tree.specs.declared.orders.Orders.{Orders}
 use Rattle.cfdp_tree.specs.code.Tree.{IsNode, name_at, home, path_of_node, IsTree}
 use Rattle.cfdp_tree.specs.code.Orders.{order_at, in_order, IsInOrders}
-use Rattle.cfdp_tree.specs.code.Places.{path_at}
+use Rattle.cfdp_tree.specs.code.Directories.{path_at}
 use Rattle.cfdp_tree.specs.code.Kept.{node_of, Shows}
 use Rattle.cfdp_tree.proofs.OfNodes.TreeLaws.{last_same}
-use Rattle.cfdp_tree.proofs.OfNodes.ClimbLaws.{path_by_home, same_place, beginning}
+use Rattle.cfdp_tree.proofs.OfNodes.ClimbLaws.{path_by_home, same_bucket, beginning}
 use Rattle.cfdp_tree.proofs.OfOrders.OrderLaws.{member_at}
 use Rattle.cfdp_actions.proofs.StoreLaws.{some_more}
 
@@ -81,7 +81,7 @@ module _ (nodes : Blocks) (tree : IsTree nodes) where
       (sym (path_by_home nodes tree entry.0 entry.1) ∙ entry.2 ∙ take_more q (length p) [] less ∙ ap (λ x. x ++ get_or q (length p) [] ∷ []) front) in (
         entry.0,
         entry.1,
-        same_place nodes tree (home nodes entry.0) (Some b) (λ d there. (tree.homes entry.0 d entry.1 there).node)
+        same_bucket nodes tree (home nodes entry.0) (Some b) (λ d there. (tree.homes entry.0 d entry.1 there).node)
             (λ d is. subst (IsNode nodes) (some_same is) node) (same.0 ∙ sym way),
         entry.2,
       )

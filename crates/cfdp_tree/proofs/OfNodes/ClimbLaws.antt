@@ -3,7 +3,7 @@
 --     ends_by_length            a way ends within as many nodes as it has names
 --     path_by_home              a node's path is that of its directory, and its name
 --     some_path                 it has a name
---     same_place, entry_at, path_entry      a path is that of one node or of the root;  and what is in it
+--     same_bucket, entry_at, path_entry     a path is that of one node or of the root;  and what is in it
 --     beginning                 each beginning of a node's path is the path of a node
 use Rattle.std.proofs.Common.{◌≡◌, ℕ, suc, zero, ◌<◌, ◌≤◌, [], ◌∷◌, ◌++◌, length, length-append, take, Option, Some, None, refl, sym, ap, ◌∙◌, subst, inl, inr, arith}
 use Rattle.std.proofs.lemmas.Bool.{cases_lt}
@@ -12,7 +12,7 @@ use Rattle.std.specs.Option.{option_map_or}
 use Rattle.cfdp_arena.specs.Arena.{Blocks}
 use Rattle.cfdp_paths.specs.Paths.{Name, Path}
 use Rattle.cfdp_tree.specs.code.Tree.{IsNode, name_at, home, climb, most_names, path_of_node, Ends, IsEntry, IsTree}
-use Rattle.cfdp_tree.specs.code.Places.{path_at, StandsAt}
+use Rattle.cfdp_tree.specs.code.Directories.{path_at, StandsAt}
 use Rattle.cfdp_tree.proofs.OfNodes.TreeLaws.{last_same, same_node}
 
 pub most_is : most_names ≡ suc 7
@@ -69,27 +69,28 @@ module _ (nodes : Blocks) (tree : IsTree nodes) where
   pub some_path : (b : ℕ) → IsNode nodes b → path_of_node nodes b ≡ [] → ⊥
   some_path b node none = omega (arith, ap length (sym (path_by_home b node) ∙ none), length-append (path_at nodes (home nodes b)) (name_at nodes b ∷ []))
 
-  pub same_place : (x y : Option ℕ) → ((d : ℕ) → x ≡ Some d → IsNode nodes d) → ((d : ℕ) → y ≡ Some d → IsNode nodes d) → path_at nodes x ≡ path_at nodes y → x
+  pub same_bucket : (x y : Option ℕ) → ((d : ℕ) → x ≡ Some d → IsNode nodes d) → ((d : ℕ) → y ≡ Some d → IsNode nodes d) → path_at nodes x ≡ path_at nodes y → x
       ≡ y
-  same_place None None xs ys e = refl
-  same_place None (Some d) xs ys e = absurd (some_path d (ys d refl) (sym e))
-  same_place (Some c) None xs ys e = absurd (some_path c (xs c refl) e)
-  same_place (Some c) (Some d) xs ys e = ap Some (same_node nodes tree c d (xs c refl) (ys d refl) e)
+  same_bucket None None xs ys e = refl
+  same_bucket None (Some d) xs ys e = absurd (some_path d (ys d refl) (sym e))
+  same_bucket (Some c) None xs ys e = absurd (some_path c (xs c refl) e)
+  same_bucket (Some c) (Some d) xs ys e = ap Some (same_node nodes tree c d (xs c refl) (ys d refl) e)
 
   -- what has a name more than a directory is in it
-  pub entry_at : (place : Option ℕ) (p : Path) (name : Name) (b : ℕ) → StandsAt nodes place p → IsNode nodes b → path_of_node nodes b ≡ p ++ name ∷ [] →
-      IsEntry nodes place name b
-  entry_at place p name b stands node e =
+  pub entry_at : (directory : Option ℕ) (p : Path) (name : Name) (b : ℕ) → StandsAt nodes directory p → IsNode nodes b → path_of_node nodes b ≡ p ++ name ∷ [] →
+      IsEntry nodes directory name b
+  entry_at directory p name b stands node e =
       let parts = last_same (path_at nodes (home nodes b)) p (name_at nodes b) name (sym (path_by_home b node) ∙ e) in
       record {
         node = node;
-        there = same_place (home nodes b) place (λ d there. (tree.homes b d node there).node) stands.node (parts.0 ∙ sym stands.path);
+        there = same_bucket (home nodes b) directory (λ d there. (tree.homes b d node there).node) stands.node (parts.0 ∙ sym stands.path);
         named = parts.1;
       }
 
-  pub path_entry : (place : Option ℕ) (p : Path) (name : Name) (b : ℕ) → StandsAt nodes place p → IsEntry nodes place name b → path_of_node nodes b ≡ p ++ name
+  pub path_entry : (directory : Option ℕ) (p : Path) (name : Name) (b : ℕ) → StandsAt nodes directory p → IsEntry nodes directory name b → path_of_node nodes b
+      ≡ p ++ name
       ∷ []
-  path_entry place p name b stands entry = path_by_home b entry.node ∙ (λ i. path_at nodes (entry.there i) ++ entry.named i ∷ [])
+  path_entry directory p name b stands entry = path_by_home b entry.node ∙ (λ i. path_at nodes (entry.there i) ++ entry.named i ∷ [])
       ∙ ap (λ q. q ++ name ∷ []) stands.path
 
   -- a node for each beginning of its path

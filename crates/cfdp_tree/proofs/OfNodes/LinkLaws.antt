@@ -4,19 +4,19 @@
 --     link_row, link_name      what it says there, and its name
 --     link_links       each node says what it said, but for its links
 --     next_here, next_other    the next node of the one, and of another node
---     relinked_places                  where all nodes say so, they are where they were
+--     relinked_entries                 where all nodes say so, they are where they were
 use Rattle.std.proofs.Common.{◌≡◌, ◌≢◌, ◌≤◌, ℕ, List, [], Some, None, length, is_some, take, drop, sym, ap, ◌∙◌, subst}
 use Rattle.std.proofs.lemmas.List.{get_or-set_other}
 use Rattle.std.specs.Prelude.{◌==◌, unwrap_or, if◌then◌else◌}
 use Rattle.cfdp_arena.specs.Arena.{Blocks, octets_at, octets_of, with_block}
 use Rattle.cfdp_tree.specs.code.NodeFields.{NodeFields, node_fields_of, node_name, kind_told}
-use Rattle.cfdp_tree.specs.code.Tree.{IsNode, node_fields_at, name_at, IsNamed, IsTree, unlinked, Relinked, SamePlaces}
+use Rattle.cfdp_tree.specs.code.Tree.{IsNode, node_fields_at, name_at, IsNamed, IsTree, unlinked, Relinked, SameEntries}
 use Rattle.cfdp_paths.specs.Paths.{IsName}
 use Rattle.cfdp_tree.specs.code.Block.{block_header}
 use Rattle.cfdp_tree.specs.code.Nodes.{nodes_in}
 use Rattle.cfdp_tree.proofs.OfNodes.TreeLaws.{node_octets}
 use Rattle.cfdp_tree.proofs.OfNodes.WriteLaws.{written_noted}
-use Rattle.cfdp_tree.proofs.OfNodes.PlaceLaws.{at_b, kept_by, still_named}
+use Rattle.cfdp_tree.proofs.OfNodes.EntryLaws.{at_b, kept_by, still_named}
 
 module _ (old new : List ℕ) (link : ℕ) (row : node_fields_of new ≡ record (node_fields_of old) { same_head = link }) (rest : drop 32 new ≡ drop 32 old) where
   pub relinked_name : node_name new ≡ node_name old
@@ -62,8 +62,8 @@ module _ (nodes : Blocks) (b : ℕ) (block : List ℕ) (node : IsNode nodes b) w
   pub next_other : (c : ℕ) → b ≢ c → (node_fields_at (with_block nodes b block) c).same_head ≡ (node_fields_at nodes c).same_head
   next_other c other = ap (λ entry. (node_fields_of (unwrap_or entry [])).same_head) (get_or-set_other nodes b c (Some block) None (λ e. other (sym e)))
 
-pub relinked_places : (old new : Blocks) → Relinked old new → SamePlaces old new
-relinked_places old new links = record {
+pub relinked_entries : (old new : Blocks) → Relinked old new → SameEntries old new
+relinked_entries old new links = record {
   nodes = links.nodes;
   homes = (λ b. ap (λ (r : NodeFields). if r.parent == b then None else Some r.parent) (links.rows b));
   names = links.names;

@@ -12,9 +12,9 @@ use Rattle.cfdp_paths.proofs.Below.{at_or_below-itself, at_or_below-trans, at_or
 use Rattle.cfdp_arena.specs.Arena.{Blocks, octets_at, octets_of, with_block}
 use Rattle.cfdp_tree.specs.code.NodeFields.{node_fields_of, node_name, kind_told}
 use Rattle.cfdp_tree.specs.code.Tree.{IsNode, IsDirectory, node_fields_at, name_at, home_in, home, climb, most_names, path_of_node, Ends, IsEntry, IsNamed, IsTree}
-use Rattle.cfdp_tree.specs.code.Places.{path_at}
+use Rattle.cfdp_tree.specs.code.Directories.{path_at}
 use Rattle.cfdp_tree.proofs.OfNodes.TreeLaws.{same_node}
-use Rattle.cfdp_tree.proofs.OfNodes.PlaceLaws.{kept_climb, kept_ends, at_b, kept_by}
+use Rattle.cfdp_tree.proofs.OfNodes.EntryLaws.{kept_climb, kept_ends, at_b, kept_by}
 use Rattle.cfdp_tree.proofs.OfNodes.ClimbLaws.{most_is, ends_by_length, climb_same, path_by_home}
 
 -- what a path without its last name is below, where the path is

@@ -12,9 +12,9 @@ use Rattle.cfdp_arena.specs.Blocks.{blank_block, with_part}
 use Rattle.cfdp_tree.specs.code.Block.{block_number_at, with_number, block_header, payload}
 use Rattle.cfdp_tree.specs.code.NodeFields.{node_fields_of, node_name}
 
-pub name_kept : (block : List ℕ) (place number : ℕ) → place < 31 → drop 32 (with_number block place number) ≡ drop 32 block
-name_kept block place number before =
-    drop-set-lt 32 (set block place (number % 256)) (place + 1) (number / 256) (omega arith) ∙ drop-set-lt 32 block place (number % 256) (omega arith)
+pub name_kept : (block : List ℕ) (offset number : ℕ) → offset < 31 → drop 32 (with_number block offset number) ≡ drop 32 block
+name_kept block offset number before =
+    drop-set-lt 32 (set block offset (number % 256)) (offset + 1) (number / 256) (omega arith) ∙ drop-set-lt 32 block offset (number % 256) (omega arith)
 
 -- by the octets before the name
 module _ (a b : List ℕ) (same : (i : ℕ) → i < 32 → get_or a i 0 ≡ get_or b i 0) where
@@ -101,61 +101,61 @@ name-put block name whole =
     ∙ take_at name rest (length name) refl
 
 -- four octets from an offset on
-module _ (block : List ℕ) (whole : length block ≡ 128) (place : ℕ) (within : place + 4 ≤ 128) (lowest low high highest : ℕ) where
+module _ (block : List ℕ) (whole : length block ≡ 128) (offset : ℕ) (within : offset + 4 ≤ 128) (lowest low high highest : ℕ) where
   abbrev one : List ℕ
-  one = set block place lowest
+  one = set block offset lowest
 
   abbrev two : List ℕ
-  two = set one (place + 1) low
+  two = set one (offset + 1) low
 
   abbrev three : List ℕ
-  three = set two (place + 2) high
+  three = set two (offset + 2) high
 
   abbrev four : List ℕ
-  four = set three (place + 3) highest
+  four = set three (offset + 3) highest
 
-  pub other : (i : ℕ) → (i < place) ⊎ (place + 4 ≤ i) → get_or four i 0 ≡ get_or block i 0
+  pub other : (i : ℕ) → (i < offset) ⊎ (offset + 4 ≤ i) → get_or four i 0 ≡ get_or block i 0
   other i (inl before) =
-      get_or-set_other three (place + 3) i highest 0 (omega arith) ∙ get_or-set_other two (place + 2) i high 0 (omega arith)
-      ∙ get_or-set_other one (place + 1) i low 0 (omega arith) ∙ get_or-set_other block place i lowest 0 (omega arith)
+      get_or-set_other three (offset + 3) i highest 0 (omega arith) ∙ get_or-set_other two (offset + 2) i high 0 (omega arith)
+      ∙ get_or-set_other one (offset + 1) i low 0 (omega arith) ∙ get_or-set_other block offset i lowest 0 (omega arith)
   other i (inr after) =
-      get_or-set_other three (place + 3) i highest 0 (omega arith) ∙ get_or-set_other two (place + 2) i high 0 (omega arith)
-      ∙ get_or-set_other one (place + 1) i low 0 (omega arith) ∙ get_or-set_other block place i lowest 0 (omega arith)
+      get_or-set_other three (offset + 3) i highest 0 (omega arith) ∙ get_or-set_other two (offset + 2) i high 0 (omega arith)
+      ∙ get_or-set_other one (offset + 1) i low 0 (omega arith) ∙ get_or-set_other block offset i lowest 0 (omega arith)
 
-  pub before : (i : ℕ) → i + 1 < place → block_number_at four i ≡ block_number_at block i
+  pub before : (i : ℕ) → i + 1 < offset → block_number_at four i ≡ block_number_at block i
   before i less = (λ k. other i (inl (omega arith)) k + 256 * other (i + 1) (inl (omega arith)) k)
 
-  pub after : (i : ℕ) → place + 4 ≤ i → block_number_at four i ≡ block_number_at block i
+  pub after : (i : ℕ) → offset + 4 ≤ i → block_number_at four i ≡ block_number_at block i
   after i more = (λ k. other i (inr more) k + 256 * other (i + 1) (inr (omega arith)) k)
 
   long_one : length one ≡ 128
-  long_one = length-set block place lowest ∙ whole
+  long_one = length-set block offset lowest ∙ whole
 
   long_two : length two ≡ 128
-  long_two = length-set one (place + 1) low ∙ long_one
+  long_two = length-set one (offset + 1) low ∙ long_one
 
   long_three : length three ≡ 128
-  long_three = length-set two (place + 2) high ∙ long_two
+  long_three = length-set two (offset + 2) high ∙ long_two
 
-  at_place : get_or four place 0 ≡ lowest
-  at_place =
-      get_or-set_other three (place + 3) place highest 0 (omega arith) ∙ get_or-set_other two (place + 2) place high 0 (omega arith)
-      ∙ get_or-set_other one (place + 1) place low 0 (omega arith) ∙ get_or-set_same block place lowest 0 (omega arith)
+  at_offset : get_or four offset 0 ≡ lowest
+  at_offset =
+      get_or-set_other three (offset + 3) offset highest 0 (omega arith) ∙ get_or-set_other two (offset + 2) offset high 0 (omega arith)
+      ∙ get_or-set_other one (offset + 1) offset low 0 (omega arith) ∙ get_or-set_same block offset lowest 0 (omega arith)
 
-  at_next : get_or four (place + 1) 0 ≡ low
+  at_next : get_or four (offset + 1) 0 ≡ low
   at_next =
-      get_or-set_other three (place + 3) (place + 1) highest 0 (omega arith) ∙ get_or-set_other two (place + 2) (place + 1) high 0 (omega arith)
-      ∙ get_or-set_same one (place + 1) low 0 (omega (arith, long_one))
+      get_or-set_other three (offset + 3) (offset + 1) highest 0 (omega arith) ∙ get_or-set_other two (offset + 2) (offset + 1) high 0 (omega arith)
+      ∙ get_or-set_same one (offset + 1) low 0 (omega (arith, long_one))
 
-  at_third : get_or four (place + 2) 0 ≡ high
-  at_third = get_or-set_other three (place + 3) (place + 2) highest 0 (omega arith) ∙ get_or-set_same two (place + 2) high 0 (omega (arith, long_two))
+  at_third : get_or four (offset + 2) 0 ≡ high
+  at_third = get_or-set_other three (offset + 3) (offset + 2) highest 0 (omega arith) ∙ get_or-set_same two (offset + 2) high 0 (omega (arith, long_two))
 
-  at_last : get_or four (place + 3) 0 ≡ highest
-  at_last = get_or-set_same three (place + 3) highest 0 (omega (arith, long_three))
+  at_last : get_or four (offset + 3) 0 ≡ highest
+  at_last = get_or-set_same three (offset + 3) highest 0 (omega (arith, long_three))
 
   pub number_put : (number : ℕ) → lowest + 256 * low + 65536 * (high + 256 * highest) ≡ number
-      → get_or four place 0 + 256 * get_or four (place + 1) 0 + 65536 * (get_or four (place + 2) 0 + 256 * get_or four (place + 3) 0) ≡ number
-  number_put number is = (λ k. at_place k + 256 * at_next k + 65536 * (at_third k + 256 * at_last k)) ∙ is
+      → get_or four offset 0 + 256 * get_or four (offset + 1) 0 + 65536 * (get_or four (offset + 2) 0 + 256 * get_or four (offset + 3) 0) ≡ number
+  number_put number is = (λ k. at_offset k + 256 * at_next k + 65536 * (at_third k + 256 * at_last k)) ∙ is
 
 module _ (block : List ℕ) (whole : length block ≡ 128) (lowest low high highest number : ℕ) (is : lowest + 256 * low + 65536 * (high + 256 * highest)
     ≡ number) where

@@ -1,6 +1,6 @@
 -- A path's parent, where it is the root or a directory.
 --     parent_directory, parent_path     a node that is found is a directory, and its path is that of the parent
---     parent_place                      it is the root or a directory
+--     parent_stands                     it is the root or a directory
 use Rattle.std.proofs.Common.{◌≡◌, ℕ, zero, suc, ◌+◌, true, not, length, take, Option, Some, None, refl, sym, ap, ◌∙◌, subst, ◌≤◌, arith}
 use Rattle.std.specs.Prelude.{IfSome, IfNone}
 use Rattle.cfdp_paths.specs.Paths.{Path}
@@ -12,7 +12,7 @@ use Rattle.cfdp_actions.specs.Store.{is_file_kind}
 use Rattle.cfdp_tree.specs.code.NodeFields.{node_fields_of, kind_told}
 use Rattle.cfdp_tree.specs.code.Tree.{IsNode, IsDirectory, path_of_node, IsTree}
 use Rattle.cfdp_tree.specs.code.Kept.{file_of, Shows}
-use Rattle.cfdp_tree.specs.code.Places.{path_at, StandsAt}
+use Rattle.cfdp_tree.specs.code.Directories.{path_at, StandsAt}
 use Rattle.cfdp_tree.proofs.OfNodes.ClimbLaws.{some_path}
 use Rattle.cfdp_tree.proofs.OfStore.SeenLaws.{seen_parent, told_directory}
 use Rattle.cfdp_tree.proofs.OfIndex.InsertLaws.{some_same}
@@ -27,8 +27,8 @@ module _ (arena nodes : Blocks) (tree : IsTree nodes) (F : Filestore) (shows : S
   good_node some = sym (seen_parent F path depth long some) ∙ good
 
   abbrev pub Found : Option ℕ → Type 0
-  Found place = IfSome place (λ b. IsNode nodes b) × IfSome place (λ b. path_of_node nodes b ≡ take depth path)
-      × IfNone place ((b : ℕ) → IsNode nodes b → path_of_node nodes b ≡ take depth path → ⊥)
+  Found directory = IfSome directory (λ b. IsNode nodes b) × IfSome directory (λ b. path_of_node nodes b ≡ take depth path)
+      × IfNone directory ((b : ℕ) → IsNode nodes b → path_of_node nodes b ≡ take depth path → ⊥)
 
   no_directory : (o : Option Node) → ((node : Node) → o ≡ Some node → ⊥) → is_directory o ≡ true → ⊥
   no_directory None none directory = cc
@@ -41,7 +41,8 @@ module _ (arena nodes : Blocks) (tree : IsTree nodes) (F : Filestore) (shows : S
       let told = sym (told_directory arena (kind_told (node_fields_of block).kind) (file_of block)) ∙ sym (ap is_directory at) ∙ good_node some in
       record { node = node; directory = directory_kind (kind_told (node_fields_of block).kind) told }
 
-  stands : (n : ℕ) → n ≡ depth → (place : Option ℕ) → Found place → ((d : ℕ) → place ≡ Some d → IsDirectory nodes d) × (path_at nodes place ≡ take depth path)
+  stands : (n : ℕ) → n ≡ depth → (directory : Option ℕ) → Found directory → ((d : ℕ) → directory ≡ Some d → IsDirectory nodes d) ×
+      (path_at nodes directory ≡ take depth path)
   stands zero is None found = ((λ d e. absurd (none_some e)), ap (λ n. take n path) is)
     where
       none_some : {x : ℕ} → None ≡ Some x → ⊥
@@ -51,12 +52,12 @@ module _ (arena nodes : Blocks) (tree : IsTree nodes) (F : Filestore) (shows : S
       (λ node e. (let at = shows.only (take depth path) node e in found.2 at.0 at.1 at.2)) (good_node (omega (arith, is))))
   stands (suc n) is (Some b) found = ((λ d e. subst (IsDirectory nodes) (some_same e) (of_node b (omega (arith, is)) found.0 found.1)), found.1)
 
-  module _ (place : Option ℕ) (found : Found place) where
-    pub parent_directory : (d : ℕ) → place ≡ Some d → IsDirectory nodes d
-    parent_directory = (stands depth refl place found).0
+  module _ (directory : Option ℕ) (found : Found directory) where
+    pub parent_directory : (d : ℕ) → directory ≡ Some d → IsDirectory nodes d
+    parent_directory = (stands depth refl directory found).0
 
-    pub parent_path : path_at nodes place ≡ take depth path
-    parent_path = (stands depth refl place found).1
+    pub parent_path : path_at nodes directory ≡ take depth path
+    parent_path = (stands depth refl directory found).1
 
-    pub parent_place : StandsAt nodes place (take depth path)
-    parent_place = record { node = (λ d e. (parent_directory d e).node); path = parent_path }
+    pub parent_stands : StandsAt nodes directory (take depth path)
+    parent_stands = record { node = (λ d e. (parent_directory d e).node); path = parent_path }

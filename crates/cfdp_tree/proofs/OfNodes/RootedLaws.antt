@@ -9,7 +9,7 @@ use Rattle.cfdp_actions.specs.Store.{is_file_kind}
 use Rattle.cfdp_actions.specs.Filestore.{Filestore, Node, Directory, node_at, is_directory, is_good, is_root, parent_is_good, IsRooted}
 use Rattle.cfdp_tree.specs.code.NodeFields.{node_fields_of, kind_told}
 use Rattle.cfdp_tree.specs.code.Tree.{IsNode, name_at, home, path_of_node, IsTree}
-use Rattle.cfdp_tree.specs.code.Places.{path_at}
+use Rattle.cfdp_tree.specs.code.Directories.{path_at}
 use Rattle.cfdp_tree.specs.code.Kept.{file_of, Shows}
 use Rattle.cfdp_tree.proofs.OfNodes.ClimbLaws.{path_by_home, some_path}
 use Rattle.cfdp_tree.proofs.OfStore.SeenLaws.{told_directory}

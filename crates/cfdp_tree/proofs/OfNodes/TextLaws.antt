@@ -12,7 +12,7 @@ use Rattle.std.specs.Prelude.{All}
 use Rattle.cfdp_arena.specs.Arena.{Blocks}
 use Rattle.cfdp_paths.specs.Paths.{Name, Path, IsName, IsPath}
 use Rattle.cfdp_tree.specs.code.Tree.{IsNode, name_at, home, climb, most_names, path_of_node, Ends, IsTree}
-use Rattle.cfdp_tree.specs.code.Places.{path_at}
+use Rattle.cfdp_tree.specs.code.Directories.{path_at}
 use Rattle.cfdp_tree.specs.code.Text.{preceded, separated_text}
 use Rattle.cfdp_tree.proofs.OfNodes.ClimbLaws.{path_by_home}
 use Rattle.cfdp_tree.proofs.OfWalks.WalkLaws.{few_names}

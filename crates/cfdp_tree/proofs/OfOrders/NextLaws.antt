@@ -20,7 +20,7 @@ use Rattle.cfdp_paths.proofs.Below.{append_from_at_or_below, at_or_below_from_ap
 use Rattle.cfdp_paths.proofs.Comparing.{path_cmp-total, same_name-Decides}
 use Rattle.cfdp_actions.specs.Filestore.{Node, Filestore, node_at}
 use Rattle.cfdp_tree.specs.code.Tree.{IsNode, name_at, path_of_node, IsEntry, IsTree}
-use Rattle.cfdp_tree.specs.code.Places.{StandsAt}
+use Rattle.cfdp_tree.specs.code.Directories.{StandsAt}
 use Rattle.cfdp_tree.specs.code.Entries.{IsMember}
 use Rattle.cfdp_tree.specs.code.Kept.{Shows}
 use Rattle.cfdp_tree.specs.Next.{IsNext, IsLast}
@@ -85,7 +85,7 @@ name_upto m n (l ∷ t) upto greater = by_order (name_cmp m n) refl
 
 -- ---- the nodes that follow, at and below a node or the root
 
-module _ (nodes : Blocks) (tree : IsTree nodes) (place : Option ℕ) (a : Path) (stands : StandsAt nodes place a) where
+module _ (nodes : Blocks) (tree : IsTree nodes) (directory : Option ℕ) (a : Path) (stands : StandsAt nodes directory a) where
   -- such a node has a name more than that
   module _ (p : Path) (c : ℕ) (follows : ComesAfter nodes a (a ++ p) c) where
     rest : Path
@@ -103,21 +103,21 @@ module _ (nodes : Blocks) (tree : IsTree nodes) (place : Option ℕ) (a : Path) 
         (parts.0, parts.1, whole ∙ ap (λ q. a ++ q) parts.2, ap (path_cmp p) (sym parts.2) ∙ rest_behind)
 
   -- the entry on the way to a node
-  pub entry_on_way : (c : ℕ) (m : Name) (t : Path) → IsNode nodes c → path_of_node nodes c ≡ a ++ m ∷ t → (e : ℕ) × IsEntry nodes place m e
+  pub entry_on_way : (c : ℕ) (m : Name) (t : Path) → IsNode nodes c → path_of_node nodes c ≡ a ++ m ∷ t → (e : ℕ) × IsEntry nodes directory m e
   entry_on_way c m t node way =
       let long : length (path_of_node nodes c) ≡ length a + suc (length t) = ap length way ∙ length-append a (m ∷ t) in
       let above = beginning nodes tree c (length a + 1) node (omega arith) (omega (arith, long)) in
       let front : take (length a + 1) (path_of_node nodes c) ≡ a ++ m ∷ [] =
       ap (take (length a + 1)) (way ∙ sym (append_assoc a (m ∷ []) t)) ∙ take_at (a ++ m ∷ []) t (length a + 1) (omega (arith, length-append a (m ∷ []))) in
-      (above.0, entry_at nodes tree place a m above.0 stands above.1 (above.2 ∙ front))
+      (above.0, entry_at nodes tree directory a m above.0 stands above.1 (above.2 ∙ front))
 
-  member_of : (m : Name) (e : ℕ) → IsEntry nodes place m e → IsMember nodes None place e
+  member_of : (m : Name) (e : ℕ) → IsEntry nodes directory m e → IsMember nodes None directory e
   member_of m e entry = record { node = entry.node; there = entry.there; listed = λ same. cc }
 
-  way_of : (e : ℕ) → IsMember nodes None place e → path_of_node nodes e ≡ a ++ name_at nodes e ∷ []
-  way_of e member = path_entry nodes tree place a (name_at nodes e) e stands (record { node = member.node; there = member.there; named = refl })
+  way_of : (e : ℕ) → IsMember nodes None directory e → path_of_node nodes e ≡ a ++ name_at nodes e ∷ []
+  way_of e member = path_entry nodes tree directory a (name_at nodes e) e stands (record { node = member.node; there = member.there; named = refl })
 
-  module _ (list : List ℕ) (is_list : IsListOf nodes place list) (p : Path) (after : Option Name) where
+  module _ (list : List ℕ) (is_list : IsListOf nodes directory list) (p : Path) (after : Option Name) where
     -- the entries with later names are on the way to all that follows
     abbrev pub IsApart : Type 0
     IsApart = (c : ℕ) (m : Name) (t : Path) → ComesAfter nodes a (a ++ p) c → path_of_node nodes c ≡ a ++ m ∷ t → path_cmp p (m ∷ t) ≡ Less → IsBehind after m
@@ -143,7 +143,7 @@ module _ (nodes : Blocks) (tree : IsTree nodes) (place : Option ℕ) (a : Path) 
 
       pub least_first : ((m : Name) → IsBehind after m → path_cmp p (m ∷ []) ≡ Less) → (b : ℕ) → IsLeast nodes after list b → IsFirst nodes a (a ++ p) b
       least_first behind b least =
-          let member = subst (IsMember nodes None place) least.listed.2 (is_list.own least.listed.0 b least.listed.1) in
+          let member = subst (IsMember nodes None directory) least.listed.2 (is_list.own least.listed.0 b least.listed.1) in
           let way = way_of b member in
           record {
             follows = record {
@@ -160,7 +160,7 @@ module _ (nodes : Blocks) (tree : IsTree nodes) (place : Option ℕ) (a : Path) 
           }
 
   -- all entries follow the directory or the root itself
-  pub apart_last : (list : List ℕ) (is_list : IsListOf nodes place list) → IsApart list is_list [] None
+  pub apart_last : (list : List ℕ) (is_list : IsListOf nodes directory list) → IsApart list is_list [] None
   apart_last list is_list c m t follows way behind = tt
 
   module _ (n : Name) (p : Path) where
@@ -171,7 +171,7 @@ module _ (nodes : Blocks) (tree : IsTree nodes) (place : Option ℕ) (a : Path) 
     abbrev pub NoneBelow : Type 0
     NoneBelow = (c : ℕ) → ComesAfter nodes (a ++ n ∷ []) ((a ++ n ∷ []) ++ p) c → ⊥
 
-    pub apart_name : (list : List ℕ) (is_list : IsListOf nodes place list) → NoneBelow → IsApart list is_list (n ∷ p) (Some n)
+    pub apart_name : (list : List ℕ) (is_list : IsListOf nodes directory list) → NoneBelow → IsApart list is_list (n ∷ p) (Some n)
     apart_name list is_list none c m t follows way behind = names_part n m p t behind (λ same. none c (record {
       node = follows.node;
       below = at_or_below_from_append (path_of_node nodes c) (a ++ n ∷ []) t (way ∙ ap (λ x. a ++ x ∷ t) (sym same) ∙ sym (append_assoc a (n ∷ []) t));
@@ -182,7 +182,7 @@ module _ (nodes : Blocks) (tree : IsTree nodes) (place : Option ℕ) (a : Path) 
     behind_name m behind = ap (λ o. ordering_then o (path_cmp p [])) behind
 
     -- the name has no entry
-    pub none_below : ((e : ℕ) → IsEntry nodes place n e → ⊥) → NoneBelow
+    pub none_below : ((e : ℕ) → IsEntry nodes directory n e → ⊥) → NoneBelow
     none_below none c follows =
         let way = append_from_at_or_below (path_of_node nodes c) (a ++ n ∷ []) follows.below
         ∙ append_assoc a (n ∷ []) (drop (length (a ++ n ∷ [])) (path_of_node nodes c)) in

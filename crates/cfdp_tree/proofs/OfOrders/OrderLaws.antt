@@ -1,10 +1,10 @@
 -- Entries in order of their names, as one of them comes and goes.
 --     member_at                   a node of an order is one of its directory
---     apart_places                no node is in the orders of two directories
+--     apart_directories           no node is in the orders of two directories
 --     out_nowhere                 a node that is out is in none
 --     entered, left               the orders once an entry is put into that of its directory, and once it is taken out
 --     same_change, same_others    what stays, by what was read first
---     place_inside, home_node     a directory that is there has an order
+--     directory_inside, home_node  a directory that is there has an order
 use Rattle.std.proofs.Common.{◌≡◌, ◌≢◌, ℕ, ◌+◌, ◌<◌, ◌≤◌, List, ◌∷◌, ◌++◌, length, Option, Some, None, refl, sym, ap, ◌∙◌, subst, inl, inr, arith}
 use Rattle.std.proofs.lemmas.Bool.{cases_eq, cases_lt}
 use Rattle.std.proofs.lemmas.List.Elements.{All-weaker}
@@ -30,7 +30,7 @@ use Rattle.cfdp_tree.specs.code.Entries.{IsMember}
 use Rattle.cfdp_tree.specs.code.Next.{name_cmp}
 use Rattle.cfdp_tree.specs.code.Orders.{order_at, in_order, Rises, IsInOrders}
 use Rattle.cfdp_tree.proofs.OfOrders.LeastLaws.{flipped}
-use Rattle.cfdp_tree.proofs.OfOrders.SortLaws.{of_times, at_times, split_at, pairs_front, pairs_back, less_back, less_first, place_cases}
+use Rattle.cfdp_tree.proofs.OfOrders.SortLaws.{of_times, at_times, split_at, pairs_front, pairs_back, less_back, less_first, directory_cases}
 use Rattle.cfdp_tree.proofs.OfOrders.NextLaws.{name_antisym}
 
 none_times : (m : ℕ) (list : List ℕ) → (1 ≤ times_in m list → ⊥) → times_in m list ≡ 0
@@ -40,51 +40,51 @@ none_times m list never = elim (cases_lt 0 (times_in m list)) [
 ]
 
 module _ (nodes : Blocks) (orders : Orders) (out : Option ℕ) (ordered : IsInOrders nodes orders out) where
-  pub member_at : (place : Option ℕ) (m : ℕ) → 1 ≤ times_in m (in_order orders place) → IsMember nodes out place m
-  member_at place m some = at_times (IsMember nodes out place) (in_order orders place) m (ordered.own place) some
+  pub member_at : (directory : Option ℕ) (m : ℕ) → 1 ≤ times_in m (in_order orders directory) → IsMember nodes out directory m
+  member_at directory m some = at_times (IsMember nodes out directory) (in_order orders directory) m (ordered.own directory) some
 
-  pub apart_places : (p q : Option ℕ) → p ≢ q → (m : ℕ) → 1 ≤ times_in m (in_order orders p) → times_in m (in_order orders q) ≡ 0
-  apart_places p q other m some = none_times m (in_order orders q) (λ too. other (sym (member_at p m some).there ∙ (member_at q m too).there))
+  pub apart_directories : (p q : Option ℕ) → p ≢ q → (m : ℕ) → 1 ≤ times_in m (in_order orders p) → times_in m (in_order orders q) ≡ 0
+  apart_directories p q other m some = none_times m (in_order orders q) (λ too. other (sym (member_at p m some).there ∙ (member_at q m too).there))
 
   -- no node that is out is in an order
-  pub out_nowhere : (b : ℕ) → out ≡ Some b → (place : Option ℕ) → times_in b (in_order orders place) ≡ 0
-  out_nowhere b is place = none_times b (in_order orders place) (λ some. (member_at place b some).listed is)
+  pub out_nowhere : (b : ℕ) → out ≡ Some b → (directory : Option ℕ) → times_in b (in_order orders directory) ≡ 0
+  out_nowhere b is directory = none_times b (in_order orders directory) (λ some. (member_at directory b some).listed is)
 
 -- the orders of all directories but one stay
-module _ (nodes : Blocks) (old now : Orders) (was out : Option ℕ) (place : Option ℕ) (list : List ℕ) (ordered : IsInOrders nodes old was)
+module _ (nodes : Blocks) (old now : Orders) (was out : Option ℕ) (directory : Option ℕ) (list : List ℕ) (ordered : IsInOrders nodes old was)
     (links : length now.links.items ≡ length nodes) (directories : length now.directories.items ≡ length nodes)
-    (here : IsOrder now.links.items (order_at now place)) (here_is : in_order now place ≡ list)
-    (others : (p : Option ℕ) → p ≢ place → IsOrder now.links.items (order_at now p) × (in_order now p ≡ in_order old p))
-    (own : All (IsMember nodes out place) list) (own_others : (p : Option ℕ) → p ≢ place → (m : ℕ) → IsMember nodes was p m → IsMember nodes out p m)
+    (here : IsOrder now.links.items (order_at now directory)) (here_is : in_order now directory ≡ list)
+    (others : (p : Option ℕ) → p ≢ directory → IsOrder now.links.items (order_at now p) × (in_order now p ≡ in_order old p))
+    (own : All (IsMember nodes out directory) list) (own_others : (p : Option ℕ) → p ≢ directory → (m : ℕ) → IsMember nodes was p m → IsMember nodes out p m)
     (rising : AllPairs (Rises nodes) list)
-    (all : (c : ℕ) → IsNode nodes c → out ≢ Some c → home nodes c ≡ place → Contains list c)
-    (all_others : (c : ℕ) → IsNode nodes c → out ≢ Some c → home nodes c ≢ place → was ≢ Some c) where
+    (all : (c : ℕ) → IsNode nodes c → out ≢ Some c → home nodes c ≡ directory → Contains list c)
+    (all_others : (c : ℕ) → IsNode nodes c → out ≢ Some c → home nodes c ≢ directory → was ≢ Some c) where
   pub one_changed : IsInOrders nodes now out
   one_changed = record {
     links = links;
     directories = directories;
-    order = (λ p. elim (place_cases p place) [
+    order = (λ p. elim (directory_cases p directory) [
       | inl e ↦ subst (λ q. IsOrder now.links.items (order_at now q)) (sym e) here
       | inr other ↦ (others p other).0
     ]);
-    own = (λ p. elim (place_cases p place) [
-      | inl e ↦ subst (λ q. All (IsMember nodes out q) (in_order now q)) (sym e) (subst (All (IsMember nodes out place)) (sym here_is) own)
+    own = (λ p. elim (directory_cases p directory) [
+      | inl e ↦ subst (λ q. All (IsMember nodes out q) (in_order now q)) (sym e) (subst (All (IsMember nodes out directory)) (sym here_is) own)
       | inr other ↦ subst (All (IsMember nodes out p)) (sym (others p other).1)
           (All-weaker (IsMember nodes was p) (IsMember nodes out p) (own_others p other) (in_order old p) (ordered.own p))
     ]);
-    rising = (λ p. elim (place_cases p place) [
+    rising = (λ p. elim (directory_cases p directory) [
       | inl e ↦ subst (λ q. AllPairs (Rises nodes) (in_order now q)) (sym e) (subst (AllPairs (Rises nodes)) (sym here_is) rising)
       | inr other ↦ subst (AllPairs (Rises nodes)) (sym (others p other).1) (ordered.rising p)
     ]);
-    all = (λ c node listed. elim (place_cases (home nodes c) place) [
+    all = (λ c node listed. elim (directory_cases (home nodes c) directory) [
       | inl e ↦ subst (λ q. Contains (in_order now q) c) (sym e) (subst (λ xs. Contains xs c) (sym here_is) (all c node listed e))
       | inr other ↦ subst (λ xs. Contains xs c) (sym (others (home nodes c) other).1) (ordered.all c node (all_others c node listed other))
     ]);
   }
 
-module _ (nodes : Blocks) (tree : IsTree nodes) (old : Orders) (place : Option ℕ) (name : Name) (b : ℕ) (entry : IsEntry nodes place name b) where
+module _ (nodes : Blocks) (tree : IsTree nodes) (old : Orders) (directory : Option ℕ) (name : Name) (b : ℕ) (entry : IsEntry nodes directory name b) where
   abbrev list : List ℕ
-  list = in_order old place
+  list = in_order old directory
 
   abbrev side : ℕ → Ordering
   side m = name_cmp (name_at nodes m) name
@@ -97,9 +97,9 @@ module _ (nodes : Blocks) (tree : IsTree nodes) (old : Orders) (place : Option �
 
   -- the orders of other directories, whose nodes are not in a list
   module _ (out : Option ℕ) (ordered : IsInOrders nodes old out) (links : List Links) (changed : List ℕ) (others : OtherLinksStay old.links.items links changed)
-      (apart : (p : Option ℕ) → p ≢ place → (m : ℕ) → 1 ≤ times_in m (in_order old p) → times_in m changed ≡ 0)
-      (now : Orders) (links_now : now.links.items ≡ links) (elsewhere : (p : Option ℕ) → p ≢ place → order_at now p ≡ order_at old p) where
-    other_orders : (p : Option ℕ) → p ≢ place → IsOrder now.links.items (order_at now p) × (in_order now p ≡ in_order old p)
+      (apart : (p : Option ℕ) → p ≢ directory → (m : ℕ) → 1 ≤ times_in m (in_order old p) → times_in m changed ≡ 0)
+      (now : Orders) (links_now : now.links.items ≡ links) (elsewhere : (p : Option ℕ) → p ≢ directory → order_at now p ≡ order_at old p) where
+    other_orders : (p : Option ℕ) → p ≢ directory → IsOrder now.links.items (order_at now p) × (in_order now p ≡ in_order old p)
     other_orders p other =
         let same = stays old.links.items links (order_at old p) (ordered.order p) others.long (λ m some. others.same m (apart p other m some)) in (
           subst (λ (o : Order). IsOrder now.links.items o) (sym (elsewhere p other)) (subst (λ ls. IsOrder ls (order_at old p)) (sym links_now) same.is),
@@ -107,11 +107,11 @@ module _ (nodes : Blocks) (tree : IsTree nodes) (old : Orders) (place : Option �
         )
 
   module _ (ordered : IsInOrders nodes old (Some b)) where
-    pub enters : times_in b (in_order old place) ≡ 0
-    enters = out_nowhere nodes old (Some b) ordered b refl place
+    pub enters : times_in b (in_order old directory) ≡ 0
+    enters = out_nowhere nodes old (Some b) ordered b refl directory
 
     -- of another name than those that are there
-    later : (m : ℕ) → IsMember nodes (Some b) place m → side m ≢ Less → name_cmp (name_at nodes b) (name_at nodes m) ≡ Less
+    later : (m : ℕ) → IsMember nodes (Some b) directory m → side m ≢ Less → name_cmp (name_at nodes b) (name_at nodes m) ≡ Less
     later m member upto = by_order (side m) refl
       where
         by_order : (o : Ordering) → side m ≡ o → name_cmp (name_at nodes b) (name_at nodes m) ≡ Less
@@ -121,15 +121,16 @@ module _ (nodes : Blocks) (tree : IsTree nodes) (old : Orders) (place : Option �
         by_order Greater e = subst (λ n. name_cmp n (name_at nodes m) ≡ Less) (sym entry.named) (flipped nat_list_cmp_total (name_at nodes m) name e)
 
     module _ (links : List Links) (order : Order) (is : IsOrder links order)
-        (inserted : (before after : List ℕ) → in_order old place ≡ before ++ after → SplitsFrom (λ m. name_cmp (name_at nodes m) name) before after →
+        (inserted : (before after : List ℕ) → in_order old directory ≡ before ++ after → SplitsFrom (λ m. name_cmp (name_at nodes m) name) before after →
         trees.nodes links order ≡ before ++ b ∷ after)
-        (one_more : (m : ℕ) → times_in m (trees.nodes links order) ≡ times_in m (b ∷ in_order old place))
-        (others : OtherLinksStay old.links.items links (b ∷ in_order old place))
-        (now : Orders) (links_now : now.links.items ≡ links) (here : order_at now place ≡ order) (elsewhere : (p : Option ℕ) → p ≢ place → order_at now p
+        (one_more : (m : ℕ) → times_in m (trees.nodes links order) ≡ times_in m (b ∷ in_order old directory))
+        (others : OtherLinksStay old.links.items links (b ∷ in_order old directory))
+        (now : Orders) (links_now : now.links.items ≡ links) (here : order_at now directory ≡ order)
+        (elsewhere : (p : Option ℕ) → p ≢ directory → order_at now p
         ≡ order_at old p)
         (long : length now.directories.items ≡ length old.directories.items) where
       split : (before : List ℕ) × (after : List ℕ) × (list ≡ before ++ after) × SplitsFrom side before after
-      split = splits_from side list (less_first nodes name list (ordered.rising place))
+      split = splits_from side list (less_first nodes name list (ordered.rising directory))
 
       abbrev before : List ℕ
       before = split.0
@@ -137,38 +138,38 @@ module _ (nodes : Blocks) (tree : IsTree nodes) (old : Orders) (place : Option �
       abbrev after : List ℕ
       after = split.1
 
-      own_all : All (IsMember nodes (Some b) place) (before ++ after)
-      own_all = subst (All (IsMember nodes (Some b) place)) split.2 (ordered.own place)
+      own_all : All (IsMember nodes (Some b) directory) (before ++ after)
+      own_all = subst (All (IsMember nodes (Some b) directory)) split.2 (ordered.own directory)
 
       rising_now : AllPairs (Rises nodes) (before ++ b ∷ after)
-      rising_now = pairs_with (Rises nodes) before b after (subst (AllPairs (Rises nodes)) split.2 (ordered.rising place))
+      rising_now = pairs_with (Rises nodes) before b after (subst (AllPairs (Rises nodes)) split.2 (ordered.rising directory))
           (All-weaker (λ m. side m ≡ Less) (λ m. Rises nodes m b) (λ m less. subst (λ n. name_cmp (name_at nodes m) n ≡ Less) (sym entry.named) less) before
           split.3.less)
-          (of_times (Rises nodes b) after (λ m some. later m (at_times (IsMember nodes (Some b) place) after m (All_back_of before after own_all) some)
+          (of_times (Rises nodes b) after (λ m some. later m (at_times (IsMember nodes (Some b) directory) after m (All_back_of before after own_all) some)
           (at_times (λ x. side x ≢ Less) after m split.3.rest some)))
         where
-          All_back_of : (l r : List ℕ) → All (IsMember nodes (Some b) place) (l ++ r) → All (IsMember nodes (Some b) place) r
-          All_back_of = All_back (IsMember nodes (Some b) place)
+          All_back_of : (l r : List ℕ) → All (IsMember nodes (Some b) directory) (l ++ r) → All (IsMember nodes (Some b) directory) r
+          All_back_of = All_back (IsMember nodes (Some b) directory)
 
-      now_is : in_order now place ≡ before ++ b ∷ after
+      now_is : in_order now directory ≡ before ++ b ∷ after
       now_is = (λ i. trees.nodes (links_now i) (here i)) ∙ inserted before after split.2 split.3
 
       count : (m : ℕ) → times_in m (before ++ b ∷ after) ≡ one b m + times_in m list
       count m = ap (times_in m) (sym (inserted before after split.2 split.3)) ∙ one_more m
 
-      apart : (p : Option ℕ) → p ≢ place → (m : ℕ) → 1 ≤ times_in m (in_order old p) → times_in m (b ∷ list) ≡ 0
+      apart : (p : Option ℕ) → p ≢ directory → (m : ℕ) → 1 ≤ times_in m (in_order old p) → times_in m (b ∷ list) ≡ 0
       apart p other m some =
           let differs : b ≢ m = λ e. (member_at nodes old (Some b) ordered p m some).listed (ap Some e) in
-          omega (arith, one_other b m differs, apart_places nodes old (Some b) ordered p place other m some)
+          omega (arith, one_other b m differs, apart_directories nodes old (Some b) ordered p directory other m some)
 
-      own_now : All (IsMember nodes None place) (before ++ b ∷ after)
-      own_now = of_times (IsMember nodes None place) (before ++ b ∷ after) (λ m some. elim (cases_eq b m) [
-        | inl e ↦ subst (IsMember nodes None place) e (record { node = entry.node; there = entry.there; listed = λ e. cc })
-        | inr other ↦ (let was = member_at nodes old (Some b) ordered place m (omega (arith, some, count m, one_other b m other)) in
+      own_now : All (IsMember nodes None directory) (before ++ b ∷ after)
+      own_now = of_times (IsMember nodes None directory) (before ++ b ∷ after) (λ m some. elim (cases_eq b m) [
+        | inl e ↦ subst (IsMember nodes None directory) e (record { node = entry.node; there = entry.there; listed = λ e. cc })
+        | inr other ↦ (let was = member_at nodes old (Some b) ordered directory m (omega (arith, some, count m, one_other b m other)) in
             record { node = was.node; there = was.there; listed = λ e. cc })
       ])
 
-      all_now : (c : ℕ) → IsNode nodes c → home nodes c ≡ place → Contains (before ++ b ∷ after) c
+      all_now : (c : ℕ) → IsNode nodes c → home nodes c ≡ directory → Contains (before ++ b ∷ after) c
       all_now c node there = times_contains (before ++ b ∷ after) c (elim (cases_eq b c) [
         | inl e ↦ (let one_is : one b c ≡ 1 = subst (λ x. one b x ≡ 1) e (one_self b) in omega (arith, count c, one_is))
         | inr other ↦ (let was = contains_times list c (subst (λ q. Contains (in_order old q) c) there (ordered.all c node (λ e. other (some_same e)))) in
@@ -176,18 +177,18 @@ module _ (nodes : Blocks) (tree : IsTree nodes) (old : Orders) (place : Option �
       ])
 
       pub entered : IsInOrders nodes now None
-      entered = one_changed nodes old now (Some b) None place (before ++ b ∷ after) ordered
+      entered = one_changed nodes old now (Some b) None directory (before ++ b ∷ after) ordered
           (ap (λ (ls : List Links). length ls) links_now ∙ others.long ∙ ordered.links) (long ∙ ordered.directories)
           (subst (λ (o : Order). IsOrder now.links.items o) (sym here) (subst (λ ls. IsOrder ls order) (sym links_now) is)) now_is
           (other_orders (Some b) ordered links (b ∷ list) others apart now links_now elsewhere)
           own_now (λ p other m member. record { node = member.node; there = member.there; listed = λ e. cc }) rising_now
-          (λ c node listed there. all_now c node there) (λ c node listed other e. other (subst (λ x. home nodes x ≡ place) (some_same e) entry.there))
+          (λ c node listed there. all_now c node there) (λ c node listed other e. other (subst (λ x. home nodes x ≡ directory) (some_same e) entry.there))
 
   module _ (ordered : IsInOrders nodes old None) (links : List Links) (order : Order) (is : IsOrder links order)
-      (removed : (before after : List ℕ) → in_order old place ≡ before ++ b ∷ after → SplitsFrom (λ m. name_cmp (name_at nodes m) name) before after →
+      (removed : (before after : List ℕ) → in_order old directory ≡ before ++ b ∷ after → SplitsFrom (λ m. name_cmp (name_at nodes m) name) before after →
       trees.nodes links order ≡ before ++ after)
-      (others : OtherLinksStay old.links.items links (in_order old place))
-      (now : Orders) (links_now : now.links.items ≡ links) (here : order_at now place ≡ order) (elsewhere : (p : Option ℕ) → p ≢ place → order_at now p
+      (others : OtherLinksStay old.links.items links (in_order old directory))
+      (now : Orders) (links_now : now.links.items ≡ links) (here : order_at now directory ≡ order) (elsewhere : (p : Option ℕ) → p ≢ directory → order_at now p
       ≡ order_at old p)
       (long : length now.directories.items ≡ length old.directories.items) where
     there_now : 1 ≤ times_in b list
@@ -203,7 +204,7 @@ module _ (nodes : Blocks) (tree : IsTree nodes) (old : Orders) (place : Option �
     back = parts.1
 
     rising_was : AllPairs (Rises nodes) (front ++ b ∷ back)
-    rising_was = subst (AllPairs (Rises nodes)) parts.2 (ordered.rising place)
+    rising_was = subst (AllPairs (Rises nodes)) parts.2 (ordered.rising directory)
 
     less_greater : {o : Ordering} → o ≡ Greater → o ≡ Less → ⊥
     less_greater e f = cc
@@ -217,7 +218,7 @@ module _ (nodes : Blocks) (tree : IsTree nodes) (old : Orders) (place : Option �
           (pairs_back (Rises nodes) front b back rising_was);
     }
 
-    gone_is : in_order now place ≡ front ++ back
+    gone_is : in_order now directory ≡ front ++ back
     gone_is = (λ i. trees.nodes (links_now i) (here i)) ∙ removed front back parts.2 splits
 
     counted : (m : ℕ) → times_in m list ≡ one b m + times_in m (front ++ back)
@@ -227,15 +228,16 @@ module _ (nodes : Blocks) (tree : IsTree nodes) (old : Orders) (place : Option �
         times_both = times-append
 
     none_left : times_in b (front ++ back) ≡ 0
-    none_left = omega (arith, counted b, one_self b, (ordered.order place).once b)
+    none_left = omega (arith, counted b, one_self b, (ordered.order directory).once b)
 
     pub left : IsInOrders nodes now (Some b)
-    left = one_changed nodes old now None (Some b) place (front ++ back) ordered
+    left = one_changed nodes old now None (Some b) directory (front ++ back) ordered
         (ap (λ (ls : List Links). length ls) links_now ∙ others.long ∙ ordered.links) (long ∙ ordered.directories)
         (subst (λ (o : Order). IsOrder now.links.items o) (sym here) (subst (λ ls. IsOrder ls order) (sym links_now) is)) gone_is
-        (other_orders None ordered links list others (λ p other m some. apart_places nodes old None ordered p place other m some) now links_now elsewhere)
-        (of_times (IsMember nodes (Some b) place) (front ++ back) (λ m some.
-        (let was = member_at nodes old None ordered place m (omega (arith, counted m, some)) in
+        (other_orders None ordered links list others (λ p other m some. apart_directories nodes old None ordered p directory other m some) now links_now
+        elsewhere)
+        (of_times (IsMember nodes (Some b) directory) (front ++ back) (λ m some.
+        (let was = member_at nodes old None ordered directory m (omega (arith, counted m, some)) in
         record {
           node = was.node;
           there = was.there;
@@ -265,10 +267,11 @@ same_others ls ms new o p e f others =
     subst (λ l. OtherLinksStay l new (trees.nodes l p)) e (subst (λ (q : Order). OtherLinksStay ls new (trees.nodes ls q)) f others)
 
 -- the index of a node that is there
-pub place_inside : (nodes : Blocks) (orders : Orders) (out place : Option ℕ) → IsInOrders nodes orders out → ((d : ℕ) → place ≡ Some d → IsNode nodes d) →
-    (d : ℕ) → place ≡ Some d → d < length orders.directories.items
-place_inside nodes orders out place ordered node d e = omega (arith, live_within nodes d (node d e), ordered.directories)
+pub directory_inside : (nodes : Blocks) (orders : Orders) (out directory : Option ℕ) → IsInOrders nodes orders out →
+    ((d : ℕ) → directory ≡ Some d → IsNode nodes d) →
+    (d : ℕ) → directory ≡ Some d → d < length orders.directories.items
+directory_inside nodes orders out directory ordered node d e = omega (arith, live_within nodes d (node d e), ordered.directories)
 
-pub home_node : (nodes : Blocks) → IsTree nodes → (place : Option ℕ) (name : Name) (b : ℕ) → IsEntry nodes place name b → (d : ℕ) → place ≡ Some d →
+pub home_node : (nodes : Blocks) → IsTree nodes → (directory : Option ℕ) (name : Name) (b : ℕ) → IsEntry nodes directory name b → (d : ℕ) → directory ≡ Some d →
     IsNode nodes d
-home_node nodes tree place name b entry d e = (tree.homes b d entry.node (entry.there ∙ e)).node
+home_node nodes tree directory name b entry d e = (tree.homes b d entry.node (entry.there ∙ e)).node

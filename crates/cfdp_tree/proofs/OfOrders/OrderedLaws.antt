@@ -1,6 +1,6 @@
 -- Entries stay in order while the nodes stay where they are, under their names.
---     KeepsPlaces old new out      each node but the one that is out is where it was
---     kept_places, kept_block      where links change, and where one block does
+--     KeepsEntries old new out     each node but the one that is out is where it was
+--     kept_entries, kept_block     where links change, and where one block does
 --     ordered_kept                 then the entries stay in order
 --     ordered_out, ordered_back    a block that is no node is out of all orders
 --     ordered_made, ordered_moved, ordered_gone    a node is made, is put elsewhere, goes
@@ -20,23 +20,23 @@ use Rattle.cfdp_order.proofs.TreeLaws.{none_is, no_nodes}
 use Rattle.cfdp_tree.specs.declared.contents.Contents.{Contents}
 use Rattle.cfdp_tree.specs.code.NodeFields.{node_fields_of, node_name, kind_told}
 use Rattle.cfdp_tree.specs.code.Files.{with_contents}
-use Rattle.cfdp_tree.specs.code.Tree.{IsNode, IsTree, node_fields_at, name_at, home_in, home, SamePlaces}
+use Rattle.cfdp_tree.specs.code.Tree.{IsNode, IsTree, node_fields_at, name_at, home_in, home, SameEntries}
 use Rattle.cfdp_tree.specs.code.Entries.{IsMember}
 use Rattle.cfdp_tree.specs.code.Next.{name_cmp, IsListOf}
 use Rattle.cfdp_tree.specs.code.Orders.{order_at, in_order, Rises, IsInOrders}
-use Rattle.cfdp_tree.proofs.OfStore.FileNodeLaws.{file_places}
+use Rattle.cfdp_tree.proofs.OfStore.FileNodeLaws.{file_entries}
 use Rattle.cfdp_tree.proofs.OfIndex.OutLaws.{no_node}
 use Rattle.cfdp_tree.proofs.OfIndex.InsertLaws.{none_some, some_same}
 
-pub record KeepsPlaces (old new : Blocks) (out : Option ℕ) : Type 0 where
+pub record KeepsEntries (old new : Blocks) (out : Option ℕ) : Type 0 where
   pub nodes : (c : ℕ) → out ≢ Some c → is_some (octets_at new c) ≡ is_some (octets_at old c)
   pub homes : (c : ℕ) → out ≢ Some c → home new c ≡ home old c
   pub names : (c : ℕ) → out ≢ Some c → name_at new c ≡ name_at old c
 
-pub kept_places : (old new : Blocks) (out : Option ℕ) → SamePlaces old new → KeepsPlaces old new out
-kept_places old new out same = record { nodes = (λ c listed. same.nodes c); homes = (λ c listed. same.homes c); names = (λ c listed. same.names c) }
+pub kept_entries : (old new : Blocks) (out : Option ℕ) → SameEntries old new → KeepsEntries old new out
+kept_entries old new out same = record { nodes = (λ c listed. same.nodes c); homes = (λ c listed. same.homes c); names = (λ c listed. same.names c) }
 
-pub kept_block : (old : Blocks) (b : ℕ) (entry : Option (List ℕ)) → KeepsPlaces old (set old b entry) (Some b)
+pub kept_block : (old : Blocks) (b : ℕ) (entry : Option (List ℕ)) → KeepsEntries old (set old b entry) (Some b)
 kept_block old b entry =
     let others : (c : ℕ) → Some b ≢ Some c → octets_at (set old b entry) c ≡ octets_at old c =
     λ c listed. get_or-set_other old b c entry None (λ e. listed (ap Some (sym e))) in
@@ -46,32 +46,33 @@ kept_block old b entry =
       names = (λ c listed. ap (λ o. node_name (unwrap_or o [])) (others c listed));
     }
 
-module _ (old new : Blocks) (orders : Orders) (out : Option ℕ) (long : length new ≡ length old) (keeps : KeepsPlaces old new out)
+module _ (old new : Blocks) (orders : Orders) (out : Option ℕ) (long : length new ≡ length old) (keeps : KeepsEntries old new out)
     (ordered : IsInOrders old orders out) where
-  member_kept : (place : Option ℕ) (c : ℕ) → IsMember old out place c → IsMember new out place c
-  member_kept place c member = record {
+  member_kept : (directory : Option ℕ) (c : ℕ) → IsMember old out directory c → IsMember new out directory c
+  member_kept directory c member = record {
     node = keeps.nodes c member.listed ∙ member.node;
     there = keeps.homes c member.listed ∙ member.there;
     listed = member.listed;
   }
 
-  rising_kept : (place : Option ℕ) → AllPairs (Rises new) (in_order orders place)
-  rising_kept place i j d up less =
-      let member : (k : ℕ) → k < length (in_order orders place) → IsMember old out place (get_or (in_order orders place) k d) =
-      λ k within. ordered.own place k d within in
-      subst (λ n. name_cmp n (name_at new (get_or (in_order orders place) j d)) ≡ Less)
-      (sym (keeps.names (get_or (in_order orders place) i d) (member i (omega (arith, up, less))).listed))
-      (subst (λ n. name_cmp (name_at old (get_or (in_order orders place) i d)) n ≡ Less)
-      (sym (keeps.names (get_or (in_order orders place) j d) (member j less).listed)) (ordered.rising place i j d up less))
+  rising_kept : (directory : Option ℕ) → AllPairs (Rises new) (in_order orders directory)
+  rising_kept directory i j d up less =
+      let member : (k : ℕ) → k < length (in_order orders directory) → IsMember old out directory (get_or (in_order orders directory) k d) =
+      λ k within. ordered.own directory k d within in
+      subst (λ n. name_cmp n (name_at new (get_or (in_order orders directory) j d)) ≡ Less)
+      (sym (keeps.names (get_or (in_order orders directory) i d) (member i (omega (arith, up, less))).listed))
+      (subst (λ n. name_cmp (name_at old (get_or (in_order orders directory) i d)) n ≡ Less)
+      (sym (keeps.names (get_or (in_order orders directory) j d) (member j less).listed)) (ordered.rising directory i j d up less))
 
   pub ordered_kept : IsInOrders new orders out
   ordered_kept = record {
     links = ordered.links ∙ sym long;
     directories = ordered.directories ∙ sym long;
     order = ordered.order;
-    own = (λ place. All-weaker (IsMember old out place) (IsMember new out place) (member_kept place) (in_order orders place) (ordered.own place));
+    own = (λ directory. All-weaker (IsMember old out directory) (IsMember new out directory) (member_kept directory) (in_order orders directory)
+        (ordered.own directory));
     rising = rising_kept;
-    all = (λ c node listed. subst (λ place. Contains (in_order orders place) c) (sym (keeps.homes c listed))
+    all = (λ c node listed. subst (λ directory. Contains (in_order orders directory) c) (sym (keeps.homes c listed))
         (ordered.all c (sym (keeps.nodes c listed) ∙ node) listed));
   }
 
@@ -81,9 +82,9 @@ module _ (nodes : Blocks) (orders : Orders) (b : ℕ) (free : octets_at nodes b 
     links = ordered.links;
     directories = ordered.directories;
     order = ordered.order;
-    own = (λ place. All-weaker (IsMember nodes None place) (IsMember nodes (Some b) place)
+    own = (λ directory. All-weaker (IsMember nodes None directory) (IsMember nodes (Some b) directory)
         (λ c member. record { node = member.node; there = member.there; listed = λ e. no_node free (subst (IsNode nodes) (sym (some_same e)) member.node) })
-        (in_order orders place) (ordered.own place));
+        (in_order orders directory) (ordered.own directory));
     rising = ordered.rising;
     all = (λ c node listed. ordered.all c node none_some);
   }
@@ -93,8 +94,8 @@ module _ (nodes : Blocks) (orders : Orders) (b : ℕ) (free : octets_at nodes b 
     links = ordered.links;
     directories = ordered.directories;
     order = ordered.order;
-    own = (λ place. All-weaker (IsMember nodes (Some b) place) (IsMember nodes None place)
-        (λ c member. record { node = member.node; there = member.there; listed = none_some }) (in_order orders place) (ordered.own place));
+    own = (λ directory. All-weaker (IsMember nodes (Some b) directory) (IsMember nodes None directory)
+        (λ c member. record { node = member.node; there = member.there; listed = none_some }) (in_order orders directory) (ordered.own directory));
     rising = ordered.rising;
     all = (λ c node listed. ordered.all c node (λ e. no_node free (subst (IsNode nodes) (sym (some_same e)) node)));
   }
@@ -115,9 +116,10 @@ ordered_gone old orders b node ordered =
     ordered_back (without_block old b) orders b (get_or-set_same old b None None (live_within old b node))
     (ordered_kept old (without_block old b) orders (Some b) (length-set old b None) (kept_block old b None) ordered)
 
-pub listed_in : (nodes : Blocks) (orders : Orders) → IsInOrders nodes orders None → (place : Option ℕ) → IsListOf nodes place (in_order orders place)
-listed_in nodes orders ordered place = record {
-  own = ordered.own place;
+pub listed_in : (nodes : Blocks) (orders : Orders) → IsInOrders nodes orders None → (directory : Option ℕ) → IsListOf nodes directory
+    (in_order orders directory)
+listed_in nodes orders ordered directory = record {
+  own = ordered.own directory;
   all = (λ b member. subst (λ p. Contains (in_order orders p) b) member.there (ordered.all b member.node none_some));
 }
 
@@ -131,20 +133,21 @@ module _ (nodes : Blocks) (tree : IsTree nodes) (b : ℕ) (node : IsNode nodes b
   ordered_written orders ordered =
       subst (λ ns. IsInOrders ns orders None) (sym (later_is ∙ ap (λ ns. with_block ns b written) middle_is))
       (ordered_kept nodes (with_block nodes b written) orders None (length-set nodes b (Some written))
-      (kept_places nodes (with_block nodes b written) None
-      (file_places nodes tree b node file written contents (row ∙ ap (λ ns. with_contents (node_fields_at ns b) contents) middle_is) (name
+      (kept_entries nodes (with_block nodes b written) None
+      (file_entries nodes tree b node file written contents (row ∙ ap (λ ns. with_contents (node_fields_at ns b) contents) middle_is) (name
       ∙ ap (λ ns. name_at ns b) middle_is) whole)) ordered)
 
 pub ordered_none : (nodes : Blocks) (orders : Orders) → length orders.links.items ≡ length nodes → length orders.directories.items ≡ length nodes →
     ((b : ℕ) → IsNode nodes b → ⊥)
-    → ((place : Option ℕ) → (order_at orders place).height ≡ 0) → IsInOrders nodes orders None
+    → ((directory : Option ℕ) → (order_at orders directory).height ≡ 0) → IsInOrders nodes orders None
 ordered_none nodes orders links directories none empty =
-    let list : (place : Option ℕ) → in_order orders place ≡ [] = λ place. no_nodes orders.links.items (order_at orders place) (empty place) in
+    let list : (directory : Option ℕ) → in_order orders directory ≡ [] = λ directory. no_nodes orders.links.items (order_at orders directory)
+    (empty directory) in
     record {
       links = links;
       directories = directories;
-      order = (λ place. none_is orders.links.items (order_at orders place) (empty place));
-      own = (λ place. subst (All (IsMember nodes None place)) (sym (list place)) (All-nil (IsMember nodes None place)));
-      rising = (λ place. subst (AllPairs (Rises nodes)) (sym (list place)) (λ i j d up less. absurd (omega (arith, less))));
+      order = (λ directory. none_is orders.links.items (order_at orders directory) (empty directory));
+      own = (λ directory. subst (All (IsMember nodes None directory)) (sym (list directory)) (All-nil (IsMember nodes None directory)));
+      rising = (λ directory. subst (AllPairs (Rises nodes)) (sym (list directory)) (λ i j d up less. absurd (omega (arith, less))));
       all = (λ b node listed. absurd (none b node));
     }

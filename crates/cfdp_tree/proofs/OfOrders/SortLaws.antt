@@ -4,7 +4,7 @@
 --     pairs_front, pairs_back  the nodes before a node of such a list, and those after it
 --     less_back                how a name compares with that of a node
 --     less_first, greater_last the nodes with names before another name come first, and those with names after it last
---     place_cases              two directories are one or not
+--     directory_cases          two directories are one or not
 --     none_from, other_from, there_from    the first node that does not come before a name, and whether it has the name
 --     first_least, after_least the first node is that of the least name, and the first one after a name the next one
 use Rattle.std.proofs.Common.{◌≡◌, ◌≢◌, ℕ, ◌≤◌, List, [], ◌∷◌, ◌++◌, get_or, Option, Some, None, refl, sym, ap, ◌∙◌, subst, ◌⊎◌, inl, inr, arith}
@@ -65,11 +65,11 @@ module _ (nodes : Blocks) (name : Name) (list : List ℕ) (rising : AllPairs (Ri
       let m = name_at nodes (get_or list i d) in let n = name_at nodes (get_or list j d) in
       less_back name n (nat_list_cmp_total.trans name m n (flipped nat_list_cmp_total m name e) (rising i j d up less))
 
-pub place_cases : (p q : Option ℕ) → (p ≡ q) ⊎ (p ≢ q)
-place_cases None None = inl refl
-place_cases None (Some d) = inr (λ e. cc)
-place_cases (Some c) None = inr (λ e. cc)
-place_cases (Some c) (Some d) = elim (cases_eq c d) [
+pub directory_cases : (p q : Option ℕ) → (p ≡ q) ⊎ (p ≢ q)
+directory_cases None None = inl refl
+directory_cases None (Some d) = inr (λ e. cc)
+directory_cases (Some c) None = inr (λ e. cc)
+directory_cases (Some c) (Some d) = elim (cases_eq c d) [
   | inl e ↦ inl (ap Some e)
   | inr other ↦ inr (λ e. other (same e))
 ]

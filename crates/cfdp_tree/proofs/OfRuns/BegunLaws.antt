@@ -22,7 +22,7 @@ pub record IsBegun (old new : Blocks) (was now : List Way) (run after : Run) : T
   pub others : OtherRunsStay old new after
   pub first : 0 < run.count → after.first ≡ run.first
   pub fresh : run.count ≡ 0 → 0 < after.count → octets_at old after.first ≡ None
-  pub places : (k : ℕ) → k < run.count → nth new after.first k ≡ nth old run.first k
+  pub sequence : (k : ℕ) → k < run.count → nth new after.first k ≡ nth old run.first k
   pub nodes : nodes_in new ≡ nodes_in old
   pub live : StayLive old new
   pub ways : HasWays new now after
@@ -44,7 +44,7 @@ begun_first old new was now run after none held one octets taken size stay fresh
       others = (λ block was_live not_of. stay block was_live);
       first = (λ some. absurd (omega (arith, some, none)));
       fresh = (λ empty some. fresh);
-      places = (λ k less. absurd (omega (arith, less, none)));
+      sequence = (λ k less. absurd (omega (arith, less, none)));
       nodes = nodes;
       live = live;
       ways = ways;
@@ -63,7 +63,7 @@ begun_same arena ways run held has =
       others = (λ block live not_of. refl);
       first = (λ some. refl);
       fresh = (λ empty some. absurd (omega (arith, empty, some)));
-      places = (λ k less. refl);
+      sequence = (λ k less. refl);
       nodes = refl;
       live = (λ block live. live);
       ways = has;

@@ -12,7 +12,7 @@ use Rattle.cfdp_tree.proofs.OfRuns.HeldLaws.{held_others, octets_others, nth_oth
 
 module _ (old new : Blocks) (run source : Run) (at end : ℕ) (part : List ℕ) (keeps : KeepsFront run at source end) (held : IsHeld new run)
     (written : octets_of_run new run ≡ overwritten (octets_of_run old run) at part) (within : at ≤ length (octets_of_run old run))
-    (places : (k : ℕ) → k ≤ run.count → nth new run.first k ≡ nth old run.first k) (others : OtherRunsStay old new run) (was : IsHeld old source) where
+    (sequence : (k : ℕ) → k ≤ run.count → nth new run.first k ≡ nth old run.first k) (others : OtherRunsStay old new run) (was : IsHeld old source) where
   pub front_held : IsHeld new source
   front_held = elim (cases_eq run.first source.first) [
     | inl e ↦ subst (IsHeld new) (sym (keeps e).0) held
@@ -21,7 +21,7 @@ module _ (old new : Blocks) (run source : Run) (at end : ℕ) (part : List ℕ) 
 
   pub front_nth : (k : ℕ) → k ≤ source.count → nth new source.first k ≡ nth old source.first k
   front_nth k reach = elim (cases_eq run.first source.first) [
-    | inl e ↦ subst (λ (r : Run). nth new r.first k ≡ nth old r.first k) (sym (keeps e).0) (places k (subst (λ (r : Run). k ≤ r.count) (keeps e).0 reach))
+    | inl e ↦ subst (λ (r : Run). nth new r.first k ≡ nth old r.first k) (sym (keeps e).0) (sequence k (subst (λ (r : Run). k ≤ r.count) (keeps e).0 reach))
     | inr ne ↦ nth_others old new run source others (λ _ _ e. ne (sym e)) was k reach
   ]
 

@@ -1,6 +1,6 @@
 -- A run with one more block.
 --     begun_held, begun_octets, begun_stay, begun_nodes      the first block
---     grown_held, grown_octets, grown_others, grown_free, grown_size, grown_places, grown_nodes, grown_live     one more after the last
+--     grown_held, grown_octets, grown_others, grown_free, grown_size, grown_sequence, grown_nodes, grown_live   one more after the last
 --     no_live                                                what is free is not live
 --     taken_octets, taken_written                            the octets of a block that was just taken
 use Rattle.std.proofs.Common.{◌≡◌, ◌≢◌, ℕ, suc, ◌+◌, ◌-◌, ◌<◌, List, ◌++◌, length, Option, Some, None, refl, sym, ap, ◌∙◌, subst, inl, inr, arith, append-nil, length-set}
@@ -153,8 +153,8 @@ module _ (arena begun : Blocks) (block : ℕ) (free : octets_at arena block ≡ 
           (λ e. not_of (some, ap (λ entry. (header_in entry).owner) (sym was) ∙ ap (λ x. (header_in (octets_at begun x)).owner) e ∙ last_part.owner_is))
           ∙ was
 
-      pub grown_places : (after : Run) → after.first ≡ run.first → (k : ℕ) → k < run.count → nth grown after.first k ≡ nth arena run.first k
-      grown_places after first_is k within =
+      pub grown_sequence : (after : Run) → after.first ≡ run.first → (k : ℕ) → k < run.count → nth grown after.first k ≡ nth arena run.first k
+      grown_sequence after first_is k within =
           ap (λ b. nth grown b k) first_is
           ∙ ap (λ b. nth (with_block begun b new) run.first k) last_is
           ∙ linked_before begun run.first block new new_whole 0 n run.first k parts (omega (arith, all))

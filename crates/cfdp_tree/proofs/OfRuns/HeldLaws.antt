@@ -99,12 +99,13 @@ module _ (arena : Blocks) (run : Run) (held : IsHeld arena run) (k : ℕ) (withi
     pub put_nodes : nodes_in (with_block arena block new) ≡ nodes_in arena
     put_nodes = nodes-written arena block run.first k new held_part (ap (λ (h : Header). h.kind) same)
 
-    pub put_octets : (place : ℕ) (part : List ℕ) → place + length part ≤ 120 → payload new ≡ overwritten (payload (octets (octets_at arena block))) place part
-        → octets_of_run (with_block arena block new) run ≡ overwritten (octets_of_run arena run) (120 * k + place) part
-    put_octets place part inside written =
+    pub put_octets : (cursor : ℕ) (part : List ℕ) → cursor + length part ≤ 120 → payload new ≡ overwritten
+        (payload (octets (octets_at arena block))) cursor part
+        → octets_of_run (with_block arena block new) run ≡ overwritten (octets_of_run arena run) (120 * k + cursor) part
+    put_octets cursor part inside written =
         ap (λ b. run_octets (with_block arena b new) run.count run.first) block_is
-        ∙ written_octets arena run.first new whole place part inside 0 run.count run.first k (120 * k + place) held.parts within same_there
-        (written ∙ ap (λ b. overwritten (payload (octets (octets_at arena b))) place part) block_is) refl
+        ∙ written_octets arena run.first new whole cursor part inside 0 run.count run.first k (120 * k + cursor) held.parts within same_there
+        (written ∙ ap (λ b. overwritten (payload (octets (octets_at arena b))) cursor part) block_is) refl
 
 -- its blocks are a chain, and apart
 chain_nth : (arena : Blocks) (n block k d : ℕ) → k < n → get_or (chain_in arena n block) k d ≡ nth arena block k

@@ -44,20 +44,21 @@ length-run arena owner rank (suc n) block run =
     )
 
 -- a slice of one payload
-pub run_slice : (arena : Blocks) (owner rank n block k place count at : ℕ) → IsRun arena owner rank n block → k < n → place + count ≤ 120 → at ≡ 120 * k + place
-    → take count (drop at (run_octets arena n block)) ≡ take count (drop place (payload (octets (octets_at arena (nth arena block k)))))
-run_slice arena owner rank zero block k place count at run within inside at_is = absurd (omega arith)
-run_slice arena owner rank (suc n) block zero place count at run within inside at_is =
+pub run_slice : (arena : Blocks) (owner rank n block k cursor count at : ℕ) → IsRun arena owner rank n block → k < n → cursor + count ≤ 120 → at ≡ 120 * k
+    + cursor
+    → take count (drop at (run_octets arena n block)) ≡ take count (drop cursor (payload (octets (octets_at arena (nth arena block k)))))
+run_slice arena owner rank zero block k cursor count at run within inside at_is = absurd (omega arith)
+run_slice arena owner rank (suc n) block zero cursor count at run within inside at_is =
     let old = octets (octets_at arena block) in
     let rest = run_octets arena n (next_in (octets_at arena block)) in
-    let first : at ≡ place = omega arith in
+    let first : at ≡ cursor = omega arith in
     ap (λ j. take count (drop j (payload old ++ rest))) first
-    ∙ slice-left (payload old) rest place count (omega (arith, length-drop 8 old, run.0.whole))
-run_slice arena owner rank (suc n) block (suc k) place count at run within inside at_is =
+    ∙ slice-left (payload old) rest cursor count (omega (arith, length-drop 8 old, run.0.whole))
+run_slice arena owner rank (suc n) block (suc k) cursor count at run within inside at_is =
     let old = octets (octets_at arena block) in
     let next = next_in (octets_at arena block) in
-    slice-right (payload old) (run_octets arena n next) (120 * k + place) at count (omega (arith, length-drop 8 old, run.0.whole))
-    ∙ run_slice arena owner (suc rank) n next k place count (120 * k + place) run.1 (omega arith) inside refl
+    slice-right (payload old) (run_octets arena n next) (120 * k + cursor) at count (omega (arith, length-drop 8 old, run.0.whole))
+    ∙ run_slice arena owner (suc rank) n next k cursor count (120 * k + cursor) run.1 (omega arith) inside refl
 
 abbrev pub KeepsFrom : ℕ → ℕ → Blocks → Blocks → Type 0
 KeepsFrom owner rank old new = (block r : ℕ) → rank ≤ r → IsRunPart owner r (octets_at old block) → octets_at new block ≡ octets_at old block
@@ -150,9 +151,9 @@ module _ (arena : Blocks) (owner : ℕ) (new : List ℕ) (whole : length new ≡
       (apart arena owner block target rank (suc rank + k) run.0 there (omega arith)) in
       ap (λ entry. nth after (next_in entry) j) kept ∙ written_nth (suc rank) n next k j run.1 (omega arith) (omega arith) same
 
-  module _ (place : ℕ) (part : List ℕ) (inside : place + length part ≤ 120) where
+  module _ (cursor : ℕ) (part : List ℕ) (inside : cursor + length part ≤ 120) where
     pub written_octets : (rank n block k at : ℕ) → IsRun arena owner rank n block → k < n → block_header new ≡ header_in (octets_at arena (nth arena block k))
-        → payload new ≡ overwritten (payload (octets (octets_at arena (nth arena block k)))) place part → at ≡ 120 * k + place
+        → payload new ≡ overwritten (payload (octets (octets_at arena (nth arena block k)))) cursor part → at ≡ 120 * k + cursor
         → run_octets (with_block arena (nth arena block k) new) n block ≡ overwritten (run_octets arena n block) at part
     written_octets rank zero block k at run within same written at_is = absurd (omega arith)
     written_octets rank (suc n) block zero at run within same written at_is =
@@ -161,12 +162,12 @@ module _ (arena : Blocks) (owner : ℕ) (new : List ℕ) (whole : length new ≡
         let next = next_in (octets_at arena block) in
         let rest = run_octets arena n next in
         let here : octets_at after block ≡ Some new = get_or-set_same arena block (Some new) None (live_within arena block run.0.live) in
-        let first : at ≡ place = omega arith in
+        let first : at ≡ cursor = omega arith in
         ap (λ entry. payload (octets entry) ++ run_octets after n (next_in entry)) here
         ∙ ap (λ (h : Header). payload new ++ run_octets after n h.next) same
         ∙ ap (λ xs. payload new ++ xs) (kept_octets arena after owner (suc rank) n next (beyond_keeps arena owner rank block (Some new) run.0) run.1)
         ∙ ap (λ xs. xs ++ rest) written
-        ∙ sym (overwritten-left (payload old) rest place part (omega (arith, length-drop 8 old, run.0.whole)))
+        ∙ sym (overwritten-left (payload old) rest cursor part (omega (arith, length-drop 8 old, run.0.whole)))
         ∙ ap (λ j. overwritten (payload old ++ rest) j part) (sym first)
     written_octets rank (suc n) block (suc k) at run within same written at_is =
         let next = next_in (octets_at arena block) in
@@ -178,8 +179,8 @@ module _ (arena : Blocks) (owner : ℕ) (new : List ℕ) (whole : length new ≡
         let kept : octets_at after block ≡ octets_at arena block = get_or-set_other arena target block (Some new) None
         (apart arena owner block target rank (suc rank + k) run.0 there (omega arith)) in
         ap (λ entry. payload (octets entry) ++ run_octets after n (next_in entry)) kept
-        ∙ ap (λ xs. payload old ++ xs) (written_octets (suc rank) n next k (120 * k + place) run.1 (omega arith) same written refl)
-        ∙ sym (overwritten-right (payload old) (run_octets arena n next) (120 * k + place) at part (omega (arith, length-drop 8 old, run.0.whole)))
+        ∙ ap (λ xs. payload old ++ xs) (written_octets (suc rank) n next k (120 * k + cursor) run.1 (omega arith) same written refl)
+        ∙ sym (overwritten-right (payload old) (run_octets arena n next) (120 * k + cursor) at part (omega (arith, length-drop 8 old, run.0.whole)))
 
 -- the last part is linked to a part of the rank after its own
 module _ (arena : Blocks) (owner fresh : ℕ) (new : List ℕ) (whole : length new ≡ 128) where

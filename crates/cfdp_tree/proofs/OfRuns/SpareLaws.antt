@@ -22,7 +22,7 @@ others_spared : (old new : Blocks) (run : Run) → OtherRunsStay old new run →
 others_spared old new run stay other held apart = record {
   held = held_others old new run other stay apart held;
   octets = octets_others old new run other stay apart held;
-  places = nth_others old new run other stay apart held;
+  sequence = nth_others old new run other stay apart held;
 }
 
 pub spares_kept : (old new : Blocks) (run : Run) → OtherRunsStay old new run → Spares old new run run
@@ -47,19 +47,19 @@ pub spares_then : (first second third : Blocks) (a b c : Run) → Spares first s
 spares_then first second third a b c one two other held apart =
     let s = one other held apart in
     let t = two other s.0.held s.1 in
-    (record { held = t.0.held; octets = t.0.octets ∙ s.0.octets; places = (λ k within. t.0.places k within ∙ s.0.places k within) }, t.1)
+    (record { held = t.0.held; octets = t.0.octets ∙ s.0.octets; sequence = (λ k within. t.0.sequence k within ∙ s.0.sequence k within) }, t.1)
 
 keeps_stays : (old new : Blocks) (run : Run) → KeepsFrom run.first 0 old new → IsHeld old run → Stays old new run
 keeps_stays old new run keeps held =
-    let places : (k : ℕ) → k ≤ run.count → nth new run.first k ≡ nth old run.first k =
+    let sequence : (k : ℕ) → k ≤ run.count → nth new run.first k ≡ nth old run.first k =
     (λ k within. kept_nth old new run.first 0 run.count run.first k keeps held.parts within) in
     record {
       held = record {
         parts = kept_run old new run.first 0 run.count run.first keeps held.parts;
-        last = (λ some. held.last some ∙ sym (places (run.count - 1) (omega arith)));
+        last = (λ some. held.last some ∙ sym (sequence (run.count - 1) (omega arith)));
       };
       octets = kept_octets old new run.first 0 run.count run.first keeps held.parts;
-      places = places;
+      sequence = sequence;
     }
 
 -- a block that is none of a run's changes

@@ -9,14 +9,14 @@ use Rattle.std.proofs.lemmas.List.{take-append-drop, drop-drop, length-take-le}
 use Rattle.std.specs.Prelude.{slice_range}
 use Rattle.cfdp_actions.specs.Store.{extended, overwritten}
 use Rattle.cfdp_checksum.specs.Checksum.{weighed_from, checksum_at, checksum}
-use Rattle.cfdp_checksum.proofs.ChecksumSteps.{offsets-add-up, only-places-count, zeros-add-nothing, parts-are-replaced}
+use Rattle.cfdp_checksum.proofs.ChecksumSteps.{offsets-add-up, only-word-offsets-count, zeros-add-nothing, parts-are-replaced}
 use Rattle.cfdp_tree.proofs.OfRuns.OctetsInLists.{take_parts, slice_is}
 
 pub extended_sum : (xs : List ℕ) (size : ℕ) → checksum (extended xs size) ≡ checksum xs
 extended_sum xs size = zeros-add-nothing 0 (size - length xs) xs
 
 pub joined_sum : (xs ys : List ℕ) (n : ℕ) → length xs ≡ n → checksum (xs ++ ys) ≡ (checksum xs + checksum_at n ys) % 2 ^ 32
-joined_sum xs ys n long = offsets-add-up 0 xs ys ∙ ap (λ m. (checksum xs + m) % 2 ^ 32) (only-places-count (0 + length xs) n ys (omega (arith, long)))
+joined_sum xs ys n long = offsets-add-up 0 xs ys ∙ ap (λ m. (checksum xs + m) % 2 ^ 32) (only-word-offsets-count (0 + length xs) n ys (omega (arith, long)))
 
 module _ (xs : List ℕ) (at : ℕ) (part : List ℕ) (within : at + length part ≤ length xs) where
   there : List ℕ

@@ -43,18 +43,18 @@ module _ (was now : List Way) (f g : ℕ → ℕ) (n : ℕ) (many : length now �
 
 pub ways_kept : (old new : Blocks) (was now : List Way) (run : Run) → length new ≡ length old → length now ≡ length was → IsHeld old run
     → ((k : ℕ) → k < run.count → nth new run.first k ≡ nth old run.first k) → WaysStay old was now → HasWays old was run → HasWays new now run
-ways_kept old new was now run long many held places stay has = record {
+ways_kept old new was now run long many held sequence stay has = record {
   long = many ∙ has.long ∙ sym long;
-  led = led_same was now (nth old run.first) (nth new run.first) run.count many places
+  led = led_same was now (nth old run.first) (nth new run.first) run.count many sequence
       (λ k less. stay (nth old run.first k) (held_part old run held k less (nth old run.first k) refl).live) has.led;
 }
 
 pub ways_still : (old new : Blocks) (ways : List Way) (run : Run) → length new ≡ length old →
     ((k : ℕ) → k < run.count → nth new run.first k ≡ nth old run.first k)
     → HasWays old ways run → HasWays new ways run
-ways_still old new ways run long places has = record {
+ways_still old new ways run long sequence has = record {
   long = has.long ∙ sym long;
-  led = led_same ways ways (nth old run.first) (nth new run.first) run.count refl places (λ k less. refl) has.led;
+  led = led_same ways ways (nth old run.first) (nth new run.first) run.count refl sequence (λ k less. refl) has.led;
 }
 
 pub ways_none : (arena : Blocks) (ways : List Way) (run : Run) → length ways ≡ length arena → run.count ≡ 0 → HasWays arena ways run
@@ -97,18 +97,18 @@ pub ways_grown : (old later : Blocks) (was now : List Way) (run after : Run) (la
     → ((blocks : ℕ → ℕ) → IsLed was blocks (last.index + 1) → last.block ≡ blocks last.index → after.last ≡ blocks (last.index + 1) →
     ((k : ℕ) → k ≤ last.index → blocks k ≢ after.last)
     → IsLed now blocks (last.index + 2)) → HasWays later now after
-ways_grown old later was now run after last held some block index has long many longer count places free led =
+ways_grown old later was now run after last held some block index has long many longer count sequence free led =
     let f = nth old run.first in let g = nth later after.first in
     let was_led : IsLed was g (last.index + 1) =
-    led_same was was f g (last.index + 1) refl (λ k less. places k (omega (arith, less, index, some))) (λ k less. refl)
+    led_same was was f g (last.index + 1) refl (λ k less. sequence k (omega (arith, less, index, some))) (λ k less. refl)
     (led_shorter was f run.count (last.index + 1) (omega (arith, index, some)) has.led) in
-    let there : last.block ≡ g last.index = block ∙ held.last some ∙ ap f (sym index) ∙ sym (places last.index (omega (arith, index, some))) in
+    let there : last.block ≡ g last.index = block ∙ held.last some ∙ ap f (sym index) ∙ sym (sequence last.index (omega (arith, index, some))) in
     let to_last : after.count - 1 ≡ last.index + 1 = omega (arith, count, index, some) in
     let next : after.last ≡ g (last.index + 1) = longer.last (omega (arith, count)) ∙ ap g to_last in
     let fresh : (k : ℕ) → k ≤ last.index → g k ≢ after.last = (λ k within e. (
     let less : k < run.count = omega (arith, within, index, some) in
     let live = (held_part old run held k less (f k) refl).live in
-    no_live (octets_at old after.last) free (subst (IsLive old) (sym (places k less) ∙ e) live))) in
+    no_live (octets_at old after.last) free (subst (IsLive old) (sym (sequence k less) ∙ e) live))) in
     let all : last.index + 2 ≡ after.count = omega (arith, count, index, some) in
     record { long = many ∙ has.long ∙ sym long; led = subst (λ n. IsLed now g n) all (led g was_led there next fresh) }
 
@@ -117,7 +117,7 @@ pub keeps_spared : (old new : Blocks) (was now : List Way) (before after : Run) 
     → KeepsWays old new was now before
 keeps_spared old new was now before after long many spares stay other held apart has =
     let s = spares other held apart in
-    ways_kept old new was now other long many held (λ k less. s.0.places k (omega (arith, less))) stay has
+    ways_kept old new was now other long many held (λ k less. s.0.sequence k (omega (arith, less))) stay has
 
 pub keeps_still : (old new : Blocks) (ways : List Way) (before after : Run) → length new ≡ length old → Spares old new before after →
     KeepsWays old new ways ways before

@@ -15,13 +15,13 @@ use Rattle.cfdp_actions.specs.Filestore.{Node}
 use Rattle.cfdp_tree.specs.declared.runs.Run.{Run}
 use Rattle.cfdp_tree.specs.code.NodeFields.{NodeFields, node_fields_of, kind_told}
 use Rattle.cfdp_tree.specs.code.Runs.{Stays, RunsStay}
-use Rattle.cfdp_tree.specs.code.Tree.{IsNode, IsDirectory, node_fields_at, unlinked, Relinked, SamePlaces}
+use Rattle.cfdp_tree.specs.code.Tree.{IsNode, IsDirectory, node_fields_at, unlinked, Relinked, SameEntries}
 use Rattle.cfdp_tree.specs.code.Kept.{contents_told, file_of, file_in, node_told, node_of, Shows}
-use Rattle.cfdp_tree.proofs.OfNodes.PlaceLaws.{same_paths}
-use Rattle.cfdp_tree.proofs.OfNodes.LinkLaws.{relinked_places}
+use Rattle.cfdp_tree.proofs.OfNodes.EntryLaws.{same_paths}
+use Rattle.cfdp_tree.proofs.OfNodes.LinkLaws.{relinked_entries}
 
 pub record Alike (old new : Blocks) : Type 0 where
-  pub places : SamePlaces old new
+  pub entries : SameEntries old new
   pub files : (b : ℕ) → file_in (octets_at new b) ≡ file_in (octets_at old b)
 
 told_unlinked : (k : Kind) (row : NodeFields) → contents_told k (unlinked row) ≡ contents_told k row
@@ -40,7 +40,7 @@ by_row (Some x) (Some y) some rows =
 
 pub alike_relinked : (old new : Blocks) → Relinked old new → Alike old new
 alike_relinked old new links = record {
-  places = relinked_places old new links;
+  entries = relinked_entries old new links;
   files = (λ b. by_row (octets_at new b) (octets_at old b) (links.nodes b) (links.rows b));
 }
 
@@ -54,26 +54,26 @@ told_by arena nodes b node = ap (node_told arena (kind_told (node_fields_at node
 
 module _ (old new : Blocks) (same : Alike old new) where
   pub alike_node : (b : ℕ) → IsNode new b → IsNode old b
-  alike_node b node = sym (same.places.nodes b) ∙ node
+  alike_node b node = sym (same.entries.nodes b) ∙ node
 
   pub alike_told : (arena : Blocks) (b : ℕ) → IsNode new b → node_of arena (octets_of new b) ≡ node_of arena (octets_of old b)
   alike_told arena b node =
-      told_by arena new b node ∙ (λ k. node_told arena (same.places.kinds b k) (same.files b k)) ∙ sym (told_by arena old b (alike_node b node))
+      told_by arena new b node ∙ (λ k. node_told arena (same.entries.kinds b k) (same.files b k)) ∙ sym (told_by arena old b (alike_node b node))
 
   pub alike_directory : (d : ℕ) → IsDirectory old d → IsDirectory new d
-  alike_directory d was = record { node = same.places.nodes d ∙ was.node; directory = same.places.kinds d ∙ was.directory }
+  alike_directory d was = record { node = same.entries.nodes d ∙ was.node; directory = same.entries.kinds d ∙ was.directory }
 
   pub alike_shows : (arena : Blocks) (F : finite.FinMap path_cmp Node) → Shows arena old F → Shows arena new F
   alike_shows arena F shows = record {
-    each = (λ b node. ap (finite.get F) (same_paths old new same.places b) ∙ shows.each b (alike_node b node) ∙ ap Some (sym (alike_told arena b node)));
-    only = (λ p node e. (let at = shows.only p node e in (at.0, same.places.nodes at.0 ∙ at.1, same_paths old new same.places at.0 ∙ at.2)));
+    each = (λ b node. ap (finite.get F) (same_paths old new same.entries b) ∙ shows.each b (alike_node b node) ∙ ap Some (sym (alike_told arena b node)));
+    only = (λ p node e. (let at = shows.only p node e in (at.0, same.entries.nodes at.0 ∙ at.1, same_paths old new same.entries at.0 ∙ at.2)));
   }
 
 stays_then : (first second third : Blocks) (run : Run) → Stays first second run → Stays second third run → Stays first third run
 stays_then first second third run one two = record {
   held = two.held;
   octets = two.octets ∙ one.octets;
-  places = (λ k within. two.places k within ∙ one.places k within);
+  sequence = (λ k within. two.sequence k within ∙ one.sequence k within);
 }
 
 pub runs_then : (first second third : Blocks) → RunsStay first second → RunsStay second third → RunsStay first third

@@ -23,8 +23,8 @@ use Rattle.cfdp_tree.specs.code.Nodes.{nodes_in}
 use Rattle.cfdp_tree.specs.code.Tree.{IsTree}
 use Rattle.cfdp_tree.specs.code.Index.{Heads, IsIndex}
 use Rattle.cfdp_tree.specs.code.Kept.{no_contents, file_in, holdings, Shows, filestore_of, store_of, IsStored}
-use Rattle.cfdp_tree.specs.code.Slots.{lists_staged, IsPlaced, IsStore}
-use Rattle.cfdp_tree.proofs.OfStore.SlotPlaces.{slot_stays}
+use Rattle.cfdp_tree.specs.code.Slots.{lists_staged, IsSoundSlot, IsStore}
+use Rattle.cfdp_tree.proofs.OfStore.SlotCursors.{slot_stays}
 use Rattle.cfdp_tree.proofs.OfRuns.ContentsLaws.{none_filled, stays_filled, stays_contents}
 use Rattle.cfdp_tree.proofs.OfStore.ShowLaws.{tree_shows, shown_same}
 use Rattle.cfdp_tree.proofs.OfStore.SeenLaws.{mapped_at, held_at}
@@ -45,7 +45,7 @@ module _ (arena later : Blocks) (before after : Contents) where
   left_led : (ways : List Way) → length later ≡ length arena → IsLeft arena later before after → HasWays arena ways before.run → HasWays later ways after.run
   left_led ways long (inl e) has = ways_none later ways after.run (has.long ∙ sym long) (ap (λ (x : Contents). x.run.count) e)
   left_led ways long (inr same) has = subst (λ (x : Contents). HasWays later ways x.run) (sym same.0)
-      (ways_still arena later ways before.run long (λ k less. same.1.places k (omega (arith, less))) has)
+      (ways_still arena later ways before.run long (λ k less. same.1.sequence k (omega (arith, less))) has)
 
   left_apart : (other now : Contents) → IsLeft arena later before after → IsLeft arena later other now → Apart before.run other.run → Apart after.run now.run
   left_apart other now (inl e) right apart = (λ some more. absurd (omega (arith, some, ap (λ (x : Contents). x.run.count) e)))
@@ -118,13 +118,13 @@ module _ (arena later : Blocks) (heads after : Heads) (slots : List Slot) {ways 
         (get_or (holdings (nodes_in later) staged) i no_contents) ways long (left_at i) (store.kept.stored.led i));
   }
 
-  placed_now : All (IsPlaced later) slots
-  placed_now j d within =
+  sound_now : All (IsSoundSlot later) slots
+  sound_now j d within =
       let s = get_or slots j d in
       let at : get_or staged j no_contents ≡ s.contents = mapped_at (λ (slot : Slot). slot.contents) slots j s no_contents within
       (get_or_default slots j d s within) in
       let stays = subst (λ (x : Contents). Stays arena later x.run) at (lists j) in
-      slot_stays arena later s stays (store.placed j d within)
+      slot_stays arena later s stays (store.sound j d within)
 
   pub nodes_store : free_count later + blocks seen ≡ length later → IsStore later ways after slots
   nodes_store counted = record {
@@ -137,5 +137,5 @@ module _ (arena later : Blocks) (heads after : Heads) (slots : List Slot) {ways 
       stored = stored_now;
       counted = ap (λ (G : Filestore). free_count later + blocks G) filestore_is ∙ counted;
     };
-    placed = placed_now;
+    sound = sound_now;
   }

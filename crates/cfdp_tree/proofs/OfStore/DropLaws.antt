@@ -29,14 +29,14 @@ use Rattle.cfdp_tree.specs.code.Runs.{Apart, Stays, RunsStay, Spares, nth}
 use Rattle.cfdp_tree.specs.code.Contents.{IsFilled, contents_in}
 use Rattle.cfdp_tree.specs.code.Nodes.{nodes_in}
 use Rattle.cfdp_tree.specs.code.Tree.{IsNode, name_at, home, path_of_node, IsEntry, IsTree, Relinked}
-use Rattle.cfdp_tree.specs.code.Places.{path_at}
+use Rattle.cfdp_tree.specs.code.Directories.{path_at}
 use Rattle.cfdp_tree.specs.code.Index.{Heads, IsIndex}
 use Rattle.cfdp_tree.specs.code.Kept.{no_contents, contents_told, file_of, file_in, holdings, node_told, node_of, Shows, store_of}
 use Rattle.cfdp_tree.specs.code.Slots.{lists_staged, IsStore}
 use Rattle.cfdp_tree.proofs.OfRuns.ContentsLaws.{length-contents, none_filled, stays_contents}
 use Rattle.cfdp_tree.proofs.OfStore.SlotLaws.{told_same}
 use Rattle.cfdp_tree.proofs.OfStore.SeenLaws.{shows, seen_none, file_small, seen_node, seen_blocks, held_at, told_directory}
-use Rattle.cfdp_tree.proofs.OfNodes.PlaceLaws.{same_paths, same_tree}
+use Rattle.cfdp_tree.proofs.OfNodes.EntryLaws.{same_paths, same_tree}
 use Rattle.cfdp_tree.proofs.OfNodes.ClimbLaws.{path_by_home}
 use Rattle.cfdp_tree.proofs.OfNodes.BelowLaws.{entry_some}
 use Rattle.cfdp_tree.proofs.OfNodes.RemoveLaws.{removed_tree, removed_shows}
@@ -64,7 +64,7 @@ told_octets arena kind.Directory row file = cc
 stays_two : (first second third : Blocks) (run : Run) → Stays first second run → RunsStay second third → Stays first third run
 stays_two first second third run one runs =
     let two = runs run one.held in
-    record { held = two.held; octets = two.octets ∙ one.octets; places = (λ k within. two.places k within ∙ one.places k within) }
+    record { held = two.held; octets = two.octets ∙ one.octets; sequence = (λ k within. two.sequence k within ∙ one.sequence k within) }
 
 module _ (arena : Blocks) (heads : Heads) (slots : List Slot) {ways : List Way} (store : IsStore arena ways heads slots) (now : Store)
     (view : store_of arena (lists_staged slots) ≡ now) where
@@ -163,7 +163,7 @@ module _ (arena : Blocks) (heads : Heads) (slots : List Slot) {ways : List Way} 
       alike_two = subst (λ ns. Alike ns (nodes_in two)) one_is (alike_relinked (nodes_in one) (nodes_in two) links)
 
       pub node_two : IsNode (nodes_in two) b
-      node_two = alike_two.places.nodes b ∙ node
+      node_two = alike_two.entries.nodes b ∙ node
 
       module _ (childless : is_directory (node_at now.filestore path) ≡ true → has_entries now.filestore path ≡ false) (later : Blocks)
           (later_is : nodes_in later ≡ without_block (nodes_in two) b)
@@ -174,10 +174,10 @@ module _ (arena : Blocks) (heads : Heads) (slots : List Slot) {ways : List Way} 
         before = nodes_in two
 
         tree_two : IsTree before
-        tree_two = same_tree nodes before alike_two.places store.kept.tree
+        tree_two = same_tree nodes before alike_two.entries store.kept.tree
 
         none_two : (c : ℕ) → IsNode before c → home before c ≡ Some b → ⊥
-        none_two c inside there = home_none childless c (alike_node nodes before alike_two c inside) (sym (alike_two.places.homes c) ∙ there)
+        none_two c inside there = home_none childless c (alike_node nodes before alike_two c inside) (sym (alike_two.entries.homes c) ∙ there)
 
         tree_later : IsTree (nodes_in later)
         tree_later = subst IsTree (sym later_is) (removed_tree before b node_two tree_two none_two)
@@ -204,7 +204,7 @@ module _ (arena : Blocks) (heads : Heads) (slots : List Slot) {ways : List Way} 
         ]
           where
             none_stays : (new : Blocks) → Stays arena new no_contents.run
-            none_stays new = record { held = (none_filled new no_contents refl refl refl).held; octets = refl; places = (λ k within. zero_nth k within) }
+            none_stays new = record { held = (none_filled new no_contents refl refl refl).held; octets = refl; sequence = (λ k within. zero_nth k within) }
               where
                 zero_nth : (k : ℕ) → k ≤ 0 → nth new 0 k ≡ nth arena 0 k
                 zero_nth k within =
@@ -235,7 +235,7 @@ module _ (arena : Blocks) (heads : Heads) (slots : List Slot) {ways : List Way} 
         shows_later : Shows later (nodes_in later) F
         shows_later =
             subst (λ ns. Shows later ns F) (sym later_is)
-            (subst (λ p. Shows later (without_block before b) (finite.remove now.filestore.nodes p)) (same_paths nodes before alike_two.places b ∙ way)
+            (subst (λ p. Shows later (without_block before b) (finite.remove now.filestore.nodes p)) (same_paths nodes before alike_two.entries b ∙ way)
             (removed_shows before b node_two tree_two none_two arena later now.filestore.nodes
             (alike_shows nodes before alike_two arena now.filestore.nodes seen) told_kept))
 

@@ -23,9 +23,9 @@ use Rattle.cfdp_tree.specs.code.Nodes.{nodes_in}
 use Rattle.cfdp_tree.specs.code.Tree.{IsNode, node_fields_at, name_at, path_of_node}
 use Rattle.cfdp_tree.specs.code.Index.{Heads}
 use Rattle.cfdp_tree.specs.code.Kept.{no_contents, contents_told, file_of, file_in, holdings, node_of, store_of, IsStored}
-use Rattle.cfdp_tree.specs.code.Slots.{lists_staged, IsPlaced, IsStore}
+use Rattle.cfdp_tree.specs.code.Slots.{lists_staged, IsSoundSlot, IsStore}
 use Rattle.cfdp_tree.specs.code.Files.{with_contents, SameOctets}
-use Rattle.cfdp_tree.proofs.OfStore.SlotPlaces.{slot_stays}
+use Rattle.cfdp_tree.proofs.OfStore.SlotCursors.{slot_stays}
 use Rattle.cfdp_tree.proofs.OfRuns.WayLaws.{same_ways, ways_still}
 use Rattle.cfdp_tree.proofs.OfRuns.ContentsLaws.{stays_filled, stays_contents}
 use Rattle.cfdp_tree.proofs.OfStore.StoredLaws.{apart_back}
@@ -136,7 +136,7 @@ module _ (old new : Blocks) (held : List Contents) (i j : ℕ) (first : i < leng
       let x = comes k in
       let was = get_or held x.from no_contents in
       same_ways new ways (get_or now k no_contents) was x.octets
-      (ways_still old new ways was.run long (λ n less. (runs was.run (stored.filled x.from).held).places n (omega (arith, less))) (stored.led x.from))
+      (ways_still old new ways was.run long (λ n less. (runs was.run (stored.filled x.from).held).sequence n (omega (arith, less))) (stored.led x.from))
 
   pub exchanged : IsStored new ways now
   exchanged = record { filled = filled_at; apart = apart_at; led = led_at }
@@ -150,7 +150,7 @@ module _ (arena : Blocks) (heads : Heads) (slots : List Slot) {ways : List Way} 
     (row : node_fields_of written ≡ with_contents (node_fields_at (nodes_in arena) b) slot.contents) (name : node_name written ≡ name_at (nodes_in arena) b)
     (whole : length written ≡ 128)
     (runs : RunsStay arena later) (free : free_count later ≡ free_count arena) (long : length later ≡ length arena)
-    (after : Slot) (after_is : after.contents ≡ contents_told kind.File (node_fields_at (nodes_in arena) b)) (placed : IsPlaced later after) where
+    (after : Slot) (after_is : after.contents ≡ contents_told kind.File (node_fields_at (nodes_in arena) b)) (sound : IsSoundSlot later after) where
   abbrev nodes : Blocks
   nodes = nodes_in arena
 
@@ -256,8 +256,8 @@ module _ (arena : Blocks) (heads : Heads) (slots : List Slot) {ways : List Way} 
   there_slot : i < length slots
   there_slot = slot_there arena heads slots store now view i small
 
-  place_stays : (j : ℕ) (d : Slot) → j < length slots → IsPlaced later (get_or slots j d)
-  place_stays j d within =
+  stays_sound : (j : ℕ) (d : Slot) → j < length slots → IsSoundSlot later (get_or slots j d)
+  stays_sound j d within =
       let s = get_or slots j d in
       let inside : j < length staged = omega (arith, within, length-map slots (λ (slot : Slot). slot.contents)) in
       let at : get_or held j no_contents ≡ s.contents =
@@ -265,18 +265,18 @@ module _ (arena : Blocks) (heads : Heads) (slots : List Slot) {ways : List Way} 
       (get_or_default slots j d s within) in
       let was_filled = subst (IsFilled arena) at (store.kept.stored.filled j) in
       let stays = runs s.contents.run was_filled.held in
-      slot_stays arena later s stays (store.placed j d within)
+      slot_stays arena later s stays (store.sound j d within)
 
-  placed_now : All (IsPlaced later) slots_now
-  placed_now j d within = elim (cases_eq j i) [
-    | inl e ↦ subst (IsPlaced later) (sym (ap (λ k. get_or slots_now k d) e ∙ get_or-set_same slots i after d there_slot)) placed
-    | inr other ↦ subst (IsPlaced later) (sym (get_or-set_other slots i j after d other)) (place_stays j d (omega (arith, within, length-set slots i after)))
+  sound_now : All (IsSoundSlot later) slots_now
+  sound_now j d within = elim (cases_eq j i) [
+    | inl e ↦ subst (IsSoundSlot later) (sym (ap (λ k. get_or slots_now k d) e ∙ get_or-set_same slots i after d there_slot)) sound
+    | inr other ↦ subst (IsSoundSlot later) (sym (get_or-set_other slots i j after d other)) (stays_sound j d (omega (arith, within, length-set slots i after)))
   ]
 
   pub exchange_store : IsStore later ways heads slots_now
   exchange_store = written_store arena heads slots store now view b p node way file later slot.contents written row name whole
       (files.staged_in now.filestore i) here node_stays nodes_later long
-      slots_now (set now.filestore.staged i (file_octets_at now.filestore p)) lists_are ways (length-set slots i after) stored_now counted_now placed_now
+      slots_now (set now.filestore.staged i (file_octets_at now.filestore p)) lists_are ways (length-set slots i after) stored_now counted_now sound_now
 
   pub exchange_seen : store_of later (lists_staged slots_now) ≡ with_changes now
       (Stages i (file_octets_at now.filestore p) ∷ Becomes p (Some (File (files.staged_in now.filestore i))) ∷ [])

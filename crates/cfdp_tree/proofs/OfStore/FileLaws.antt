@@ -30,22 +30,22 @@ use Rattle.cfdp_tree.specs.code.Runs.{Apart, Spares, Stays, RunsStay}
 use Rattle.cfdp_tree.specs.code.Ways.{HasWays, KeepsWays}
 use Rattle.cfdp_tree.specs.code.Contents.{IsFilled, contents_in}
 use Rattle.cfdp_tree.specs.code.Nodes.{nodes_in}
-use Rattle.cfdp_tree.specs.code.Tree.{IsNode, node_fields_at, name_at, path_of_node, IsTree, SamePlaces}
+use Rattle.cfdp_tree.specs.code.Tree.{IsNode, node_fields_at, name_at, path_of_node, IsTree, SameEntries}
 use Rattle.cfdp_tree.specs.code.Index.{Heads, IsIndex}
 use Rattle.cfdp_tree.specs.code.Kept.{no_contents, contents_told, file_of, file_in, holdings, node_told, node_of, Shows, filestore_of, store_of, IsStored}
-use Rattle.cfdp_tree.specs.code.Slots.{lists_staged, IsPlaced, IsStore}
+use Rattle.cfdp_tree.specs.code.Slots.{lists_staged, IsSoundSlot, IsStore}
 use Rattle.cfdp_tree.specs.code.Files.{with_contents, SameOctets}
-use Rattle.cfdp_tree.proofs.OfStore.SlotPlaces.{slot_stays}
+use Rattle.cfdp_tree.proofs.OfStore.SlotCursors.{slot_stays}
 use Rattle.cfdp_tree.proofs.OfRuns.WayLaws.{same_ways, ways_still}
 use Rattle.cfdp_tree.proofs.OfRuns.Filling.{blocks_of-fits}
 use Rattle.cfdp_tree.proofs.OfRuns.ContentsLaws.{length-contents, none_filled, none_contents, none_sum as none_summed, stays_filled, stays_contents}
 use Rattle.cfdp_tree.proofs.OfNodes.TreeLaws.{same_node}
-use Rattle.cfdp_tree.proofs.OfNodes.PlaceLaws.{same_paths, same_tree}
+use Rattle.cfdp_tree.proofs.OfNodes.EntryLaws.{same_paths, same_tree}
 use Rattle.cfdp_tree.proofs.OfStore.ShowLaws.{tree_shows, shown_same}
 use Rattle.cfdp_tree.proofs.OfStore.StoredLaws.{stored_changed, stored_others, spared as run_spared}
 use Rattle.cfdp_tree.proofs.OfStore.SeenLaws.{shows, seen_node, seen_blocks, mapped_at, held_at}
 use Rattle.cfdp_tree.proofs.OfStore.SlotLaws.{told_same}
-use Rattle.cfdp_tree.proofs.OfStore.FileNodeLaws.{file_kind, file_places, file_index}
+use Rattle.cfdp_tree.proofs.OfStore.FileNodeLaws.{file_kind, file_entries, file_index}
 use Rattle.cfdp_tree.proofs.OfStore.FileNodeLaws as rows
 
 -- octets that are in the same blocks
@@ -136,11 +136,11 @@ module _ (arena : Blocks) (heads : Heads) (slots : List Slot) {ways : List Way} 
     abbrev new : Blocks
     new = with_block nodes b written
 
-    places : SamePlaces nodes new
-    places = file_places nodes store.kept.tree b node kind_there written contents row name whole
+    entries : SameEntries nodes new
+    entries = file_entries nodes store.kept.tree b node kind_there written contents row name whole
 
     tree_new : IsTree new
-    tree_new = same_tree nodes new places store.kept.tree
+    tree_new = same_tree nodes new entries store.kept.tree
 
     pub told_written : contents.run.count ≡ blocks_of contents.size → SameOctets (file_of written) contents
     told_written blocks = subst (λ x. SameOctets x contents)
@@ -166,7 +166,7 @@ module _ (arena : Blocks) (heads : Heads) (slots : List Slot) {ways : List Way} 
       was_shown = shows arena heads slots store now view
 
       path_new : (c : ℕ) → path_of_node new c ≡ path_of_node nodes c
-      path_new = same_paths nodes new places
+      path_new = same_paths nodes new entries
 
       octets_new : octets_of new b ≡ written
       octets_new = ap (λ entry. unwrap_or entry []) (get_or-set_same nodes b (Some written) None (live_within nodes b node))
@@ -195,14 +195,14 @@ module _ (arena : Blocks) (heads : Heads) (slots : List Slot) {ways : List Way} 
           ≡ Some (node_of later (octets_of new c))
       each_new c is = got (path_of_node new c) ∙ elim (cases_eq c b) [
         | inl e ↦ each_here c e
-        | inr other ↦ each_other c (sym (places.nodes c) ∙ is) other (same_path (path_of_node new c) p) refl
+        | inr other ↦ each_other c (sym (entries.nodes c) ∙ is) other (same_path (path_of_node new c) p) refl
       ]
 
       only_new : (q : Path) (found : Node) (same : Bool) → same_path q p ≡ same → put same (finite.get now.filestore.nodes q) ≡ Some found → (c : ℕ)
           × IsNode new c × (path_of_node new c ≡ q)
       unfolding put
-      only_new q found true is e = (b, places.nodes b ∙ node, path_new b ∙ way ∙ sym ((same_path-Decides q p).0 is))
-      only_new q found false is e = (let there = was_shown.only q found e in (there.0, places.nodes there.0 ∙ there.1, path_new there.0 ∙ there.2))
+      only_new q found true is e = (b, entries.nodes b ∙ node, path_new b ∙ way ∙ sym ((same_path-Decides q p).0 is))
+      only_new q found false is e = (let there = was_shown.only q found e in (there.0, entries.nodes there.0 ∙ there.1, path_new there.0 ∙ there.2))
 
       shows_new : Shows later new (finite.insert now.filestore.nodes p (File octets))
       shows_new = record { each = each_new; only = (λ q found e. only_new q found (same_path q p) refl (sym (got q) ∙ e)) }
@@ -229,8 +229,8 @@ module _ (arena : Blocks) (heads : Heads) (slots : List Slot) {ways : List Way} 
 
         pub written_store : (ways_now : List Way) → length slots_now ≡ length slots → IsStored later ways_now (holdings new (lists_staged slots_now)) →
             free_count later + blocks filestore_now ≡ length later
-            → All (IsPlaced later) slots_now → IsStore later ways_now heads slots_now
-        written_store ways_now many stored counted placed = record {
+            → All (IsSoundSlot later) slots_now → IsStore later ways_now heads slots_now
+        written_store ways_now many stored counted sound = record {
           kept = record {
             some = omega (arith, long, store.kept.some);
             small = omega (arith, long, store.kept.small);
@@ -241,7 +241,7 @@ module _ (arena : Blocks) (heads : Heads) (slots : List Slot) {ways : List Way} 
             stored = subst (λ ns. IsStored later ways_now (holdings ns (lists_staged slots_now))) (sym nodes_now) stored;
             counted = ap (λ F. free_count later + blocks F) filestore_is ∙ counted;
           };
-          placed = placed;
+          sound = sound;
         }
 
   -- its octets are others, and then its block says so
@@ -281,7 +281,7 @@ module _ (arena : Blocks) (heads : Heads) (slots : List Slot) {ways : List Way} 
     spares_told other is apart =
         let s = spares other is apart in
         let t = runs other s.0.held in (
-          record { held = t.held; octets = t.octets ∙ s.0.octets; places = (λ k within. t.places k within ∙ s.0.places k within) },
+          record { held = t.held; octets = t.octets ∙ s.0.octets; sequence = (λ k within. t.sequence k within ∙ s.0.sequence k within) },
           same_apart told after same other s.1,
         )
 
@@ -328,34 +328,34 @@ module _ (arena : Blocks) (heads : Heads) (slots : List Slot) {ways : List Way} 
           seen_blocks arena heads slots store now view,
         )
 
-    place_stays : (j : ℕ) (d : Slot) → j < length slots → IsPlaced later (get_or slots j d)
-    place_stays j d within =
+    stays_sound : (j : ℕ) (d : Slot) → j < length slots → IsSoundSlot later (get_or slots j d)
+    stays_sound j d within =
         let s = get_or slots j d in
         let inside : j < length staged = omega (arith, within, length-map slots (λ (slot : Slot). slot.contents)) in
         let at : get_or held j no_contents ≡ s.contents = slot_at j inside ∙ mapped_at (λ (slot : Slot). slot.contents) slots j s no_contents within
         (get_or_default slots j d s within) in
         let stays = subst (λ (x : Contents). Stays arena later x.run) at
         (run_spared arena later held (length staged + b) in_held told store.kept.stored spares_held filled_told j (λ e. omega (arith, inside, e))).0 in
-        slot_stays arena later s stays (store.placed j d within)
+        slot_stays arena later s stays (store.sound j d within)
 
     -- the ways of its blocks, and of those of all others
     module _ (ways_now : List Way) (has : HasWays middle ways_now after.run) (keeps : KeepsWays arena middle ways ways_now before.run) where
       has_later : HasWays later ways_now told.run
       has_later = same_ways later ways_now told after same
-          (ways_still middle later ways_now after.run long (λ k less. (runs after.run filled.held).places k (omega (arith, less))) has)
+          (ways_still middle later ways_now after.run long (λ k less. (runs after.run filled.held).sequence k (omega (arith, less))) has)
 
       keeps_later : KeepsWays arena later ways ways_now (get_or held (length staged + b) no_contents).run
       keeps_later other is apart was =
           let apart_before = subst (λ (x : Contents). Apart x.run other) held_here apart in
           let still = (spares other is apart_before).0.held in
-          ways_still middle later ways_now other long (λ k less. (runs other still).places k (omega (arith, less))) (keeps other is apart_before was)
+          ways_still middle later ways_now other long (λ k less. (runs other still).sequence k (omega (arith, less))) (keeps other is apart_before was)
 
       pub file_store : IsStore later ways_now heads slots
       file_store = written_store later after written row_is name_is whole octets here node_stays nodes_is (long
           ∙ long_middle) slots now.filestore.staged lists_are ways_now refl
           (subst (IsStored later ways_now) (sym holdings_now) (stored_changed arena later held (length staged
           + b) in_held told store.kept.stored spares_held filled_told ways_now has_later keeps_later))
-          counted_now place_stays
+          counted_now stays_sound
 
     pub file_changes : store_of later (lists_staged slots) ≡ with_changes now (Becomes p (Some (File octets)) ∷ [])
     file_changes = written_seen later after written row_is name_is whole octets here node_stays nodes_is (long

@@ -1,7 +1,7 @@
 -- The block of a file, written with other octets: nodes are where they were, and are found as they were.
 --     run_keeps       what a row does not say of its blocks stays
 --     row_keeps       what a row does not say of its octets stays
---     file_places     all nodes are where they were
+--     file_entries    all nodes are where they were
 --     file_index      and are in the lists of the index in which they were
 --     told_same       its contents are those that were written
 use Rattle.std.proofs.Common.{◌≡◌, ℕ, ◌<◌, Bool, true, false, List, [], length, Option, Some, None, refl, sym, ap, ◌∙◌, subst, arith, length-set}
@@ -14,11 +14,11 @@ use Rattle.cfdp_actions.specs.Filestore.{blocks_of}
 use Rattle.cfdp_tree.specs.declared.runs.Run.{Run}
 use Rattle.cfdp_tree.specs.declared.contents.Contents.{Contents}
 use Rattle.cfdp_tree.specs.code.NodeFields.{NodeFields, node_fields_of, node_name, kind_told}
-use Rattle.cfdp_tree.specs.code.Tree.{IsNode, node_fields_at, name_at, IsNamed, IsTree, SamePlaces}
+use Rattle.cfdp_tree.specs.code.Tree.{IsNode, node_fields_at, name_at, IsNamed, IsTree, SameEntries}
 use Rattle.cfdp_tree.specs.code.Index.{Heads, IsIndex}
 use Rattle.cfdp_tree.specs.code.Kept.{contents_told}
 use Rattle.cfdp_tree.specs.code.Files.{with_run, with_contents, SameOctets}
-use Rattle.cfdp_tree.proofs.OfNodes.PlaceLaws.{kept_by, same_places}
+use Rattle.cfdp_tree.proofs.OfNodes.EntryLaws.{kept_by, same_entries}
 use Rattle.cfdp_tree.proofs.OfIndex.OutLaws.{index_kept}
 
 pub run_keeps : {X : Type 0} (word : NodeFields → X) (row : NodeFields) (run : Run) → word (record row { first = run.first; last = run.last }) ≡ word row →
@@ -78,8 +78,8 @@ module _ (nodes : Blocks) (tree : IsTree nodes) (b : ℕ) (node : IsNode nodes b
   pub file_kind : kind_told (node_fields_of block).kind ≡ kind.File
   file_kind = ap kind_told (keeps (λ (r : NodeFields). r.kind) (λ _ _ _ _. refl)) ∙ file
 
-  pub file_places : SamePlaces nodes new
-  file_places = same_places nodes b block node tree named
+  pub file_entries : SameEntries nodes new
+  file_entries = same_entries nodes b block node tree named
       (keeps (λ (r : NodeFields). if r.parent == b then None else Some r.parent) (λ _ _ _ _. refl)) name
       (keeps (λ (r : NodeFields). kind_told r.kind) (λ _ _ _ _. refl))
 
@@ -93,4 +93,4 @@ module _ (nodes : Blocks) (tree : IsTree nodes) (b : ℕ) (node : IsNode nodes b
   same_head = kept (λ (r : NodeFields). r.same_head) (λ _ _ _ _. refl)
 
   pub file_index : (heads : Heads) (out : Option ℕ) → IsIndex nodes heads out → IsIndex new heads out
-  file_index heads out index = index_kept nodes new heads out file_places same_head (length-set nodes b (Some block)) index
+  file_index heads out index = index_kept nodes new heads out file_entries same_head (length-set nodes b (Some block)) index

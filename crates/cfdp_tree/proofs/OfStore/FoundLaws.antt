@@ -17,7 +17,7 @@ use Rattle.cfdp_actions.specs.declared.kind.Kind.TheVariants as kind
 use Rattle.cfdp_actions.specs.Filestore.{Node, File, Becomes, node_at, octets_in, file_octets_at, is_file, blocks_of, blocks, weight}
 use Rattle.cfdp_actions.specs.Store.{Store, free_blocks, with_changes}
 use Rattle.cfdp_actions.proofs.StoreLaws.{weight-found, octets-weight}
-use Rattle.cfdp_actions.proofs.SurveyLaws.{blocks_of-bound}
+use Rattle.cfdp_actions.proofs.BlocksLaws.{blocks_of-bound}
 use Rattle.cfdp_tree.specs.declared.contents.Contents.{Contents}
 use Rattle.cfdp_tree.specs.declared.files.FoundFile.{FoundFile}
 use Rattle.cfdp_ways.specs.declared.way.Way.{Way}

@@ -24,7 +24,7 @@ use Rattle.cfdp_tree.specs.code.NodeFields.{NodeFields, node_fields_of, node_nam
 use Rattle.cfdp_tree.specs.code.Runs.{Stays, RunsStay}
 use Rattle.cfdp_tree.specs.code.Nodes.{only_node, nodes_in}
 use Rattle.cfdp_tree.specs.code.Tree.{IsNode, IsDirectory, name_at, home_in, home, path_of_node, IsEntry, IsNamed, IsTree, Relinked}
-use Rattle.cfdp_tree.specs.code.Places.{path_at, StandsAt}
+use Rattle.cfdp_tree.specs.code.Directories.{path_at, StandsAt}
 use Rattle.cfdp_tree.specs.code.Index.{Heads, IsIndex}
 use Rattle.cfdp_tree.specs.code.Kept.{no_contents, contents_told, file_of, file_in, node_told, node_of, Shows, store_of}
 use Rattle.cfdp_tree.specs.code.Slots.{lists_staged, IsStore}
@@ -32,9 +32,9 @@ use Rattle.cfdp_tree.specs.code.Changes.{empty_node}
 use Rattle.cfdp_tree.proofs.OfRuns.ContentsLaws.{stays_contents}
 use Rattle.cfdp_tree.proofs.OfStore.SlotLaws.{told_same}
 use Rattle.cfdp_tree.proofs.OfStore.SeenLaws.{shows, seen_blocks}
-use Rattle.cfdp_tree.proofs.OfNodes.PlaceLaws.{same_tree}
+use Rattle.cfdp_tree.proofs.OfNodes.EntryLaws.{same_tree}
 use Rattle.cfdp_tree.proofs.OfNodes.ClimbLaws.{path_entry}
-use Rattle.cfdp_tree.proofs.OfNodes.ParentLaws.{parent_directory, parent_place}
+use Rattle.cfdp_tree.proofs.OfNodes.ParentLaws.{parent_directory, parent_stands}
 use Rattle.cfdp_tree.proofs.OfNodes.AddLaws.{added_tree, added_path, added_shows}
 use Rattle.cfdp_tree.proofs.OfIndex.OutLaws.{index_created}
 use Rattle.cfdp_tree.proofs.OfStore.AlikeLaws.{Alike, alike_relinked, told_by, alike_shows}
@@ -56,25 +56,26 @@ empty_weight kind.File = ap (λ n. 1 + n) no_blocks
 module _ (arena : Blocks) (heads : Heads) (slots : List Slot) {ways : List Way} (store : IsStore arena ways heads slots) (now : Store)
     (view : store_of arena (lists_staged slots) ≡ now)
     (path : Path) (is_path : IsPath path) (depth : ℕ) (long : length path ≡ depth + 1) (parent_good : parent_is_good now.filestore path ≡ true)
-    (place : Option ℕ) (place_node : IfSome place (λ b. IsNode (nodes_in arena) b))
-    (place_path : IfSome place (λ b. path_of_node (nodes_in arena) b ≡ take depth path))
-    (place_none : IfNone place ((b : ℕ) → IsNode (nodes_in arena) b → path_of_node (nodes_in arena) b ≡ take depth path → ⊥)) (name : Name) (name_is : name
+    (directory : Option ℕ) (directory_node : IfSome directory (λ b. IsNode (nodes_in arena) b))
+    (directory_path : IfSome directory (λ b. path_of_node (nodes_in arena) b ≡ take depth path))
+    (directory_none : IfNone directory ((b : ℕ) → IsNode (nodes_in arena) b → path_of_node (nodes_in arena) b ≡ take depth path → ⊥)) (name : Name)
+    (name_is : name
     ≡ get_or path depth []) where
   abbrev nodes : Blocks
   nodes = nodes_in arena
 
-  directory : (d : ℕ) → place ≡ Some d → IsDirectory nodes d
-  directory = parent_directory arena nodes store.kept.tree now.filestore (shows arena heads slots store now view) path depth long parent_good place (
-    place_node,
-    place_path,
-    place_none,
+  is_directory : (d : ℕ) → directory ≡ Some d → IsDirectory nodes d
+  is_directory = parent_directory arena nodes store.kept.tree now.filestore (shows arena heads slots store now view) path depth long parent_good directory (
+    directory_node,
+    directory_path,
+    directory_none,
   )
 
-  stands : StandsAt nodes place (take depth path)
-  stands = parent_place arena nodes store.kept.tree now.filestore (shows arena heads slots store now view) path depth long parent_good place (
-    place_node,
-    place_path,
-    place_none,
+  stands : StandsAt nodes directory (take depth path)
+  stands = parent_stands arena nodes store.kept.tree now.filestore (shows arena heads slots store now view) path depth long parent_good directory (
+    directory_node,
+    directory_path,
+    directory_none,
   )
 
   pub path_is : take depth path ++ name ∷ [] ≡ path
@@ -83,18 +84,18 @@ module _ (arena : Blocks) (heads : Heads) (slots : List Slot) {ways : List Way} 
   pub name_good : IsName name
   name_good = subst IsName (sym name_is) (is_path.names depth [] (omega (arith, long)))
 
-  pub target_few : length (path_at nodes place) ≤ 7
+  pub target_few : length (path_at nodes directory) ≤ 7
   target_few = omega (arith, ap length stands.path, length-take-le depth path (omega (arith, long)), long, is_path.few)
 
-  pub entry_none : node_at now.filestore path ≡ None → (c : ℕ) → IsEntry nodes place name c → ⊥
+  pub entry_none : node_at now.filestore path ≡ None → (c : ℕ) → IsEntry nodes directory name c → ⊥
   entry_none absent c entry =
-      let way = path_entry nodes store.kept.tree place (take depth path) name c stands entry ∙ path_is in
+      let way = path_entry nodes store.kept.tree directory (take depth path) name c stands entry ∙ path_is in
       no_node (sym absent ∙ ap (node_at now.filestore) (sym way) ∙ (shows arena heads slots store now view).each c entry.node)
 
   module _ (absent : node_at now.filestore path ≡ None) (one : Blocks) (b : ℕ) (k : Kind) (free : octets_at arena b ≡ None) (within : b < length arena)
       (one_is : nodes_in one ≡ with_block nodes b (octets_of (nodes_in one) b)) (row : node_fields_of (octets_of (nodes_in one) b)
-      ≡ plain_fields (unwrap_or place b) k name)
-      (there : home (nodes_in one) b ≡ place) (named : name_at (nodes_in one) b ≡ name) (whole : length (octets_of (nodes_in one) b) ≡ 128) where
+      ≡ plain_fields (unwrap_or directory b) k name)
+      (there : home (nodes_in one) b ≡ directory) (named : name_at (nodes_in one) b ≡ name) (whole : length (octets_of (nodes_in one) b) ≡ 128) where
     abbrev block : List ℕ
     block = octets_of (nodes_in one) b
 
@@ -115,7 +116,7 @@ module _ (arena : Blocks) (heads : Heads) (slots : List Slot) {ways : List Way} 
     }
 
     good : (d : ℕ) → home_in b block ≡ Some d → IsDirectory nodes d
-    good d e = directory d (sym there ∙ e)
+    good d e = is_directory d (sym there ∙ e)
 
     few : length (path_at nodes (home_in b block)) ≤ 7
     few = subst (λ x. length (path_at nodes x) ≤ 7) (sym there) target_few
@@ -135,7 +136,7 @@ module _ (arena : Blocks) (heads : Heads) (slots : List Slot) {ways : List Way} 
     here : octets_at made b ≡ Some block
     here = get_or-set_same nodes b (Some block) None inside
 
-    pub entry_made : IsEntry (nodes_in one) place name b
+    pub entry_made : IsEntry (nodes_in one) directory name b
     entry_made = record { node = subst (λ ns. IsNode ns b) (sym one_is) (subst IsSome (sym here) refl); there = there; named = named }
 
     module _ (later : Blocks) (links : Relinked (nodes_in one) (nodes_in later)) (heads_now : Heads) (index : IsIndex (nodes_in later) heads_now None)
@@ -144,7 +145,7 @@ module _ (arena : Blocks) (heads : Heads) (slots : List Slot) {ways : List Way} 
       same = alike_relinked (nodes_in one) (nodes_in later) links
 
       tree : IsTree (nodes_in later)
-      tree = same_tree (nodes_in one) (nodes_in later) same.places tree_made
+      tree = same_tree (nodes_in one) (nodes_in later) same.entries tree_made
 
       abbrev staged : List Contents
       staged = lists_staged slots
@@ -153,10 +154,10 @@ module _ (arena : Blocks) (heads : Heads) (slots : List Slot) {ways : List Way} 
       alike = subst (λ ns. Alike ns (nodes_in later)) one_is same
 
       file_new : file_of block ≡ no_contents
-      file_new = ap (λ (r : NodeFields). contents_told (kind_told r.kind) r) row ∙ plain_file (unwrap_or place b) k name
+      file_new = ap (λ (r : NodeFields). contents_told (kind_told r.kind) r) row ∙ plain_file (unwrap_or directory b) k name
 
       node_new : node_of later block ≡ empty_node k
-      node_new = (λ i. node_told later (kind_told (row i).kind) (file_new i)) ∙ plain_node later (unwrap_or place b) k name
+      node_new = (λ i. node_told later (kind_told (row i).kind) (file_new i)) ∙ plain_node later (unwrap_or directory b) k name
 
       files_left : (c : ℕ) → IsLeft arena later (file_in (octets_at nodes c)) (file_in (octets_at (nodes_in later) c))
       files_left c = elim (cases_eq c b) [

@@ -16,7 +16,7 @@ use Rattle.cfdp_actions.specs.Filestore.{Node, empty_filestore, weights, blocks,
 use Rattle.cfdp_actions.specs.Store.{empty_store}
 use Rattle.cfdp_actions.proofs.StoreLaws.{no_blocks}
 use Rattle.cfdp_tree.specs.declared.contents.Contents.{Contents}
-use Rattle.cfdp_tree.specs.declared.index.Head.{Head}
+use Rattle.cfdp_tree.specs.declared.index.ListHead.{ListHead}
 use Rattle.cfdp_ways.specs.declared.way.Way.{Way}
 use Rattle.cfdp_tree.specs.declared.slots.Slot.{Slot}
 use Rattle.cfdp_tree.specs.code.Contents.{IsFilled, contents_in}
@@ -24,16 +24,16 @@ use Rattle.cfdp_tree.specs.code.Nodes.{only_node, nodes_in}
 use Rattle.cfdp_tree.specs.code.Tree.{IsNode, IsTree}
 use Rattle.cfdp_tree.specs.code.Index.{no_head, head_count, HasHead, IsHead, IsIndex}
 use Rattle.cfdp_tree.specs.code.Kept.{no_contents, file_in, holdings, Shows, filestore_of, store_of, IsStored}
-use Rattle.cfdp_tree.specs.code.Slots.{lists_staged, IsPlaced, IsFreshSlot, IsStore}
+use Rattle.cfdp_tree.specs.code.Slots.{lists_staged, IsSoundSlot, IsFreshSlot, IsStore}
 use Rattle.cfdp_tree.specs.declared.orders.Orders.{Orders}
 use Rattle.cfdp_tree.specs.code.Orders.{order_at, IsInOrders}
 use Rattle.cfdp_tree.proofs.OfOrders.OrderedLaws.{ordered_none}
 use Rattle.cfdp_tree.proofs.OfRuns.ContentsLaws.{none_filled}
-use Rattle.cfdp_tree.proofs.OfStore.SlotPlaces.{slot_starts}
+use Rattle.cfdp_tree.proofs.OfStore.SlotCursors.{slot_starts}
 use Rattle.cfdp_tree.proofs.OfRuns.WayLaws.{ways_none}
 use Rattle.cfdp_tree.proofs.OfStore.ShowLaws.{tree_shows, shown_same}
 
-pub head_none : (head : Head) → head.first ≡ 0 → head.listed ≡ 0 → head.unlisted ≡ 0 → head ≡ no_head
+pub head_none : (head : ListHead) → head.first ≡ 0 → head.listed ≡ 0 → head.unlisted ≡ 0 → head ≡ no_head
 head_none head first listed unlisted = (λ k. record { first = first k; listed = listed k; unlisted = unlisted k })
 
 pub contents_none : (contents : Contents) → contents.run.first ≡ 0 → contents.run.last ≡ 0 → contents.run.count ≡ 0 → contents.size ≡ 0 → contents.sum ≡ 0 →
@@ -77,7 +77,7 @@ none_live : (n : ℕ) → live_count (all_free n) ≡ 0
 none_live zero = refl
 none_live (suc n) = none_live n
 
-module _ (n : ℕ) (some : 1 ≤ n) (few : n ≤ 65536) (heads : List Head) (head : Head) (heads_are : heads ≡ replicate n head) (head_is : head ≡ no_head)
+module _ (n : ℕ) (some : 1 ≤ n) (few : n ≤ 65536) (heads : List ListHead) (head : ListHead) (heads_are : heads ≡ replicate n head) (head_is : head ≡ no_head)
     (slots : List Slot) (many : length slots ≡ 64) (fresh : All IsFreshSlot slots) where
   abbrev arena : Blocks
   arena = all_free n
@@ -106,7 +106,7 @@ module _ (n : ℕ) (some : 1 ≤ n) (few : n ≤ 65536) (heads : List Head) (hea
   }
 
   long : length heads ≡ n
-  long = ap (λ (hs : List Head). length hs) heads_are ∙ length-replicate n head
+  long = ap (λ (hs : List ListHead). length hs) heads_are ∙ length-replicate n head
 
   head_at : (k : ℕ) → get_or heads k no_head ≡ no_head
   head_at k = ap (λ hs. get_or hs k no_head) heads_are ∙ one_each n head no_head head_is k
@@ -128,9 +128,9 @@ module _ (n : ℕ) (some : 1 ≤ n) (few : n ≤ 65536) (heads : List Head) (hea
     each = (λ k within. subst (IsHead nodes None (length heads) k) (sym (head_at k)) (head_empty k));
     counted = omega (
       arith,
-      ap (λ hs. sum_by (λ (h : Head). head_count h) hs) heads_are,
-      sum_by-replicate (λ (h : Head). head_count h) n head,
-      ap (λ (h : Head). n * head_count h) head_is,
+      ap (λ hs. sum_by (λ (h : ListHead). head_count h) hs) heads_are,
+      sum_by-replicate (λ (h : ListHead). head_count h) n head,
+      ap (λ (h : ListHead). n * head_count h) head_is,
       ap live_count nodes_are,
       none_live n,
     );
@@ -196,8 +196,8 @@ module _ (n : ℕ) (some : 1 ≤ n) (few : n ≤ 65536) (heads : List Head) (hea
     no_blocks,
   )
 
-  placed : All (IsPlaced arena) slots
-  placed i d less = let slot = fresh i d less in slot_starts arena (get_or slots i d) slot.block slot.index (slot.blank
+  sound : All (IsSoundSlot arena) slots
+  sound i d less = let slot = fresh i d less in slot_starts arena (get_or slots i d) slot.block slot.index (slot.blank
       ∙ sym (ap (λ (x : Contents). x.size) slot.contents)) slot.gap
 
   pub new_store : (ways : List Way) → length ways ≡ n → IsStore arena ways heads slots
@@ -211,12 +211,12 @@ module _ (n : ℕ) (some : 1 ≤ n) (few : n ≤ 65536) (heads : List Head) (hea
       stored = stored ways ways_long;
       counted = omega (arith, ap blocks filestore_empty, none_used, none_live n, length-replicate {A = Option (List ℕ)} n None);
     };
-    placed = placed;
+    sound = sound;
   }
 
   -- no node is in an order
   pub new_orders : (orders : Orders) → length orders.links.items ≡ n → length orders.directories.items ≡ n →
-      ((place : Option ℕ) → (order_at orders place).height ≡ 0) → IsInOrders nodes orders None
+      ((bucket : Option ℕ) → (order_at orders bucket).height ≡ 0) → IsInOrders nodes orders None
   new_orders orders links directories empty =
       let nodes_long : length nodes ≡ n = ap (λ (ns : Blocks). length ns) nodes_are ∙ length-replicate {A = Option (List ℕ)} n None in
       ordered_none nodes orders (links ∙ sym nodes_long) (directories ∙ sym nodes_long) no_node empty

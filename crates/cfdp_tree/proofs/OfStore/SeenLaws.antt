@@ -21,7 +21,7 @@ use Rattle.cfdp_actions.specs.Filestore.{Node, Filestore, node_at, octets_in, we
 use Rattle.cfdp_actions.specs.Filestore as files
 use Rattle.cfdp_actions.specs.Store.{Store, free_blocks, kind_of, is_file_kind}
 use Rattle.cfdp_actions.proofs.StoreLaws.{weight-found, octets-weight, lists-each, nonempty}
-use Rattle.cfdp_actions.proofs.SurveyLaws.{blocks_of-bound}
+use Rattle.cfdp_actions.proofs.BlocksLaws.{blocks_of-bound}
 use Rattle.cfdp_tree.specs.declared.contents.Contents.{Contents}
 use Rattle.cfdp_ways.specs.declared.way.Way.{Way}
 use Rattle.cfdp_tree.specs.declared.slots.Slot.{Slot}
@@ -32,7 +32,7 @@ use Rattle.cfdp_tree.specs.code.Ways.{HasWays}
 use Rattle.cfdp_tree.specs.code.Tree.{IsNode, path_of_node}
 use Rattle.cfdp_tree.specs.code.Index.{Heads}
 use Rattle.cfdp_tree.specs.code.Kept.{no_contents, contents_told, file_in, holdings, node_told, node_of, Shows, store_of}
-use Rattle.cfdp_tree.specs.code.Slots.{lists_staged, IsPlaced, IsStore}
+use Rattle.cfdp_tree.specs.code.Slots.{lists_staged, IsSoundSlot, IsStore}
 use Rattle.cfdp_tree.proofs.OfRuns.ContentsLaws.{length-contents}
 use Rattle.cfdp_tree.proofs.OfNodes.TreeLaws.{node_entry, node_octets}
 use Rattle.cfdp_tree.proofs.OfStore.ShowLaws.{tree_shows}
@@ -185,8 +185,8 @@ module _ (arena : Blocks) (heads : Heads) (slots : List Slot) {ways : List Way} 
         unfolding blocks
         size_fits = blocks_of-bound size (omega (arith, room, seen_free, seen_blocks, lists-each now.filestore.staged i, store.kept.small))
 
-      pub slot_placed : IsPlaced arena slot
-      slot_placed = subst (IsPlaced arena) (sym is) (store.placed i slot slot_there)
+      pub slot_sound : IsSoundSlot arena slot
+      slot_sound = subst (IsSoundSlot arena) (sym is) (store.sound i slot slot_there)
 
   pub seen_slots : length now.filestore.staged ≡ 64
   seen_slots = sym (ap (λ (s : Store). length s.filestore.staged) view) ∙ length-map (lists_staged slots) (contents_in arena) ∙ store.kept.slots

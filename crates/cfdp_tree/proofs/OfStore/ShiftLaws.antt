@@ -1,6 +1,6 @@
 -- What is at a path is moved to another one, with all that is below it.
 --     shallow_each                      each path of a tree that is not too deep has at most 8 names
---     place_nodes, place_other          the new directory is a node, and another one
+--     directory_nodes, directory_other  the new directory is a node, and another one
 --     tree_three, index_three, entry_three     the node is put into it while it is in no list
 --     shift_view, shift_store           the store once it is in the lists of its new directory
 use Rattle.std.proofs.Common.{◌≡◌, ◌≢◌, ℕ, ◌+◌, ◌≤◌, nat_lt, Bool, true, false, not, cond, ◌||◌, List, [], ◌∷◌, ◌++◌, length, take, get_or, Option, Some, None, is_some, refl, sym, ap, ◌∙◌, subst, inr, arith}
@@ -26,15 +26,15 @@ use Rattle.cfdp_tree.specs.code.NodeFields.{NodeFields, node_fields_of, node_nam
 use Rattle.cfdp_tree.specs.code.Runs.{Stays, RunsStay}
 use Rattle.cfdp_tree.specs.code.Nodes.{nodes_in}
 use Rattle.cfdp_tree.specs.code.Tree.{IsNode, IsDirectory, node_fields_at, name_at, home_in, home, path_of_node, IsEntry, IsNamed, IsTree}
-use Rattle.cfdp_tree.specs.code.Places.{path_at, StandsAt}
+use Rattle.cfdp_tree.specs.code.Directories.{path_at, StandsAt}
 use Rattle.cfdp_tree.specs.code.Index.{Heads, IsIndex}
 use Rattle.cfdp_tree.specs.code.Kept.{no_contents, contents_told, file_in, node_told, node_of, Shows, store_of}
 use Rattle.cfdp_tree.specs.code.Slots.{lists_staged, IsStore}
 use Rattle.cfdp_tree.proofs.OfRuns.ContentsLaws.{stays_contents}
 use Rattle.cfdp_tree.proofs.OfStore.SlotLaws.{told_same}
 use Rattle.cfdp_tree.proofs.OfStore.SeenLaws.{shows, seen_blocks}
-use Rattle.cfdp_tree.proofs.OfNodes.PlaceLaws.{at_b, kept_by, same_paths, same_tree}
-use Rattle.cfdp_tree.proofs.OfNodes.ParentLaws.{parent_directory, parent_place}
+use Rattle.cfdp_tree.proofs.OfNodes.EntryLaws.{at_b, kept_by, same_paths, same_tree}
+use Rattle.cfdp_tree.proofs.OfNodes.ParentLaws.{parent_directory, parent_stands}
 use Rattle.cfdp_tree.proofs.OfNodes.RootedLaws.{tree_rooted}
 use Rattle.cfdp_tree.proofs.OfStore.MakeLaws.{path_is, name_good, entry_none}
 use Rattle.cfdp_tree.proofs.OfNodes.MoveLaws.{moved_tree, moved_path, stayed_path, true_false}
@@ -85,9 +85,9 @@ module _ (arena : Blocks) (heads : Heads) (slots : List Slot) {ways : List Way} 
     (view : store_of arena (lists_staged slots) ≡ now)
     (p : Path) (b : ℕ) (node : IsNode (nodes_in arena) b) (way : path_of_node (nodes_in arena) b ≡ p)
     (q : Path) (is_path : IsPath q) (depth : ℕ) (long : length q ≡ depth + 1) (parent_good : parent_is_good now.filestore q ≡ true)
-    (place : Option ℕ) (place_node : IfSome place (λ x. IsNode (nodes_in arena) x))
-    (place_path : IfSome place (λ x. path_of_node (nodes_in arena) x ≡ take depth q))
-    (place_none : IfNone place ((x : ℕ) → IsNode (nodes_in arena) x → path_of_node (nodes_in arena) x ≡ take depth q → ⊥)) (name : Name) (name_is : name
+    (directory : Option ℕ) (directory_node : IfSome directory (λ x. IsNode (nodes_in arena) x))
+    (directory_path : IfSome directory (λ x. path_of_node (nodes_in arena) x ≡ take depth q))
+    (directory_none : IfNone directory ((x : ℕ) → IsNode (nodes_in arena) x → path_of_node (nodes_in arena) x ≡ take depth q → ⊥)) (name : Name) (name_is : name
     ≡ get_or q depth [])
     (apart : is_at_or_below q p ≡ false) where
   abbrev nodes : Blocks
@@ -96,21 +96,22 @@ module _ (arena : Blocks) (heads : Heads) (slots : List Slot) {ways : List Way} 
   seen : Shows arena nodes now.filestore.nodes
   seen = shows arena heads slots store now view
 
-  directory : (d : ℕ) → place ≡ Some d → IsDirectory nodes d
-  directory = parent_directory arena nodes store.kept.tree now.filestore seen q depth long parent_good place (place_node, place_path, place_none)
+  is_directory : (d : ℕ) → directory ≡ Some d → IsDirectory nodes d
+  is_directory = parent_directory arena nodes store.kept.tree now.filestore seen q depth long parent_good directory
+      (directory_node, directory_path, directory_none)
 
-  stands : StandsAt nodes place (take depth q)
-  stands = parent_place arena nodes store.kept.tree now.filestore seen q depth long parent_good place (place_node, place_path, place_none)
+  stands : StandsAt nodes directory (take depth q)
+  stands = parent_stands arena nodes store.kept.tree now.filestore seen q depth long parent_good directory (directory_node, directory_path, directory_none)
 
   whole : take depth q ++ name ∷ [] ≡ q
-  whole = path_is arena heads slots store now view q is_path depth long parent_good place place_node place_path place_none name name_is
+  whole = path_is arena heads slots store now view q is_path depth long parent_good directory directory_node directory_path directory_none name name_is
 
   named : IsName name
-  named = name_good arena heads slots store now view q is_path depth long parent_good place place_node place_path place_none name name_is
+  named = name_good arena heads slots store now view q is_path depth long parent_good directory directory_node directory_path directory_none name name_is
 
   -- the node does not go into itself
-  pub place_other : place ≢ Some b
-  place_other e =
+  pub directory_other : directory ≢ Some b
+  directory_other e =
       let above : take depth q ≡ p = sym stands.path ∙ ap (path_at nodes) e ∙ way in
       true_false (at_or_below_from_append q p (name ∷ []) (sym whole ∙ ap (λ x. x ++ name ∷ []) above)) apart
 
@@ -120,26 +121,26 @@ module _ (arena : Blocks) (heads : Heads) (slots : List Slot) {ways : List Way} 
     before = nodes_in two
 
     pub tree_two : IsTree before
-    tree_two = same_tree nodes before same.places store.kept.tree
+    tree_two = same_tree nodes before same.entries store.kept.tree
 
     pub node_two : IsNode before b
-    node_two = same.places.nodes b ∙ node
+    node_two = same.entries.nodes b ∙ node
 
-    pub place_two : (d : ℕ) → place ≡ Some d → IsDirectory before d
-    place_two d e = alike_directory nodes before same d (directory d e)
+    pub directory_two : (d : ℕ) → directory ≡ Some d → IsDirectory before d
+    directory_two d e = alike_directory nodes before same d (is_directory d e)
 
     -- the directory is a node
-    pub place_nodes : IfSome place (λ d. IsNode before d)
-    place_nodes = of_place place (λ d e. (place_two d e).node)
+    pub directory_nodes : IfSome directory (λ d. IsNode before d)
+    directory_nodes = of_directory directory (λ d e. (directory_two d e).node)
       where
-        of_place : (x : Option ℕ) → ((d : ℕ) → x ≡ Some d → IsNode before d) → IfSome x (λ d. IsNode before d)
-        of_place None each = tt
-        of_place (Some d) each = each d refl
+        of_directory : (x : Option ℕ) → ((d : ℕ) → x ≡ Some d → IsNode before d) → IfSome x (λ d. IsNode before d)
+        of_directory None each = tt
+        of_directory (Some d) each = each d refl
 
     -- and is put elsewhere
     module _ (three : Blocks) (parent : ℕ) (three_is : nodes_in three ≡ with_block before b (octets_of (nodes_in three) b))
         (row : node_fields_at (nodes_in three) b ≡ record (node_fields_at before b) { parent = parent; name_length = length name })
-        (there : home (nodes_in three) b ≡ place)
+        (there : home (nodes_in three) b ≡ directory)
         (name_there : name_at (nodes_in three) b ≡ name) (block_whole : length (octets_of (nodes_in three) b) ≡ 128) (absent : node_at now.filestore q ≡ None)
         (shallow : is_tree_too_deep p q (tree_at now.filestore p) ≡ false) where
       abbrev block : List ℕ
@@ -156,24 +157,25 @@ module _ (arena : Blocks) (heads : Heads) (slots : List Slot) {ways : List Way} 
       }
 
       good : (d : ℕ) → home_in b block ≡ Some d → IsDirectory before d
-      good d e = place_two d (sym there ∙ e)
+      good d e = directory_two d (sym there ∙ e)
 
       p_is : path_of_node before b ≡ p
-      p_is = same_paths nodes before same.places b ∙ way
+      p_is = same_paths nodes before same.entries b ∙ way
 
-      place_same : (x : Option ℕ) → path_at before x ≡ path_at nodes x
-      place_same None = refl
-      place_same (Some d) = same_paths nodes before same.places d
+      directory_same : (x : Option ℕ) → path_at before x ≡ path_at nodes x
+      directory_same None = refl
+      directory_same (Some d) = same_paths nodes before same.entries d
 
       q_is : path_at before (home_in b block) ++ node_name block ∷ [] ≡ q
-      q_is = (λ i. path_at before (there i) ++ name_there i ∷ []) ∙ ap (λ x. x ++ name ∷ []) (place_same place ∙ stands.path) ∙ whole
+      q_is = (λ i. path_at before (there i) ++ name_there i ∷ []) ∙ ap (λ x. x ++ name ∷ []) (directory_same directory ∙ stands.path) ∙ whole
 
       fresh : (c : ℕ) → IsEntry before (home_in b block) (node_name block) c → ⊥
       fresh c entry =
-          entry_none arena heads slots store now view q is_path depth long parent_good place place_node place_path place_none name name_is absent c (record {
+          entry_none arena heads slots store now view q is_path depth long parent_good directory directory_node directory_path directory_none name name_is
+          absent c (record {
             node = alike_node nodes before same c entry.node;
-            there = sym (same.places.homes c) ∙ entry.there ∙ there;
-            named = sym (same.places.names c) ∙ entry.named ∙ name_there;
+            there = sym (same.entries.homes c) ∙ entry.there ∙ there;
+            named = sym (same.entries.names c) ∙ entry.named ∙ name_there;
           })
 
       shown_two : Shows arena before now.filestore.nodes
@@ -197,7 +199,7 @@ module _ (arena : Blocks) (heads : Heads) (slots : List Slot) {ways : List Way} 
       pub index_three : (hs : Heads) → IsIndex before hs (Some b) → IsIndex (nodes_in three) hs (Some b)
       index_three hs index = subst (λ ns. IsIndex ns hs (Some b)) (sym three_is) (index_moved before hs b block node_two index)
 
-      pub entry_three : IsEntry (nodes_in three) place name b
+      pub entry_three : IsEntry (nodes_in three) directory name b
       entry_three = record {
         node = subst (λ ns. IsNode ns b) (sym three_is) (subst IsSome (sym (at_b before b block node_two)) refl);
         there = there;
@@ -313,7 +315,7 @@ module _ (arena : Blocks) (heads : Heads) (slots : List Slot) {ways : List Way} 
         list_stays j = runs (get_or (lists_staged slots) j no_contents).run (list_held arena heads slots store j)
 
         tree_later : IsTree (nodes_in later)
-        tree_later = same_tree (nodes_in three) (nodes_in later) alike.places tree_three
+        tree_later = same_tree (nodes_in three) (nodes_in later) alike.entries tree_three
 
         module _ (heads_now : Heads) (index : IsIndex (nodes_in later) heads_now None)
             (long_now : length later ≡ length arena) (free : free_count later ≡ free_count arena) where

@@ -27,8 +27,8 @@ use Rattle.cfdp_tree.specs.code.Nodes.{nodes_in}
 use Rattle.cfdp_tree.specs.code.Tree.{IsNode, IsTree}
 use Rattle.cfdp_tree.specs.code.Index.{Heads, IsIndex}
 use Rattle.cfdp_tree.specs.code.Kept.{no_contents, file_of, file_in, holdings, node_told, node_of, Shows, filestore_of, store_of, IsStored}
-use Rattle.cfdp_tree.specs.code.Slots.{lists_staged, IsPlaced, IsStore}
-use Rattle.cfdp_tree.proofs.OfStore.SlotPlaces.{slot_stays}
+use Rattle.cfdp_tree.specs.code.Slots.{lists_staged, IsSoundSlot, IsStore}
+use Rattle.cfdp_tree.proofs.OfStore.SlotCursors.{slot_stays}
 use Rattle.cfdp_tree.proofs.OfRuns.ContentsLaws.{length-contents}
 use Rattle.cfdp_tree.proofs.OfStore.ShowLaws.{tree_shows, shown_same}
 use Rattle.cfdp_tree.proofs.OfStore.StoredLaws.{stored_changed, stored_others, spared as run_spared}
@@ -58,7 +58,7 @@ set_maps f g (x ∷ xs) (suc i) y d same = (λ k. same 0 (omega arith) (λ e. om
 module _ (arena later : Blocks) (heads : Heads) (slots : List Slot) {ways : List Way} (store : IsStore arena ways heads slots) (i : ℕ) (small : i < 64)
     (slot : Slot) (is : slot ≡ get_or slots i slot) (after : Slot)
     (nodes : nodes_in later ≡ nodes_in arena) (long : length later ≡ length arena) (spares : Spares arena later slot.contents.run after.contents.run)
-    (filled : IsFilled later after.contents) (placed : IsPlaced later after) (taken : free_count later + blocks_of after.contents.size ≡ free_count arena
+    (filled : IsFilled later after.contents) (sound : IsSoundSlot later after) (taken : free_count later + blocks_of after.contents.size ≡ free_count arena
     + blocks_of slot.contents.size) where
   abbrev staged : List Contents
   staged = lists_staged slots
@@ -151,19 +151,19 @@ module _ (arena later : Blocks) (heads : Heads) (slots : List Slot) {ways : List
   there_slot : i < length slots
   there_slot = slot_there arena heads slots store (store_of arena staged) refl i small
 
-  place_stays : (j : ℕ) → j ≢ i → (d : Slot) → j < length slots → IsPlaced later (get_or slots j d)
-  place_stays j other d within =
+  stays_sound : (j : ℕ) → j ≢ i → (d : Slot) → j < length slots → IsSoundSlot later (get_or slots j d)
+  stays_sound j other d within =
       let s = get_or slots j d in
       let at : get_or held j no_contents ≡ s.contents =
       get_or_append_left staged (map file_in (nodes_in arena)) no_contents j (omega (arith, length-map slots (λ (slot : Slot). slot.contents)))
       ∙ mapped_at (λ (slot : Slot). slot.contents) slots j s no_contents within (get_or_default slots j d s within) in
       let stays = subst (λ (x : Contents). Stays arena later x.run) at (spared_at j other) in
-      slot_stays arena later s stays (store.placed j d within)
+      slot_stays arena later s stays (store.sound j d within)
 
-  placed_now : All (IsPlaced later) now
-  placed_now j d within = elim (cases_eq j i) [
-    | inl e ↦ subst (IsPlaced later) (sym (ap (λ k. get_or now k d) e ∙ get_or-set_same slots i after d there_slot)) placed
-    | inr other ↦ subst (IsPlaced later) (sym (get_or-set_other slots i j after d other)) (place_stays j other d (omega (arith, length-set slots i after)))
+  sound_now : All (IsSoundSlot later) now
+  sound_now j d within = elim (cases_eq j i) [
+    | inl e ↦ subst (IsSoundSlot later) (sym (ap (λ k. get_or now k d) e ∙ get_or-set_same slots i after d there_slot)) sound
+    | inr other ↦ subst (IsSoundSlot later) (sym (get_or-set_other slots i j after d other)) (stays_sound j other d (omega (arith, length-set slots i after)))
   ]
 
   module _ (ways_now : List Way) (has : HasWays later ways_now after.contents.run) (keeps : KeepsWays arena later ways ways_now slot.contents.run) where
@@ -186,7 +186,7 @@ module _ (arena later : Blocks) (heads : Heads) (slots : List Slot) {ways : List
         stored = stored_now;
         counted = counted_now;
       };
-      placed = placed_now;
+      sound = sound_now;
     }
 
   pub slot_changes : (now_seen : Store) → store_of arena staged ≡ now_seen → (given : ℕ) → i ≡ given → (list : List ℕ) → octets ≡ list

@@ -24,7 +24,7 @@ use Rattle.cfdp_tree.specs.code.Tree.{IsNode, path_of_node, IsTree}
 use Rattle.cfdp_tree.specs.code.Index.{Heads}
 use Rattle.cfdp_tree.specs.code.Kept.{contents_told, file_of, node_told, store_of}
 use Rattle.cfdp_tree.specs.code.Slots.{lists_staged, IsStore}
-use Rattle.cfdp_tree.specs.code.Survey.{IsUnder, IsNodeSurvey, path_and_node, IsSoundNode}
+use Rattle.cfdp_tree.specs.code.NodesBelow.{IsUnder, AreNodesBelow, path_and_node, IsSoundNode}
 use Rattle.cfdp_tree.proofs.OfRuns.ContentsLaws.{length-contents}
 use Rattle.cfdp_tree.proofs.OfNodes.ClimbLaws.{beginning}
 use Rattle.cfdp_tree.proofs.OfStore.SeenLaws.{shows, file_small, held_at}
@@ -69,11 +69,11 @@ module _ (arena : Blocks) (heads : Heads) (slots : List Slot) {ways : List Way} 
       (All-map (IsSoundNode arena) (path_and_node (nodes_in arena)) list (All-weaker (IsNode (nodes_in arena))
       (λ b. IsSoundNode arena (path_and_node (nodes_in arena) b)) node_sound list all))
 
-pub under_nodes : (nodes : Blocks) (p : Path) (list : List ℕ) → IsNodeSurvey nodes p list → All (IsNode nodes) list
-under_nodes nodes p list survey = All-weaker (IsUnder nodes p) (IsNode nodes) (λ b under. under.node) list survey.own
+pub under_nodes : (nodes : Blocks) (p : Path) (list : List ℕ) → AreNodesBelow nodes p list → All (IsNode nodes) list
+under_nodes nodes p list nodes_below = All-weaker (IsUnder nodes p) (IsNode nodes) (λ b under. under.node) list nodes_below.own
 
 module _ (nodes : Blocks) (tree : IsTree nodes) where
-  pub none_under : (p : Path) → 1 ≤ length p → ((b : ℕ) → IsNode nodes b → path_of_node nodes b ≡ p → ⊥) → IsNodeSurvey nodes p []
+  pub none_under : (p : Path) → 1 ≤ length p → ((b : ℕ) → IsNode nodes b → path_of_node nodes b ≡ p → ⊥) → AreNodesBelow nodes p []
   none_under p some none = record {
     own = All-nil (IsUnder nodes p);
     all = (λ b under. (let q = path_of_node nodes b in

@@ -17,17 +17,17 @@ use Rattle.cfdp_paths.proofs.Below.{is_below-Decides, append_from_at_or_below, a
 use Rattle.cfdp_actions.specs.Filestore.{Node, Filestore, node_at, is_beside, inside_beside, has_beside, deepest_of, deepest_beside}
 use Rattle.cfdp_tree.specs.declared.orders.Orders.{Orders}
 use Rattle.cfdp_tree.specs.code.Tree.{IsNode, name_at, home, path_of_node, IsTree}
-use Rattle.cfdp_tree.specs.code.Places.{path_at}
+use Rattle.cfdp_tree.specs.code.Directories.{path_at}
 use Rattle.cfdp_tree.specs.code.Entries.{IsMember}
 use Rattle.cfdp_tree.specs.code.Orders.{in_order, IsInOrders}
 use Rattle.cfdp_tree.specs.code.Kept.{node_of, Shows}
 use Rattle.cfdp_tree.specs.code.Walk.{walk, walks_at, most_names_in}
-use Rattle.cfdp_tree.specs.code.Survey.{IsUnder}
+use Rattle.cfdp_tree.specs.code.NodesBelow.{IsUnder}
 use Rattle.cfdp_tree.specs.code.Beside.{is_entry_beside, entries_beside}
 use Rattle.cfdp_tree.proofs.OfNodes.ClimbLaws.{path_by_home, beginning}
 use Rattle.cfdp_tree.proofs.OfNodes.BelowLaws.{got, has_some, has_none, entry_below}
 use Rattle.cfdp_tree.proofs.OfWalks.DeepestLaws.{deepest_le, deepest_ge, longest_le, longest_ge}
-use Rattle.cfdp_tree.proofs.OfWalks.SurveyLaws.{Contains-flat_map, All-flat_map, walk_own, walk_all}
+use Rattle.cfdp_tree.proofs.OfWalks.NodesBelowLaws.{Contains-flat_map, All-flat_map, walk_own, walk_all}
 use Rattle.cfdp_tree.proofs.OfWalks.WalkLaws.{few_names}
 use Rattle.cfdp_tree.proofs.OfNodes.MoveLaws.{true_false}
 

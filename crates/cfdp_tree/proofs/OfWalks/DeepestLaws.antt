@@ -17,7 +17,7 @@ use Rattle.cfdp_actions.specs.Filestore.{Node, Filestore, node_at, tree_at, deep
 use Rattle.cfdp_tree.specs.code.Tree.{path_of_node}
 use Rattle.cfdp_tree.specs.code.Kept.{Shows}
 use Rattle.cfdp_tree.specs.code.Walk.{most_names_in}
-use Rattle.cfdp_tree.specs.code.Survey.{IsUnder, IsNodeSurvey}
+use Rattle.cfdp_tree.specs.code.NodesBelow.{IsUnder, AreNodesBelow}
 
 module _ (F : Filestore) (p : Path) where
   pub tree_got : (q : Path) → finite.get (finite.retain_keys F.nodes (λ x. is_at_or_below x p)) q ≡ cond (is_at_or_below q p) (node_at F q) None
@@ -68,7 +68,7 @@ module _ (nodes : Blocks) where
     le-max_right (length (path_of_node nodes b)) (most_names_in nodes list),
   )
 
-  module _ (arena : Blocks) (F : Filestore) (shows : Shows arena nodes F.nodes) (p : Path) (list : List ℕ) (survey : IsNodeSurvey nodes p list) where
+  module _ (arena : Blocks) (F : Filestore) (shows : Shows arena nodes F.nodes) (p : Path) (list : List ℕ) (nodes_below : AreNodesBelow nodes p list) where
     under_found : (b : ℕ) → IsUnder nodes p b → is_some (find path_cmp (path_of_node nodes b) (tree_at F p)) ≡ true
     under_found b under =
         ap is_some (tree_found F p (path_of_node nodes b))
@@ -82,7 +82,7 @@ module _ (nodes : Blocks) where
             ≡ true → length q ≤ most_names_in nodes list
         by_case true (Some node) is e some =
             let at = shows.only q node e in
-            let has = survey.all at.0 (record { node = at.1; below = ap (λ x. is_at_or_below x p) at.2 ∙ is }) in
+            let has = nodes_below.all at.0 (record { node = at.1; below = ap (λ x. is_at_or_below x p) at.2 ∙ is }) in
             omega (arith, longest_ge list has.0 at.0 has.1, ap (λ b. length (path_of_node nodes b)) has.2, ap length at.2)
         by_case true None is e some = absurd (none_true (sym (λ k. is_some (cond (is k) (e k) None)) ∙ some))
           where
@@ -97,6 +97,6 @@ module _ (nodes : Blocks) where
     deepest_is = omega (
       arith,
       longest_le list (deepest_of (tree_at F p)) (λ k d within. deepest_ge (tree_at F p) (path_of_node nodes (get_or list k d))
-          (under_found (get_or list k d) (survey.own k d within))),
+          (under_found (get_or list k d) (nodes_below.own k d within))),
       deepest_le (tree_at F p) (most_names_in nodes list) found_under,
     )

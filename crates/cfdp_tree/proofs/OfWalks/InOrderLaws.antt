@@ -24,7 +24,7 @@ use Rattle.cfdp_arena.specs.Arena.{Blocks}
 use Rattle.cfdp_actions.specs.Filestore.{Node, Filestore, node_at, tree_at}
 use Rattle.cfdp_tree.specs.code.Tree.{path_of_node, IsTree}
 use Rattle.cfdp_tree.specs.code.Kept.{Shows}
-use Rattle.cfdp_tree.specs.code.Survey.{IsUnder, IsNodeSurvey, path_and_node, by_path, shown_node}
+use Rattle.cfdp_tree.specs.code.NodesBelow.{IsUnder, AreNodesBelow, path_and_node, by_path, shown_node}
 use Rattle.cfdp_tree.proofs.OfNodes.TreeLaws.{same_node}
 use Rattle.cfdp_tree.proofs.OfWalks.DeepestLaws.{tree_got}
 use Rattle.std.proofs.lemmas.Bool.{and_from}
@@ -81,17 +81,17 @@ module _ {X : Type 0} where
   -- one of them is found
   pub in_found : (es : List (Path × X)) (e : Path × X) → Contains es e → is_some (find path_cmp e.0 es) ≡ true
   in_found [] e has = absurd (omega (arith, has.1))
-  in_found (f ∷ es) e has = at_place has.0 has.1 has.2 (λ k within is. in_found es e (k, within, is))
+  in_found (f ∷ es) e has = at_index has.0 has.1 has.2 (λ k within is. in_found es e (k, within, is))
     where
       more : (same : Bool) (o : Option X) → is_some o ≡ true → is_some (cond same (Some f.1) o) ≡ true
       more true o some = refl
       more false o some = some
 
-      at_place : (k : ℕ) → k < length (f ∷ es) → get_or (f ∷ es) k e ≡ e → ((k : ℕ) → k < length es → get_or es k e ≡ e → is_some (find path_cmp e.0 es)
+      at_index : (k : ℕ) → k < length (f ∷ es) → get_or (f ∷ es) k e ≡ e → ((k : ℕ) → k < length es → get_or es k e ≡ e → is_some (find path_cmp e.0 es)
           ≡ true) → is_some (find path_cmp e.0 (f ∷ es)) ≡ true
-      at_place zero within is rest = ap (λ b. is_some (cond b (Some f.1) (find path_cmp e.0 es)))
+      at_index zero within is rest = ap (λ b. is_some (cond b (Some f.1) (find path_cmp e.0 es)))
           ((same_path-Decides e.0 f.0).1 (sym (ap (λ (y : Path × X). y.0) is)))
-      at_place (suc k) within is rest = more (same_path e.0 f.0) (find path_cmp e.0 es) (rest k (omega (arith, within)) is)
+      at_index (suc k) within is rest = more (same_path e.0 f.0) (find path_cmp e.0 es) (rest k (omega (arith, within)) is)
 
 -- ---- the nodes of what is at a path and below it, in another order
 
@@ -111,15 +111,15 @@ shown_sorted : (arena nodes : Blocks) (es : List (Path × ℕ)) → is_sorted pa
 shown_sorted arena nodes [] = refl
 shown_sorted arena nodes (e ∷ es) = (λ k. shown_below arena nodes e.0 es k && shown_sorted arena nodes es k)
 
-module _ (nodes : Blocks) (tree : IsTree nodes) (p : Path) (list : List ℕ) (survey : IsNodeSurvey nodes p list) (found : List (Path × ℕ))
+module _ (nodes : Blocks) (tree : IsTree nodes) (p : Path) (list : List ℕ) (nodes_below : AreNodesBelow nodes p list) (found : List (Path × ℕ))
     (perm : IsPermutation (map (path_and_node nodes) list) found) where
   found_own : All (λ e. IsUnder nodes p e.1 × (path_of_node nodes e.1 ≡ e.0)) found
   found_own = All-permutation (λ e. IsUnder nodes p e.1 × (path_of_node nodes e.1 ≡ e.0)) (map (path_and_node nodes) list) found perm
-      (All-map (λ e. IsUnder nodes p e.1 × (path_of_node nodes e.1 ≡ e.0)) (path_and_node nodes) list (λ k d within. (survey.own k d within, refl)))
+      (All-map (λ e. IsUnder nodes p e.1 × (path_of_node nodes e.1 ≡ e.0)) (path_and_node nodes) list (λ k d within. (nodes_below.own k d within, refl)))
 
   found_all : (b : ℕ) → IsUnder nodes p b → Contains found (path_of_node nodes b, b)
   found_all b under =
-      let has = survey.all b under in
+      let has = nodes_below.all b under in
       Contains-permutation (map (path_and_node nodes) list) found (path_of_node nodes b, b) perm (
         has.0,
         omega (arith, has.1, length-map list (path_and_node nodes)),
@@ -133,8 +133,8 @@ module _ (nodes : Blocks) (tree : IsTree nodes) (p : Path) (list : List ℕ) (su
       let before : i < length list = omega (arith, inside, less) in
       let one = get_or list i 0 in
       let other = get_or list j 0 in
-      survey.once i j 0 less inside
-      (same_node nodes tree one other (survey.own i 0 before).node (survey.own j 0 inside).node
+      nodes_below.once i j 0 less inside
+      (same_node nodes tree one other (nodes_below.own i 0 before).node (nodes_below.own j 0 inside).node
       (sym (get_or-map (λ b. path_of_node nodes b) list i 0 d before) ∙ same ∙ get_or-map (λ b. path_of_node nodes b) list j 0 d inside))
 
   found_apart : AllPairs (λ e f. e.0 ≢ f.0) found
@@ -199,7 +199,7 @@ module _ (nodes : Blocks) (tree : IsTree nodes) (p : Path) (list : List ℕ) (su
         (λ q. get-from_sorted path_cmp es q good ∙ found_at q ∙ sym (tree_got F p q)))
 
 -- nodes whose paths rise, each with its path
-module _ (nodes : Blocks) (tree : IsTree nodes) (p : Path) (list : List ℕ) (survey : IsNodeSurvey nodes p list)
+module _ (nodes : Blocks) (tree : IsTree nodes) (p : Path) (list : List ℕ) (nodes_below : AreNodesBelow nodes p list)
     (up : AllPairs (λ b c. path_cmp (path_of_node nodes b) (path_of_node nodes c) ≡ Less) list) where
   paths_sorted : IsSorted by_path (map (path_and_node nodes) list)
   paths_sorted k d low within =
@@ -215,7 +215,8 @@ module _ (nodes : Blocks) (tree : IsTree nodes) (p : Path) (list : List ℕ) (su
       map (shown_node arena nodes) found ≡ tree_at F p
   told_tree found is arena F shows =
       subst (λ es. map (shown_node arena nodes) es ≡ tree_at F p) (sym is)
-      (found_tree nodes tree p list survey (map (path_and_node nodes) list) (IsPermutation-refl (map (path_and_node nodes) list)) paths_sorted arena F shows)
+      (found_tree nodes tree p list nodes_below (map (path_and_node nodes) list) (IsPermutation-refl
+      (map (path_and_node nodes) list)) paths_sorted arena F shows)
 
 -- all that exists
 pub tree_whole : (F : Filestore) → tree_at F [] ≡ finite.entries F.nodes

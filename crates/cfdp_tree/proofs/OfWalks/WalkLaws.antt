@@ -3,12 +3,12 @@
 --     few_names, names_few      a path has no more than 8 names, nor has the longest of some
 --     deep_parts                of an order, a node and those before and after it
 --     longest_parts, walks_parts    the longest path, and a walk, in these parts
---     place_deep                the entries of a directory have a name more
+--     directory_deep            the entries of a directory have a name more
 --     Parts, parts              an order that is not empty, with the orders of its parts
 --     falls_below               how far a walk has to go yet
 --     no_walk                   of an empty order nothing is walked over
 --     filled, read_parts, read_around, read_below, top_inside    the same by what a walk reads
---     place_few                 the path of a directory has 8 names at most
+--     directory_few             the path of a directory has 8 names at most
 --     some_begun, none_begun, one_deeper    where a walk from a directory or the root begins
 use Rattle.std.proofs.Common.{◌≡◌, ℕ, zero, suc, ◌+◌, ◌≤◌, max, ◌-◌, ◌*◌, ◌<◌, List, [], ◌∷◌, ◌++◌, length, length-append, get_or, Bool, true, false, inl, inr, Option, Some, None, refl, sym, ap, ◌∙◌, subst, arith}
 use Rattle.std.proofs.Math.Nat.{zero-max}
@@ -29,7 +29,7 @@ use Rattle.cfdp_order.proofs.SplitLaws.{All_left, All_at, All_right}
 use Rattle.cfdp_tree.specs.declared.orders.Orders.{Orders}
 use Rattle.cfdp_tree.specs.code.Nodes.{only_node, nodes_in}
 use Rattle.cfdp_tree.specs.code.Tree.{name_at, home, climb, path_of_node, IsTree}
-use Rattle.cfdp_tree.specs.code.Places.{path_at}
+use Rattle.cfdp_tree.specs.code.Directories.{path_at}
 use Rattle.cfdp_tree.specs.code.Entries.{IsMember}
 use Rattle.cfdp_tree.specs.code.Orders.{no_order, order_at, in_order, IsInOrders}
 use Rattle.cfdp_tree.specs.code.Walk.{walk, walks, walks_at, walk_from, most_names_in, StandsDeep, StandAt}
@@ -102,17 +102,17 @@ walks_parts orders n m sofar before b after e =
     ∙ ap (λ list. list ++ last) (sym (append_assoc (sofar ++ first) (b ∷ []) below))
 
 -- a name more than the directory
-pub place_deep : (nodes : Blocks) → IsTree nodes → (orders : Orders) → IsInOrders nodes orders None → (place : Option ℕ) (depth : ℕ) →
-    length (path_at nodes place) ≡ depth → StandAt nodes (depth + 1) (in_order orders place)
-place_deep nodes tree orders ordered place depth long = All-weaker (IsMember nodes None place) (StandsDeep nodes (depth + 1)) (λ e member. record {
+pub directory_deep : (nodes : Blocks) → IsTree nodes → (orders : Orders) → IsInOrders nodes orders None → (directory : Option ℕ) (depth : ℕ) →
+    length (path_at nodes directory) ≡ depth → StandAt nodes (depth + 1) (in_order orders directory)
+directory_deep nodes tree orders ordered directory depth long = All-weaker (IsMember nodes None directory) (StandsDeep nodes (depth + 1)) (λ e member. record {
   node = member.node;
   names = omega (
     arith,
     long,
     ap length (path_by_home nodes tree e member.node ∙ ap (λ x. path_at nodes x ++ name_at nodes e ∷ []) member.there),
-    length-append (path_at nodes place) (name_at nodes e ∷ []),
+    length-append (path_at nodes directory) (name_at nodes e ∷ []),
   );
-}) (in_order orders place) (ordered.own place)
+}) (in_order orders directory) (ordered.own directory)
 
 lower_left : (l r h : ℕ) → h ≡ max l r + 1 → l < h
 lower_left l r h e = grind (arith, e)
@@ -172,7 +172,7 @@ parts nodes tree orders ordered small order depth is some deep n m n_is m_is bef
       is_below = is_below;
       is_after = at_top.is_b;
       deep_before = at.0;
-      deep_below = subst (StandAt nodes (depth + 1)) (sym list) (place_deep nodes tree orders ordered (Some order.root) depth at.1.names);
+      deep_below = subst (StandAt nodes (depth + 1)) (sym list) (directory_deep nodes tree orders ordered (Some order.root) depth at.1.names);
       deep_after = at.2;
       few = few;
       low_before = lower_left before.height after.height order.height at_top.high;
@@ -256,7 +256,7 @@ read_below nodes tree orders ordered depth b deep m m_is below below_is =
     record {
       listed = list;
       is_below = subst (λ (o : Order). IsOrder orders.links.items o) (sym here) (ordered.order (Some b));
-      deep_below = subst (StandAt nodes (depth + 1)) (sym list) (place_deep nodes tree orders ordered (Some b) depth deep.names);
+      deep_below = subst (StandAt nodes (depth + 1)) (sym list) (directory_deep nodes tree orders ordered (Some b) depth deep.names);
       few = omega (arith, few_names nodes b, deep.names);
     }
 
@@ -272,18 +272,18 @@ top_inside arena tree orders ordered small order depth is some deep =
     (plain.within, plain.inside)
 
 -- a path has at most 8 names
-pub place_few : (nodes : Blocks) (place : Option ℕ) → length (path_at nodes place) ≤ 8
-place_few nodes None = omega arith
-place_few nodes (Some d) = few_names nodes d
+pub directory_few : (nodes : Blocks) (directory : Option ℕ) → length (path_at nodes directory) ≤ 8
+directory_few nodes None = omega arith
+directory_few nodes (Some d) = few_names nodes d
 
 -- where a walk from a directory or the root begins
-pub some_begun : (orders : Orders) (depth : ℕ) (place : Option ℕ) (start : List ℕ) (b : ℕ) → place ≡ Some b → start ≡ b ∷ [] → start
-    ++ walks orders (8 - depth) (in_order orders place) ≡ walk_from orders depth place
-some_begun orders depth place start b e is = (λ k. is k ++ walks orders (8 - depth) (in_order orders (e k))) ∙ ap (walk_from orders depth) (sym e)
+pub some_begun : (orders : Orders) (depth : ℕ) (directory : Option ℕ) (start : List ℕ) (b : ℕ) → directory ≡ Some b → start ≡ b ∷ [] → start
+    ++ walks orders (8 - depth) (in_order orders directory) ≡ walk_from orders depth directory
+some_begun orders depth directory start b e is = (λ k. is k ++ walks orders (8 - depth) (in_order orders (e k))) ∙ ap (walk_from orders depth) (sym e)
 
-pub none_begun : (orders : Orders) (depth : ℕ) (place : Option ℕ) (start : List ℕ) → place ≡ None → start ≡ [] → start
-    ++ walks orders (8 - depth) (in_order orders place) ≡ walk_from orders depth place
-none_begun orders depth place start e is = (λ k. is k ++ walks orders (8 - depth) (in_order orders (e k))) ∙ ap (walk_from orders depth) (sym e)
+pub none_begun : (orders : Orders) (depth : ℕ) (directory : Option ℕ) (start : List ℕ) → directory ≡ None → start ≡ [] → start
+    ++ walks orders (8 - depth) (in_order orders directory) ≡ walk_from orders depth directory
+none_begun orders depth directory start e is = (λ k. is k ++ walks orders (8 - depth) (in_order orders (e k))) ∙ ap (walk_from orders depth) (sym e)
 
 pub one_deeper : (orders : Orders) (depth : ℕ) (list : List ℕ) → walks_at orders (depth + 1) list ≡ walks orders (8 - depth) list
 one_deeper orders depth list = let same : 9 - (depth + 1) ≡ 8 - depth = omega arith in ap (λ n. walks orders n list) same

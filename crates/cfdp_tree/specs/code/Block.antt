@@ -5,7 +5,7 @@
 --     octets 4 and 5    the rank: how many blocks of the run come before this one, for a node 0
 --     octet 6           the kind: what the block is for
 --     octet 7           nothing
---     block_number_at octets place  a number in the block;  with_number: the block with another one there
+--     block_number_at octets offset  a number in the block;  with_number: the block with another one there
 --     kind_octet                the octet of a kind
 --     Header, block_header      what a header says
 --     payload                   the octets after the header
@@ -15,10 +15,10 @@ use Rattle.cfdp_tree.specs.declared.header.BlockKind.{BlockKind}
 use Rattle.cfdp_tree.specs.declared.header.BlockKind.TheVariants.{Content, Node}
 
 abbrev pub block_number_at : List ℕ → ℕ → ℕ
-block_number_at octets place = slice_index_or octets place 0 + 256 * slice_index_or octets (place + 1) 0
+block_number_at octets offset = slice_index_or octets offset 0 + 256 * slice_index_or octets (offset + 1) 0
 
 abbrev pub with_number : List ℕ → ℕ → ℕ → List ℕ
-with_number octets place number = slice_set (slice_set octets place (number % 256)) (place + 1) (number / 256)
+with_number octets offset number = slice_set (slice_set octets offset (number % 256)) (offset + 1) (number / 256)
 
 abbrev pub kind_octet : BlockKind → ℕ
 kind_octet Content = 1

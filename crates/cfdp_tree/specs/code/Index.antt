@@ -3,7 +3,7 @@
 -- are in no list, the head knows how many there are. A node is one of its own head alone.
 --     Heads                      the heads
 --     node_hash                  a number for a directory and a name: what the hasher of std's maps makes of the two
---     head_place directory name n  the head of the two among n of them: the high 64 bits of the product of n and the
+--     bucket_of directory name n   the head of the two among n of them: the high 64 bits of the product of n and the
 --                                number
 --     index_chain nodes n b      n nodes from b on
 --     list_of nodes head         the list of a head
@@ -20,43 +20,43 @@ use Rattle.std.specs.Hash as fed
 use Rattle.std.specs.Hash.FoldHasher as hasher
 use Rattle.cfdp_arena.specs.Arena.{Blocks, live_count}
 use Rattle.cfdp_paths.specs.Paths.{Name}
-use Rattle.cfdp_tree.specs.declared.index.Head.{Head}
+use Rattle.cfdp_tree.specs.declared.index.ListHead.{ListHead}
 use Rattle.cfdp_tree.specs.code.Lists as lists
 use Rattle.cfdp_tree.specs.code.Tree.{IsNode, node_fields_at, name_at, home}
 
 abbrev pub Heads : Type 0
-Heads = List Head
+Heads = List ListHead
 
 -- the root adds nothing
 abbrev pub node_hash : Option ℕ → Name → ℕ
 node_hash None name = hasher.finish (hasher.write hasher.initial name)
 node_hash (Some d) name = hasher.finish (hasher.write (fold hasher.write hasher.initial (fed.u32 d)) name)
 
-abbrev pub head_place : Option ℕ → Name → ℕ → ℕ
-head_place directory name n = n * (node_hash directory name % 2 ^ 64) / 2 ^ 64
+abbrev pub bucket_of : Option ℕ → Name → ℕ → ℕ
+bucket_of directory name n = n * (node_hash directory name % 2 ^ 64) / 2 ^ 64
 
 abbrev pub index_chain : Blocks → ℕ → ℕ → List ℕ
 index_chain nodes n b = lists.chain (λ c. (node_fields_at nodes c).same_head) n b
 
-abbrev pub no_head : Head
+abbrev pub no_head : ListHead
 no_head = record { first = 0; listed = 0; unlisted = 0 }
 
-abbrev pub list_of : Blocks → Head → List ℕ
+abbrev pub list_of : Blocks → ListHead → List ℕ
 list_of nodes head = index_chain nodes head.listed head.first
 
 abbrev pub without_node : ℕ → List ℕ → List ℕ
 without_node b list = filter (λ c. not (c == b)) list
 
-abbrev pub head_count : Head → ℕ
+abbrev pub head_count : ListHead → ℕ
 head_count head = head.listed + head.unlisted
 
 -- a node may be out of the index
 pub record HasHead (nodes : Blocks) (out : Option ℕ) (n k b : ℕ) : Type 0 where
   pub node : IsNode nodes b
-  pub place : head_place (home nodes b) (name_at nodes b) n ≡ k
+  pub bucket : bucket_of (home nodes b) (name_at nodes b) n ≡ k
   pub inside : out ≢ Some b
 
-pub record IsHead (nodes : Blocks) (out : Option ℕ) (n k : ℕ) (head : Head) : Type 0 where
+pub record IsHead (nodes : Blocks) (out : Option ℕ) (n k : ℕ) (head : ListHead) : Type 0 where
   pub small : head.first < 65536
   pub few : head.listed ≤ 8
   -- its nodes that are in no list

@@ -2,9 +2,9 @@
 --     name_cmp                  the order of names by octets
 --     IsBehind after name       the name is greater, where another one is given
 --     IsLeast nodes after list b    the least name after it is that of this node of the list
---     IsListOf nodes place list     the nodes of the list are just the entries of the directory or the root
---     ComesAfter nodes place p b  a node at or below the node or the root, after p
---     IsFirst nodes place p b   the first one of these
+--     IsListOf nodes directory list  the nodes of the list are just the entries of the directory or the root
+--     ComesAfter nodes directory p b  a node at or below the node or the root, after p
+--     IsFirst nodes directory p b  the first one of these
 use Rattle.std.specs.Prelude.{◌≡◌, ◌≢◌, ℕ, true, List, Option, Some, None, All, Contains}
 use Rattle.std.specs.Cmp.Lexicographic.{slice_cmp}
 use Rattle.std.specs.Ordering.{nat_cmp}
@@ -27,15 +27,16 @@ pub record IsLeast (nodes : Blocks) (after : Option Name) (list : List ℕ) (b :
   pub behind : IsBehind after (name_at nodes b)
   pub least : All (λ c. IsBehind after (name_at nodes c) → name_cmp (name_at nodes b) (name_at nodes c) ≢ Greater) list
 
-pub record IsListOf (nodes : Blocks) (place : Option ℕ) (list : List ℕ) : Type 0 where
-  pub own : All (IsMember nodes None place) list
-  pub all : (b : ℕ) → IsMember nodes None place b → Contains list b
+pub record IsListOf (nodes : Blocks) (directory : Option ℕ) (list : List ℕ) : Type 0 where
+  pub own : All (IsMember nodes None directory) list
+  pub all : (b : ℕ) → IsMember nodes None directory b → Contains list b
 
-pub record ComesAfter (nodes : Blocks) (place p : Path) (b : ℕ) : Type 0 where
+pub record ComesAfter (nodes : Blocks) (directory p : Path) (b : ℕ) : Type 0 where
   pub node : IsNode nodes b
-  pub below : is_at_or_below (path_of_node nodes b) place ≡ true
+  pub below : is_at_or_below (path_of_node nodes b) directory ≡ true
   pub behind : path_cmp p (path_of_node nodes b) ≡ Less
 
-pub record IsFirst (nodes : Blocks) (place p : Path) (b : ℕ) : Type 0 where
-  pub follows : ComesAfter nodes place p b
-  pub first : (c : ℕ) → ComesAfter nodes place p c → path_cmp (path_of_node nodes b) (path_of_node nodes c) ≢ Greater
+pub record IsFirst (nodes : Blocks) (directory p : Path) (b : ℕ) : Type 0 where
+  pub follows : ComesAfter nodes directory p b
+  pub first : (c : ℕ) → ComesAfter nodes directory p c → path_cmp (path_of_node nodes b)
+      (path_of_node nodes c) ≢ Greater

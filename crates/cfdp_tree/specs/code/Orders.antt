@@ -1,7 +1,7 @@
 -- The entries of each directory, and of the root, in order of their names. They are in orders (`cfdp_order`), whose
 -- links are beside the arena.
---     order_at orders place       the order of a directory, or of the root
---     in_order orders place       the nodes of this order, from the least name to the greatest
+--     order_at orders directory   the order of a directory, or of the root
+--     in_order orders directory   the nodes of this order, from the least name to the greatest
 --     IsKnown nodes b             a node, whose name can be read
 --     Rises nodes b c             the name of one node is less than that of the other
 --     IsInOrders nodes orders out  each node is in the order of its directory, but for the one that is out, each order
@@ -30,7 +30,7 @@ order_at orders None = orders.root
 order_at orders (Some d) = slice_index_or orders.directories.items d no_order
 
 abbrev pub in_order : Orders → Option ℕ → List ℕ
-in_order orders place = trees.nodes orders.links.items (order_at orders place)
+in_order orders directory = trees.nodes orders.links.items (order_at orders directory)
 
 pub record IsKnown (nodes : Blocks) (b : ℕ) : Type 0 where
   pub node : IsNode nodes b
@@ -43,10 +43,10 @@ Rises nodes b c = name_cmp (name_at nodes b) (name_at nodes c) ≡ Less
 pub record IsInOrders (nodes : Blocks) (orders : Orders) (out : Option ℕ) : Type 0 where
   pub links : length orders.links.items ≡ length nodes
   pub directories : length orders.directories.items ≡ length nodes
-  pub order : (place : Option ℕ) → trees.IsOrder orders.links.items (order_at orders place)
+  pub order : (directory : Option ℕ) → trees.IsOrder orders.links.items (order_at orders directory)
   -- of its own nodes
-  pub own : (place : Option ℕ) → All (IsMember nodes out place) (in_order orders place)
-  pub rising : (place : Option ℕ) → AllPairs (Rises nodes) (in_order orders place)
+  pub own : (directory : Option ℕ) → All (IsMember nodes out directory) (in_order orders directory)
+  pub rising : (directory : Option ℕ) → AllPairs (Rises nodes) (in_order orders directory)
   -- and of all of them
   pub all : (b : ℕ) → IsNode nodes b → out ≢ Some b → Contains (in_order orders (home nodes b)) b
 

@@ -82,7 +82,7 @@ Apart run other = 0 < run.count → 0 < other.count → other.first ≢ run.firs
 pub record Stays (old new : Blocks) (run : Run) : Type 0 where
   pub held : IsHeld new run
   pub octets : octets_of_run new run ≡ octets_of_run old run
-  pub places : (k : ℕ) → k ≤ run.count → nth new run.first k ≡ nth old run.first k
+  pub sequence : (k : ℕ) → k ≤ run.count → nth new run.first k ≡ nth old run.first k
 
 abbrev pub RunsStay : Blocks → Blocks → Type 0
 RunsStay old new = (run : Run) → IsHeld old run → Stays old new run

@@ -5,7 +5,7 @@
 --     IsBlank octets gap         in the gap there are zeros alone
 --     blank_end slot             the offsets after those of all octets that were written
 --     IsUnwrittenSlot octets slot  there are zeros alone there and in the slot's gap
---     IsPlaced arena slot        the position is one of the list's run, and its octets are zeros where none was written
+--     IsSoundSlot arena slot     the position is one of the list's run, and its octets are zeros where none was written
 --     IsFreshSlot slot           the list is empty, the position and the offset are its beginning, and there is no gap
 --     IsStore arena ways heads slots     what is true of every store of such parts
 use Rattle.std.specs.Prelude.{◌≡◌, ℕ, ◌-◌, ◌≤◌, List, All, map, replicate, slice_range}
@@ -36,17 +36,17 @@ pub record IsUnwrittenSlot (octets : List ℕ) (slot : Slot) : Type 0 where
   pub end : IsBlank octets (blank_end slot)
   pub gap : IsBlank octets slot.gap
 
-pub record IsPlaced (arena : Blocks) (slot : Slot) : Type 0 where
-  pub place : IsAt arena slot.contents.run slot.place
+pub record IsSoundSlot (arena : Blocks) (slot : Slot) : Type 0 where
+  pub cursor : IsAt arena slot.contents.run slot.cursor
   pub unwritten : IsUnwrittenSlot (contents_in arena slot.contents) slot
 
 pub record IsFreshSlot (slot : Slot) : Type 0 where
   pub contents : slot.contents ≡ no_contents
-  pub block : slot.place.block ≡ slot.contents.run.first
-  pub index : slot.place.index ≡ 0
+  pub block : slot.cursor.block ≡ slot.contents.run.first
+  pub index : slot.cursor.index ≡ 0
   pub blank : slot.blank_from ≡ 0
   pub gap : slot.gap ≡ no_gap
 
 pub record IsStore (arena : Blocks) (ways : List Way) (heads : Heads) (slots : List Slot) : Type 0 where
   pub kept : IsKeptStore arena ways heads (lists_staged slots)
-  pub placed : All (IsPlaced arena) slots
+  pub sound : All (IsSoundSlot arena) slots

@@ -11,7 +11,7 @@
 --     IsTree nodes                   the nodes make a tree
 --     unlinked row, Relinked old new     what it says but for its link of the index;  each node says what it said, but
 --                                        for that
---     SamePlaces old new             the same nodes are where they were, under their names
+--     SameEntries old new            the same nodes are where they were, under their names
 use Rattle.std.specs.Prelude.{◌≡◌, ℕ, suc, zero, ◌≤◌, ◌==◌, if◌then◌else◌, List, [], ◌∷◌, ◌++◌, Option, Some, None, IsSome, is_some, length}
 use Rattle.std.specs.Option.{option_map_or}
 use Rattle.cfdp_arena.specs.Arena.{Blocks, octets_at, octets_of}
@@ -72,7 +72,7 @@ pub record IsTree (nodes : Blocks) : Type 0 where
   pub unique : (b c : ℕ) → IsNode nodes b → IsNode nodes c → home nodes b ≡ home nodes c → name_at nodes b
       ≡ name_at nodes c → b ≡ c
 
-pub record SamePlaces (old new : Blocks) : Type 0 where
+pub record SameEntries (old new : Blocks) : Type 0 where
   pub nodes : (b : ℕ) → is_some (octets_at new b) ≡ is_some (octets_at old b)
   pub homes : (b : ℕ) → home new b ≡ home old b
   pub names : (b : ℕ) → name_at new b ≡ name_at old b

@@ -3,7 +3,7 @@
 --     walk orders n b          the node and what is below it, as far down as n names
 --     walks orders n list      the same of each node of a list
 --     walks_at orders depth list    all of it, where each node of the list has a path of `depth` names
---     walk_from orders depth place  all at and below a node or the root, whose path has `depth` names
+--     walk_from orders depth directory  all at and below a node or the root, whose path has `depth` names
 --     most_names_in nodes list  the number of names of the longest path of some nodes
 --     StandsDeep nodes depth b a node whose path has `depth` names
 --     StandAt nodes depth list each is such a node

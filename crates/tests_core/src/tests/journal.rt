@@ -90,10 +90,10 @@ static FILLERS: [&str; 16] = [
     "240008000310020740000000000000",
 ];
 
-pub type Engine = Journaled<TreeStore>;
+pub type JournaledTree = Journaled<TreeStore>;
 
 /// The entity 2 that has just begun, with a journal of this many entries, which may be: only memory can be refused.
-pub fn engine(alloc: Global, entries: u32) -> Result<Engine, Memory> {
+pub fn journaled_tree(alloc: Global, entries: u32) -> Result<JournaledTree, Memory> {
     let Ok(config) = Config::new(2, 64, 2400, 2, entries, Protected::new()) else {
         return Err(AllocError);
     };
@@ -105,8 +105,8 @@ pub fn engine(alloc: Global, entries: u32) -> Result<Engine, Memory> {
 /// What exists, the blocks to spare, the entries, and how far the four transactions are.
 type Seen = (Vec<Entry>, u32, usize, [Option<Phase>; 4]);
 
-fn seen(alloc: Global, engine: &Engine) -> Result<Seen, Memory> {
-    let core = engine.core();
+fn seen(alloc: Global, journaled: &JournaledTree) -> Result<Seen, Memory> {
+    let core = journaled.core();
     let phases = [
         core.phase(id(5)),
         core.phase(id(6)),
@@ -114,22 +114,22 @@ fn seen(alloc: Global, engine: &Engine) -> Result<Seen, Memory> {
         core.phase(id(14)),
     ];
     let listing = core.store().listing(alloc)?;
-    Ok((listing, core.spare(), engine.journal().len(), phases))
+    Ok((listing, core.spare(), journaled.journal().len(), phases))
 }
 
 /// The reply to an event. Where memory is refused or the journal is full, nothing has changed.
 fn accept(
     rt: &impl Abort,
     alloc: Global,
-    engine: &mut Engine,
+    journaled: &mut JournaledTree,
     given: Given,
 ) -> Result<Reply, Memory> {
-    let before = seen(alloc, engine)?;
+    let before = seen(alloc, journaled)?;
     let event = Arc::new(alloc, given.event(alloc)?)?;
-    let reply = engine.accept(0, event);
+    let reply = journaled.accept(0, event);
     if matches!(reply, Reply::Memory | Reply::JournalFull) {
         assert!(rt;
-            seen(alloc, engine)? == before,
+            seen(alloc, journaled)? == before,
             "an event that was refused memory or room in the journal"
         );
     }
@@ -140,21 +140,32 @@ fn accept(
 fn replies(
     rt: &impl Abort,
     alloc: Global,
-    engine: &mut Engine,
+    journaled: &mut JournaledTree,
     given: Given,
     told: Told,
 ) -> Result<bool, Memory> {
-    let reply = match accept(rt, alloc, engine, given)? {
-        Reply::Memory => accept(rt, alloc, engine, given)?,
+    let reply = match accept(rt, alloc, journaled, given)? {
+        Reply::Memory => accept(rt, alloc, journaled, given)?,
         reply => reply,
     };
     is_told(rt, alloc, &reply, told)
 }
 
 /// Fills in this many entries.
-fn fill(rt: &impl Abort, alloc: Global, engine: &mut Engine, count: usize) -> Result<(), Memory> {
+fn fill(
+    rt: &impl Abort,
+    alloc: Global,
+    journaled: &mut JournaledTree,
+    count: usize,
+) -> Result<(), Memory> {
     for text in FILLERS.iter().take(count) {
-        let told = replies(rt, alloc, engine, Given::Pdu(*text), Told::Admitted(0, 0))?;
+        let told = replies(
+            rt,
+            alloc,
+            journaled,
+            Given::Pdu(*text),
+            Told::Admitted(0, 0),
+        )?;
         assert!(rt; told, "{text}");
     }
     Ok(())
@@ -162,7 +173,12 @@ fn fill(rt: &impl Abort, alloc: Global, engine: &mut Engine, count: usize) -> Re
 
 /// Hands in the events of the transactions after `count` others: the first sixteen of all get their own replies, and
 /// all others JournalFull.
-fn go_on(rt: &impl Abort, alloc: Global, engine: &mut Engine, count: usize) -> Result<(), Memory> {
+fn go_on(
+    rt: &impl Abort,
+    alloc: Global,
+    journaled: &mut JournaledTree,
+    count: usize,
+) -> Result<(), Memory> {
     let mut before = count;
     for (given, told) in &FOUR {
         let told = if before < 16 {
@@ -170,7 +186,7 @@ fn go_on(rt: &impl Abort, alloc: Global, engine: &mut Engine, count: usize) -> R
         } else {
             Told::JournalFull
         };
-        let well = replies(rt, alloc, engine, *given, told)?;
+        let well = replies(rt, alloc, journaled, *given, told)?;
         assert!(rt; well, "event {before}, of which {count} are fillers");
         before = before.saturating_add(1);
     }
@@ -180,13 +196,13 @@ fn go_on(rt: &impl Abort, alloc: Global, engine: &mut Engine, count: usize) -> R
 #[test]
 fn fills_after_any_number_of_entries(rt: HostRuntime) -> Result<(), Memory> {
     for count in 0..=16usize {
-        let mut engine = engine(rt.alloc(), 16)?;
-        fill(&rt, rt.alloc(), &mut engine, count)?;
-        go_on(&rt, rt.alloc(), &mut engine, count)?;
+        let mut journaled = journaled_tree(rt.alloc(), 16)?;
+        fill(&rt, rt.alloc(), &mut journaled, count)?;
+        go_on(&rt, rt.alloc(), &mut journaled, count)?;
         assert!(&rt;
-            engine.journal().len() == 16,
+            journaled.journal().len() == 16,
             "{} entries, of which {count} are fillers",
-            engine.journal().len()
+            journaled.journal().len()
         );
     }
     Ok(())

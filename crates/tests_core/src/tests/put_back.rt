@@ -1,5 +1,5 @@
 //! What is put into a filestore before the first PDU: each reason for which nothing is put, and out of memory. A
-//! filestore that is read out of one engine and put into another is in `examples/c/restart.c`.
+//! filestore that is read out of one entity and put into another is in `examples/c/restart.c`.
 
 use super::entity::octets_of;
 use super::scene::path_of;

@@ -39,8 +39,8 @@ static ROWS: [Row; 4] = [
 /// The octets at the beginning of a buffer.
 fn buffer_with(octets: &[u8]) -> [u8; 32] {
     let mut buffer = [0xee; 32];
-    for (place, octet) in buffer.iter_mut().zip(octets) {
-        *place = *octet;
+    for (target, octet) in buffer.iter_mut().zip(octets) {
+        *target = *octet;
     }
     buffer
 }

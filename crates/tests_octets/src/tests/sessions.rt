@@ -4,7 +4,7 @@ ghost use Rattle.std.specs.Prelude.{◌<◌};
 
 use cfdp_pdus::{Header, condition};
 use cfdp_retransmission::Timer;
-use cfdp_sessions::{Closed, Ending, MOST_SESSIONS, Session, Sessions, Stage};
+use cfdp_sessions::{ClosedTransactions, Ending, MOST_SESSIONS, Session, Sessions, Stage};
 use cfdp_status::TransactionId;
 use std::alloc::{AllocError, Global};
 
@@ -311,8 +311,8 @@ fn one_is_replaced(rt: HostRuntime) -> Result<(), AllocError> {
 }
 
 /// 256 closed transactions of one source, numbered from 0.
-fn closed(alloc: Global) -> Result<Closed, AllocError> {
-    let mut closed = Closed::new(alloc)?;
+fn closed(alloc: Global) -> Result<ClosedTransactions, AllocError> {
+    let mut closed = ClosedTransactions::new(alloc)?;
     for number in 0..256u64 {
         closed.add(id(1, number));
     }

@@ -56,8 +56,8 @@ fn fill(octets: &mut &[u8], most: usize, buffer: &mut [u8]) -> usize
 {
     let count = buffer.len().min(most).min(octets.len());
     let (piece, rest) = octets.split_at(count);
-    for (place, octet) in buffer.iter_mut().zip(piece) {
-        *place = *octet;
+    for (target, octet) in buffer.iter_mut().zip(piece) {
+        *target = *octet;
     }
     *octets = rest;
     count

@@ -69,8 +69,8 @@ fn copies_one_octet(arena: &mut Arena) -> bool {
         return false;
     };
     let octets = arena.bytes_mut(first);
-    for place in 8..128 {
-        octets[place] = 1;
+    for index in 8..128 {
+        octets[index] = 1;
     }
     let before = *arena.bytes(first);
     arena.copy_payload(first, 0, second, 119, 1);

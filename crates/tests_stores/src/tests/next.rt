@@ -66,10 +66,10 @@ fn goes_through_in_path_order(rt: HostRuntime) -> Result<(), Memory> {
         is_next(&store, Names::none(), ROWS.first()),
         "the first one"
     );
-    for (text, place) in ASKED {
+    for (text, index) in ASKED {
         let path = parsed(alloc, text)?;
         assert!(&rt;
-            is_next(&store, path.names(), ROWS.get(*place)),
+            is_next(&store, path.names(), ROWS.get(*index)),
             "{}",
             text.escape_ascii()
         );

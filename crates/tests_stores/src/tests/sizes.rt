@@ -20,8 +20,8 @@ const SLOT: u8 = 1;
 /// Octets that are distinguished by their offsets.
 fn octets() -> [u8; MOST] {
     let mut octets = [0; MOST];
-    for (place, octet) in octets.iter_mut().enumerate() {
-        *octet = (place * 7 % 251) as u8;
+    for (index, octet) in octets.iter_mut().enumerate() {
+        *octet = (index * 7 % 251) as u8;
     }
     octets
 }

@@ -1,5 +1,5 @@
 use Rattle.std.proofs.Common.{arith, length}
-use Rattle.cfdp_actions.proofs.SurveyLaws.{weights_next, lists_next, blocks_of-bound}
+use Rattle.cfdp_actions.proofs.BlocksLaws.{weights_next, lists_next, blocks_of-bound}
 use Rattle.cfdp_actions.proofs.entries.blocks_in.Goals as goal
 
 pub blocks-blocks-requires : goal.blocks-blocks-requires

@@ -5,4 +5,4 @@ use Rattle.cfdp_checksum.proofs.checksum.first_word.Goals as goal
 pub returns : goal.returns
 returns c =
     let r = c.requires in
-    ap (λ n. n / 2 ^ (8 * c.args.place)) c.last_word.ensures ∙ weighed-shifted c.args.place c.args.octets.now r.some r.inside r.fits
+    ap (λ n. n / 2 ^ (8 * c.args.word_offset)) c.last_word.ensures ∙ weighed-shifted c.args.word_offset c.args.octets.now r.some r.inside r.fits

@@ -13,9 +13,9 @@ found : (xs : List Path) (t : Path) (r : Result ℕ ℕ) → IsSearchInRange r (
 found xs t (Ok k) within at = found_there xs t k within at
 found xs t (Err i) within at = tt
 
-place : (xs : List Path) (r : Result ℕ ℕ) → IsSearchInRange r (length xs) → IfErr r (λ i. i ≤ length xs)
-place xs (Ok k) within = tt
-place xs (Err i) within = within
+index : (xs : List Path) (r : Result ℕ ℕ) → IsSearchInRange r (length xs) → IfErr r (λ i. i ≤ length xs)
+index xs (Ok k) within = tt
+index xs (Err i) within = within
 
 gap : (xs : List Path) (t : Path) (r : Result ℕ ℕ) → IsStrictlySortedBy path_cmp xs → IsSearchInRange r (length xs) →
     IsBinarySearchResult (λ y. path_cmp y t) xs r → IfErr r (λ i. IsStrictlySortedBy path_cmp (insert xs i t))
@@ -28,6 +28,6 @@ returns c =
     let at = facts.position (λ y. path_cmp y (take c.args.depth c.args.path.now)) (always_returns_same _ _ _ (λ a r g called. (search rules, search rules))) in
     record {
       found = found c.args.paths.now (take c.args.depth c.args.path.now) c.binary_search_by.result facts.bound at;
-      place = place c.args.paths.now c.binary_search_by.result facts.bound;
+      index = index c.args.paths.now c.binary_search_by.result facts.bound;
       gap = gap c.args.paths.now (take c.args.depth c.args.path.now) c.binary_search_by.result c.requires.ordered facts.bound at;
     }

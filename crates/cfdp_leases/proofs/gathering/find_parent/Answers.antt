@@ -14,6 +14,6 @@ returns-in_default c =
     let is = ap (λ d. take (d - 1) n) c.depth-depth.ensures.depth ∙ sym (parent-take n) in
     record {
       found = subst (λ (p : Path). IfOk c.find_beginning.result (λ _. stands p xs)) is c.find_beginning.ensures.found;
-      place = c.find_beginning.ensures.place;
-      gap = subst (λ (p : Path). IfErr c.find_beginning.result (λ place. IsStrictlySortedBy path_cmp (insert xs place p))) is c.find_beginning.ensures.gap;
+      index = c.find_beginning.ensures.index;
+      gap = subst (λ (p : Path). IfErr c.find_beginning.result (λ index. IsStrictlySortedBy path_cmp (insert xs index p))) is c.find_beginning.ensures.gap;
     }

@@ -10,7 +10,7 @@ use Rattle.cfdp_leases.proofs.gathering.insert_ancestors.Goals as goal
 
 pub insert_beginning-requires-clause-gap : goal.insert_beginning-requires-clause-gap
 insert_beginning-requires-clause-gap c =
-    subst (λ (p : Path). IsStrictlySortedBy path_cmp (insert c.args.paths.now.items c.args.place p))
+    subst (λ (p : Path). IsStrictlySortedBy path_cmp (insert c.args.paths.now.items c.args.index p))
     (parent-take c.args.path.now ∙ ap (λ d. take (d - 1) c.args.path.now) (sym c.depth-depth.ensures.depth)) c.requires.gap
 
 pub loop-count-init : goal.loop-count-init

@@ -6,5 +6,5 @@ use Rattle.cfdp_leases.proofs.gathering.insert_beginning.Goals as goal
 
 pub returns-clause-added : goal.returns-clause-added
 returns-clause-added c =
-    ap set.from_list (c.in_ok-insert.ensures.items ∙ ap (insert c.args.paths.now.items c.args.place) c.in_ok-beginning.ensures)
-    ∙ same_set-insert c.args.paths.now.items (take c.args.depth c.args.path.now) c.args.place
+    ap set.from_list (c.in_ok-insert.ensures.items ∙ ap (insert c.args.paths.now.items c.args.index) c.in_ok-beginning.ensures)
+    ∙ same_set-insert c.args.paths.now.items (take c.args.depth c.args.path.now) c.args.index

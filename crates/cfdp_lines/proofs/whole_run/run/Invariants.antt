@@ -1,5 +1,5 @@
 use Rattle.std.proofs.Common.{◌≡◌, ◌≤◌, ◌+◌, []}
-use Rattle.cfdp_lines.specs.Session.{place}
+use Rattle.cfdp_lines.specs.Session.{line_reading}
 use Rattle.cfdp_lines.specs.Lines.{input_limit}
 use Rattle.cfdp_lines.proofs.Running.{Running}
 use Rattle.cfdp_lines.proofs.whole_run.run.Given as goal
@@ -7,7 +7,7 @@ use Rattle.cfdp_lines.proofs.whole_run.run.Given as goal
 abbrev pub invariant-pieces : goal.invariant-pieces
 invariant-pieces g l =
     Running g.S.Script.State g.S.Script.answer (g.S.Script.state l.fn.script)
-    (place l.session.number (g.S.Script.state l.session.script) l.session.line.items)
+    (line_reading l.session.number (g.S.Script.state l.session.script) l.session.line.items)
     l.left
     (g.R.ScriptIn.remaining l.initial.reader)
     (g.R.ScriptIn.remaining l.reader)

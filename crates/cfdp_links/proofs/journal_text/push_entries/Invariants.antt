@@ -5,8 +5,8 @@ use Rattle.cfdp_engine.specs.Journal.{replies_of}
 use Rattle.cfdp_links.specs.JournalTexts.{entry_texts}
 use Rattle.cfdp_links.proofs.journal_text.push_entries.Given as goal
 
-abbrev pub invariant-loop-place : goal.invariant-loop-place
-invariant-loop-place l = record {
-  fits : AllByRecursion FitsReply (replies_of (drop l.place l.entries));
-  writes : l.text.items ++ entry_texts l.place (drop l.place l.entries) ≡ l.initial.text.items ++ entry_texts 0 l.entries;
+abbrev pub invariant-loop-index : goal.invariant-loop-index
+invariant-loop-index l = record {
+  fits : AllByRecursion FitsReply (replies_of (drop l.index l.entries));
+  writes : l.text.items ++ entry_texts l.index (drop l.index l.entries) ≡ l.initial.text.items ++ entry_texts 0 l.entries;
 }

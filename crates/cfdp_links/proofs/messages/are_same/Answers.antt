@@ -8,20 +8,20 @@ pub returns-then-not-is_same : goal.returns-then-not-is_same
 returns-then-not-is_same c =
     let xs = c.args.taken.now in
     let ys = c.args.due.now in
-    let k = c.loop-place.place in
-    let x = c.index-taken-place.result in
-    let y = c.index-due-place.result in (
+    let k = c.loop-index.index in
+    let x = c.index-taken-index.result in
+    let y = c.index-due-index.result in (
       λ good. absurd cc,
       λ same.
-          let x_in : k < length xs = c.loop-place-test.true in
+          let x_in : k < length xs = c.loop-index-test.true in
           let lengths : length xs ≡ length ys = sym (length-map xs said_of) ∙ ap length same ∙ length-map ys said_of in
           let y_in : k < length ys = subst (λ n. k < n) lengths x_in in
           let said : said_of x ≡ said_of y =
-          ap said_of c.index-taken-place.is
+          ap said_of c.index-taken-index.is
           ∙ sym (get_or-map said_of xs k x (said_of x) x_in)
           ∙ ap (λ said. slice_index_or said k (said_of x)) same
           ∙ get_or-map said_of ys k y (said_of x) y_in
-          ∙ sym (ap said_of c.index-due-place.is) in
+          ∙ sym (ap said_of c.index-due-index.is) in
           let told = c.is_same.ensures.1 said in
           absurd cc,
     )

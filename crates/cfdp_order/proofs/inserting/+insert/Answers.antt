@@ -6,7 +6,7 @@ use Rattle.cfdp_order.specs.Orders.{nodes, times_in, links_at, left_of, right_of
 use Rattle.cfdp_order.proofs.TreeLaws.{opened, opened_at, no_nodes}
 use Rattle.cfdp_order.proofs.TestLaws.{some_levels, not_less}
 use Rattle.cfdp_order.proofs.SplitLaws.{All_left, All_right, All_at}
-use Rattle.cfdp_order.proofs.GrowthLaws.{Balanced, Grown, none_can, none_split, fresh_left, fresh_right, right_can, grown_right, placed_right, left_can, grown_left, placed_left}
+use Rattle.cfdp_order.proofs.GrowthLaws.{Balanced, Grown, none_can, none_split, fresh_left, fresh_right, right_can, grown_right, joined_right, left_can, grown_left, joined_left}
 use Rattle.cfdp_order.proofs.inserting.+insert.Goals as goal
 
 no_levels : {r : Order} → r ≡ record { root = 0; height = 0 } → r.height ≡ 0
@@ -91,7 +91,7 @@ returns-in-Less g t c =
     let now = grown_right is o fresh grown balanced in let side = g.S.Sought.side c.args.sought.now in
     record {
       order = now.is;
-      inserted = (λ before after parted splits. placed_right is o fresh grown balanced (λ k. side k ≡ Less) (λ k. side k ≢ Less)
+      inserted = (λ before after parted splits. joined_right is o fresh grown balanced (λ k. side k ≡ Less) (λ k. side k ≢ Less)
           (λ apart. apart (sym c.in-Less.ensures))
           before after parted splits.less splits.rest (λ rest part less. e.inserted rest after part (record { less = less; rest = splits.rest })));
       one_more = now.one_more;
@@ -113,7 +113,7 @@ returns-in-Equal g t c =
     record {
       order = now.is;
       inserted = (λ before after parted splits.
-          placed_left is o fresh grown balanced (λ k. side k ≡ Less) (λ k. side k ≢ Less) (λ less. not_less c.in-Equal.is (c.compare.ensures ∙ less))
+          joined_left is o fresh grown balanced (λ k. side k ≡ Less) (λ k. side k ≢ Less) (λ less. not_less c.in-Equal.is (c.compare.ensures ∙ less))
           before after parted splits.less splits.rest (λ rest part all. e.inserted before rest part (record { less = splits.less; rest = all })));
       one_more = now.one_more;
       least = now.least;

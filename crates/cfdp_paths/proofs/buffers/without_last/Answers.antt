@@ -16,14 +16,14 @@ pub loop-dropped-preserved : goal.loop-dropped-preserved
 loop-dropped-preserved c =
     let octets = c.args.octets.now in
     let end = c.loop-dropped.end in
-    let place = c.unwrap-end.result in
+    let offset = c.unwrap-end.result in
     let kept = length (names_of octets) - c.loop-dropped._dropped in
-    let last = last_is (take end octets) c.last_separator.result place c.last_separator.ensures c.unwrap-end.ensures in
-    let before : place ≤ end = omega (arith, last.within, length-take end octets) in
+    let last = last_is (take end octets) c.last_separator.result offset c.last_separator.ensures c.unwrap-end.ensures in
+    let before : offset ≤ end = omega (arith, last.within, length-take end octets) in
     let less : kept - 1 ≡ length (names_of octets) - (c.loop-dropped._dropped + 1) = omega arith in
     record {
       within = omega (arith, before, c.loop-dropped.invariant.within);
-      names = ap names_of (sym (take-take place end octets before))
-          ∙ cut_last octets (take end octets) place kept c.loop-dropped.invariant.names (omega arith) last.within last.here last.count
+      names = ap names_of (sym (take-take offset end octets before))
+          ∙ cut_last octets (take end octets) offset kept c.loop-dropped.invariant.names (omega arith) last.within last.here last.count
           ∙ ap (λ n. take n (names_of octets)) less;
     }

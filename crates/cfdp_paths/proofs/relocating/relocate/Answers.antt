@@ -31,16 +31,16 @@ new_paths-requires-clause-depth g c =
     c.deref.ensures.value c.deref-3.ensures.value c.piece-start.ensures)
     ∙ c.requires.depth
 
-pub place_moved-requires-clause-ordered : goal.place_moved-requires-clause-ordered
-place_moved-requires-clause-ordered g c =
+pub put_moved-requires-clause-ordered : goal.put_moved-requires-clause-ordered
+put_moved-requires-clause-ordered g c =
     let es = c.args.entries.now.items in
     let p = c.args.from.now in
     ordered-where (λ x. not (is_at_or_below x p)) es _
     (c.in_ok-taken.ensures.left ∙ rest_of p es c.deref.result.now c.piece-start.result.0 c.piece-start.result.1 c.requires.ordered c.deref.ensures.value
     c.piece-start.ensures) c.requires.ordered
 
-pub place_moved-requires-clause-in_order : goal.place_moved-requires-clause-in_order
-place_moved-requires-clause-in_order g c =
+pub put_moved-requires-clause-in_order : goal.put_moved-requires-clause-in_order
+put_moved-requires-clause-in_order g c =
     let es = c.args.entries.now.items in
     let p = c.args.from.now in
     let q = c.args.to.now in
@@ -52,8 +52,8 @@ place_moved-requires-clause-in_order g c =
     piece in
     ap (is_sorted path_cmp) (c.renamed.ensures ∙ moved_is p q es _ _ _ c.in_ok-paths.ensures tree taken) ∙ tree_ordered p q es s
 
-pub place_moved-requires-clause-below : goal.place_moved-requires-clause-below
-place_moved-requires-clause-below g c =
+pub put_moved-requires-clause-below : goal.put_moved-requires-clause-below
+put_moved-requires-clause-below g c =
     let es = c.args.entries.now.items in
     let p = c.args.from.now in
     let q = c.args.to.now in
@@ -65,8 +65,8 @@ place_moved-requires-clause-below g c =
     piece in
     ap (list_all (λ e. is_at_or_below e.0 q)) (c.renamed.ensures ∙ moved_is p q es _ _ _ c.in_ok-paths.ensures tree taken) ∙ moved_all p q (tree_in p es)
 
-pub place_moved-requires-clause-room : goal.place_moved-requires-clause-room
-place_moved-requires-clause-room g c =
+pub put_moved-requires-clause-room : goal.put_moved-requires-clause-room
+put_moved-requires-clause-room g c =
     let es = c.args.entries.now.items in
     let p = c.args.from.now in
     let q = c.args.to.now in
@@ -103,4 +103,4 @@ returns-clause-ok g c =
     piece in
     let rest = c.in_ok-taken.ensures.left ∙ rest_of p es c.deref.result.now c.piece-start.result.0 c.piece-start.result.1 s c.deref.ensures.value piece in
     let moved = c.renamed.ensures ∙ moved_is p q es _ _ _ c.in_ok-paths.ensures tree taken in
-    c.place_moved.ensures ∙ ap (λ ys. puts ys c.renamed.result.items) rest ∙ ap (puts (rest_in p es)) moved
+    c.put_moved.ensures ∙ ap (λ ys. puts ys c.renamed.result.items) rest ∙ ap (puts (rest_in p es)) moved

@@ -24,15 +24,15 @@ rebase_all-requires-clause-depth g c =
     c.requires.piece in
     ap (is_too_deep p c.args.to.now) taken ∙ c.requires.depth
 
-pub place_moved-requires-clause-ordered : goal.place_moved-requires-clause-ordered
-place_moved-requires-clause-ordered g c =
+pub put_moved-requires-clause-ordered : goal.put_moved-requires-clause-ordered
+put_moved-requires-clause-ordered g c =
     let es = c.args.entries.now.items in
     let p = c.args.from.now in
     let s = c.requires.ordered in
     ordered-where (λ x. not (is_at_or_below x p)) es _ (c.in_ok-moved.ensures.left ∙ rest_of p es es c.args.start c.args.end s refl c.requires.piece) s
 
-pub place_moved-requires-clause-in_order : goal.place_moved-requires-clause-in_order
-place_moved-requires-clause-in_order g c =
+pub put_moved-requires-clause-in_order : goal.put_moved-requires-clause-in_order
+put_moved-requires-clause-in_order g c =
     let es = c.args.entries.now.items in
     let p = c.args.from.now in
     let q = c.args.to.now in
@@ -43,8 +43,8 @@ place_moved-requires-clause-in_order g c =
     ap (is_sorted path_cmp) (take_at c.rebase_all.new.entries _ c.in_ok-moved.moved.len count ∙ c.rebase_all.ensures ∙ ap (moved_to p q) taken)
     ∙ tree_ordered p q es s
 
-pub place_moved-requires-clause-below : goal.place_moved-requires-clause-below
-place_moved-requires-clause-below g c =
+pub put_moved-requires-clause-below : goal.put_moved-requires-clause-below
+put_moved-requires-clause-below g c =
     let es = c.args.entries.now.items in
     let p = c.args.from.now in
     let q = c.args.to.now in
@@ -55,8 +55,8 @@ place_moved-requires-clause-below g c =
     ap (list_all (λ e. is_at_or_below e.0 q)) (take_at c.rebase_all.new.entries _ c.in_ok-moved.moved.len count ∙ c.rebase_all.ensures
     ∙ ap (moved_to p q) taken) ∙ moved_all p q (tree_in p es)
 
-pub place_moved-requires-clause-room : goal.place_moved-requires-clause-room
-place_moved-requires-clause-room g c =
+pub put_moved-requires-clause-room : goal.put_moved-requires-clause-room
+put_moved-requires-clause-room g c =
     let es = c.args.entries.now.items in
     let p = c.args.from.now in
     let q = c.args.to.now in
@@ -88,4 +88,4 @@ returns-clause-ok g c =
     ap length c.rebase_all.ensures ∙ length-moved p q c.deref_mut.result.now ∙ ap length c.deref_mut.ensures.value ∙ omega (arith, c.in_ok-moved.moved.ok.0) in
     let moved = take_at c.rebase_all.new.entries (drop (length c.rebase_all.new.entries) c.in_ok-moved.moved.items) c.in_ok-moved.moved.len count
     ∙ c.rebase_all.ensures ∙ ap (moved_to p q) taken in
-    c.place_moved.ensures ∙ ap (puts c.detach.new.entries.items) moved ∙ ap (λ ys. puts ys (moved_to p q (tree_in p es))) rest
+    c.put_moved.ensures ∙ ap (puts c.detach.new.entries.items) moved ∙ ap (λ ys. puts ys (moved_to p q (tree_in p es))) rest

@@ -3,5 +3,5 @@ use Rattle.cfdp_paths.specs.Paths.{is_separator}
 use Rattle.cfdp_paths.proofs.scan.first_of_few.Given as goal
 
 -- there is no separator before the index
-abbrev pub invariant-loop-place : goal.invariant-loop-place
-invariant-loop-place l = Nowhere (Passes is_separator l.octets) 0 l.place
+abbrev pub invariant-loop-offset : goal.invariant-loop-offset
+invariant-loop-offset l = Nowhere (Passes is_separator l.octets) 0 l.offset

@@ -4,5 +4,5 @@ use Rattle.cfdp_paths.specs.Paths.{is_separator}
 use Rattle.cfdp_paths.proofs.scan.last_of_few.Given as goal
 
 -- there is no separator from the offset on
-abbrev pub invariant-loop-place : goal.invariant-loop-place
-invariant-loop-place l = Nowhere (Passes is_separator l.octets) l.place (length l.octets)
+abbrev pub invariant-loop-offset : goal.invariant-loop-offset
+invariant-loop-offset l = Nowhere (Passes is_separator l.octets) l.offset (length l.octets)

@@ -27,7 +27,7 @@ make_directories-requires c =
     let enough : needed W.filestore c.args.path.now (File c.args.octets.now) ≤ free W = omega (arith, there, few, weighs, c.if-from-len.false) in
     let listed : c.deref.result.now ≡ missing W.filestore c.args.path.now = c.deref.ensures.value ∙ c.in_ok-parents.ensures.paths in
     subst (λ (paths : _). CanPutAll W (map as_directory paths)) (sym listed)
-    (puts_at W c.args.path.now (File c.args.octets.now) c.in_ok-parents.ensures.within c.requires.idle c.requires.place enough).can
+    (puts_at W c.args.path.now (File c.args.octets.now) c.in_ok-parents.ensures.within c.requires.idle c.requires.vacant enough).can
 
 pub unreachable-requires : goal.unreachable-requires
 unreachable-requires c =
@@ -38,7 +38,7 @@ unreachable-requires c =
     let few : length c.in_ok-parents.parents.items ≡ length (missing W.filestore c.args.path.now) = ap length c.in_ok-parents.ensures.paths in
     let enough : needed W.filestore c.args.path.now (File c.args.octets.now) ≤ free W = omega (arith, there, few, weighs, c.if-from-len.false) in
     let listed : c.deref.result.now ≡ missing W.filestore c.args.path.now = c.deref.ensures.value ∙ c.in_ok-parents.ensures.paths in
-    let last = (puts_at W c.args.path.now (File c.args.octets.now) c.in_ok-parents.ensures.within c.requires.idle c.requires.place enough).last in
+    let last = (puts_at W c.args.path.now (File c.args.octets.now) c.in_ok-parents.ensures.within c.requires.idle c.requires.vacant enough).last in
     let made : c.make_directories.new.entity ≡ put_all W (map as_directory (missing W.filestore c.args.path.now)) =
     c.make_directories.ensures ∙ ap (λ (paths : _). put_all W (map as_directory paths)) listed in
     let none : put_fault c.make_directories.new.entity c.args.path.now (File c.args.octets.now) ≡ None =

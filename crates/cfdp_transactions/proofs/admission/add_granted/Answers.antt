@@ -19,15 +19,15 @@ grant-requires-clause-unheld g c =
 pub returns-in-Err-clause-err : goal.returns-in-Err-clause-err
 returns-in-Err-clause-err g c =
     let back : c.forget.new.self ≡ c.args.books.now.table =
-    c.forget.ensures ∙ ap (λ rows. remove rows c.len-place.result) c.in_ok-push.ensures.ok
-    ∙ remove_last c.args.books.now.table c.new-entry.result c.len-place.result c.len-place.ensures in
+    c.forget.ensures ∙ ap (λ rows. remove rows c.len-index.result) c.in_ok-push.ensures.ok
+    ∙ remove_last c.args.books.now.table c.new-entry.result c.len-index.result c.len-index.ensures in
     rw back refl
 
 pub returns-in-Err-clause-booked : goal.returns-in-Err-clause-booked
 returns-in-Err-clause-booked g c =
     let back : c.forget.new.self ≡ c.args.books.now.table =
-    c.forget.ensures ∙ ap (λ rows. remove rows c.len-place.result) c.in_ok-push.ensures.ok
-    ∙ remove_last c.args.books.now.table c.new-entry.result c.len-place.result c.len-place.ensures in
+    c.forget.ensures ∙ ap (λ rows. remove rows c.len-index.result) c.in_ok-push.ensures.ok
+    ∙ remove_last c.args.books.now.table c.new-entry.result c.len-index.result c.len-index.ensures in
     rw (back, c.in-Err.ensures.refused) c.requires.booked
 
 pub reserve-requires-clause-slot : goal.reserve-requires-clause-slot

@@ -15,7 +15,7 @@ pub end-requires-clause-live : goal.end-requires-clause-live
 end-requires-clause-live g c =
     let s = g.S.Filestore.state c.args.store.now in
     let b = c.args.books.now in
-    let k = c.args.place in
+    let k = c.args.index in
     let r = c.at-entry.result.now in
     let at = c.at-entry.ensures in
     let live : is_live r.phase ≡ true = cc in
@@ -25,7 +25,7 @@ pub returns-then-eof-ne-NO_ERROR-clause-answer : goal.returns-then-eof-ne-NO_ERR
 returns-then-eof-ne-NO_ERROR-clause-answer g c = λ e there.
     let s = g.S.Filestore.state c.args.store.now in
     let b = c.args.books.now in
-    let k = c.args.place in
+    let k = c.args.index in
     let r = c.at-entry.result.now in
     let at = c.at-entry.ensures in
     let live : is_live r.phase ≡ true = cc in
@@ -37,7 +37,7 @@ pub returns-then-not-is_receiving-clause-answer : goal.returns-then-not-is_recei
 returns-then-not-is_receiving-clause-answer g c = λ e there.
     let s = g.S.Filestore.state c.args.store.now in
     let b = c.args.books.now in
-    let k = c.args.place in
+    let k = c.args.index in
     let r = c.at-entry.result.now in
     let at = c.at-entry.ensures in
     let live : is_live r.phase ≡ true = cc in
@@ -50,7 +50,7 @@ pub finish-requires-clause-live : goal.finish-requires-clause-live
 finish-requires-clause-live g c =
     let s = g.S.Filestore.state c.args.store.now in
     let b = c.args.books.now in
-    let k = c.args.place in
+    let k = c.args.index in
     let r = c.at-entry.result.now in
     let at = c.at-entry.ensures in
     let live : is_live r.phase ≡ true = cc in
@@ -60,7 +60,7 @@ pub finish-requires-clause-bare : goal.finish-requires-clause-bare
 finish-requires-clause-bare g c = λ e there.
     let s = g.S.Filestore.state c.args.store.now in
     let b = c.args.books.now in
-    let k = c.args.place in
+    let k = c.args.index in
     let r = c.at-entry.result.now in
     let at = c.at-entry.ensures in
     let live : is_live r.phase ≡ true = cc in
@@ -72,7 +72,7 @@ pub returns-then-is_bare-clause-answer : goal.returns-then-is_bare-clause-answer
 returns-then-is_bare-clause-answer g c = λ e there.
     let s = g.S.Filestore.state c.args.store.now in
     let b = c.args.books.now in
-    let k = c.args.place in
+    let k = c.args.index in
     let r = c.at-entry.result.now in
     let at = c.at-entry.ensures in
     let live : is_live r.phase ≡ true = cc in
@@ -87,7 +87,7 @@ pub turn-requires-clause-live : goal.turn-requires-clause-live
 turn-requires-clause-live g c =
     let s = g.S.Filestore.state c.args.store.now in
     let b = c.args.books.now in
-    let k = c.args.place in
+    let k = c.args.index in
     let r = c.at-entry.result.now in
     let at = c.at-entry.ensures in
     let live : is_live r.phase ≡ true = cc in
@@ -97,7 +97,7 @@ pub returns-then-not-names_file-clause-answer : goal.returns-then-not-names_file
 returns-then-not-names_file-clause-answer g c = λ e there.
     let s = g.S.Filestore.state c.args.store.now in
     let b = c.args.books.now in
-    let k = c.args.place in
+    let k = c.args.index in
     let r = c.at-entry.result.now in
     let at = c.at-entry.ensures in
     let live : is_live r.phase ≡ true = cc in
@@ -113,7 +113,7 @@ pub has_wrong_size-requires : goal.has_wrong_size-requires
 has_wrong_size-requires g c =
     let s = g.S.Filestore.state c.args.store.now in
     let b = c.args.books.now in
-    let k = c.args.place in
+    let k = c.args.index in
     let r = c.at-entry.result.now in
     let at = c.at-entry.ensures in
     let live : is_live r.phase ≡ true = cc in
@@ -123,7 +123,7 @@ pub end-requires-then-has_wrong_size-clause-live : goal.end-requires-then-has_wr
 end-requires-then-has_wrong_size-clause-live g c =
     let s = g.S.Filestore.state c.args.store.now in
     let b = c.args.books.now in
-    let k = c.args.place in
+    let k = c.args.index in
     let r = c.at-entry.result.now in
     let at = c.at-entry.ensures in
     let live : is_live r.phase ≡ true = cc in
@@ -133,7 +133,7 @@ pub returns-then-has_wrong_size-clause-answer : goal.returns-then-has_wrong_size
 returns-then-has_wrong_size-clause-answer g c = λ e there.
     let s = g.S.Filestore.state c.args.store.now in
     let b = c.args.books.now in
-    let k = c.args.place in
+    let k = c.args.index in
     let r = c.at-entry.result.now in
     let at = c.at-entry.ensures in
     let live : is_live r.phase ≡ true = cc in
@@ -151,7 +151,7 @@ pub turn-requires-then-not-is_whole-clause-live : goal.turn-requires-then-not-is
 turn-requires-then-not-is_whole-clause-live g c =
     let s = g.S.Filestore.state c.args.store.now in
     let b = c.args.books.now in
-    let k = c.args.place in
+    let k = c.args.index in
     let r = c.at-entry.result.now in
     let at = c.at-entry.ensures in
     let live : is_live r.phase ≡ true = cc in
@@ -161,7 +161,7 @@ pub returns-then-not-is_whole-clause-answer : goal.returns-then-not-is_whole-cla
 returns-then-not-is_whole-clause-answer g c = λ e there.
     let s = g.S.Filestore.state c.args.store.now in
     let b = c.args.books.now in
-    let k = c.args.place in
+    let k = c.args.index in
     let r = c.at-entry.result.now in
     let at = c.at-entry.ensures in
     let live : is_live r.phase ≡ true = cc in
@@ -181,7 +181,7 @@ pub judge-requires-clause-live : goal.judge-requires-clause-live
 judge-requires-clause-live g c =
     let s = g.S.Filestore.state c.args.store.now in
     let b = c.args.books.now in
-    let k = c.args.place in
+    let k = c.args.index in
     let r = c.at-entry.result.now in
     let at = c.at-entry.ensures in
     let live : is_live r.phase ≡ true = cc in
@@ -191,7 +191,7 @@ pub returns-clause-answer : goal.returns-clause-answer
 returns-clause-answer g c = λ e there.
     let s = g.S.Filestore.state c.args.store.now in
     let b = c.args.books.now in
-    let k = c.args.place in
+    let k = c.args.index in
     let r = c.at-entry.result.now in
     let at = c.at-entry.ensures in
     let live : is_live r.phase ≡ true = cc in

@@ -9,7 +9,7 @@ pub is_right-requires : goal.is_right-requires
 is_right-requires g c =
     let s = g.S.Filestore.state c.args.store.now in
     let b = c.args.books.now in
-    let k = c.args.place in
+    let k = c.args.index in
     let r = c.at-entry.result.now in
     let at = c.at-entry.ensures in
     slot_below s b c.requires.sound c.requires.booked k r at (live_row s b k r c.requires.live at)
@@ -18,7 +18,7 @@ pub returns-then-not-is_right-clause-answer : goal.returns-then-not-is_right-cla
 returns-then-not-is_right-clause-answer g c = λ e there.
     let s = g.S.Filestore.state c.args.store.now in
     let b = c.args.books.now in
-    let k = c.args.place in
+    let k = c.args.index in
     let r = c.at-entry.result.now in
     let at = c.at-entry.ensures in
     let same = entry_is s b k r at e there in
@@ -30,7 +30,7 @@ pub returns-clause-answer : goal.returns-clause-answer
 returns-clause-answer g c = λ e there.
     let s = g.S.Filestore.state c.args.store.now in
     let b = c.args.books.now in
-    let k = c.args.place in
+    let k = c.args.index in
     let r = c.at-entry.result.now in
     let at = c.at-entry.ensures in
     let same = entry_is s b k r at e there in

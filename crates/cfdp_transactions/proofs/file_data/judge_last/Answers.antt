@@ -11,7 +11,7 @@ pub judge-requires-clause-live : goal.judge-requires-clause-live
 judge-requires-clause-live g c =
     let s = g.S.Filestore.state c.args.store.now in
     let b = c.args.books.now in
-    let k = c.args.place in
+    let k = c.args.index in
     let r = c.at-entry.result.now in
     let at = c.at-entry.ensures in
     let waits : r.phase ≡ Awaiting c.in-Awaiting.field-0 = cc in
@@ -22,7 +22,7 @@ pub returns-then-not-is_whole-clause-answer : goal.returns-then-not-is_whole-cla
 returns-then-not-is_whole-clause-answer g c = λ e there.
     let s = g.S.Filestore.state c.args.store.now in
     let b = c.args.books.now in
-    let k = c.args.place in
+    let k = c.args.index in
     let r = c.at-entry.result.now in
     let at = c.at-entry.ensures in
     let waits : r.phase ≡ Awaiting c.in-Awaiting.field-0 = cc in
@@ -36,7 +36,7 @@ pub returns-clause-answer : goal.returns-clause-answer
 returns-clause-answer g c = λ e there.
     let s = g.S.Filestore.state c.args.store.now in
     let b = c.args.books.now in
-    let k = c.args.place in
+    let k = c.args.index in
     let r = c.at-entry.result.now in
     let at = c.at-entry.ensures in
     let waits : r.phase ≡ Awaiting c.in-Awaiting.field-0 = cc in

@@ -18,7 +18,7 @@ pub end-requires-clause-live : goal.end-requires-clause-live
 end-requires-clause-live g c =
     let s = g.S.Filestore.state c.args.store.now in
     let b = c.args.books.now in
-    let k = c.args.place in
+    let k = c.args.index in
     let r = c.at-entry.result.now in
     let at = c.at-entry.ensures in
     let p = c.args.piece.now in
@@ -31,7 +31,7 @@ pub returns-then-ends_past-clause-answer : goal.returns-then-ends_past-clause-an
 returns-then-ends_past-clause-answer g c = λ e there.
     let s = g.S.Filestore.state c.args.store.now in
     let b = c.args.books.now in
-    let k = c.args.place in
+    let k = c.args.index in
     let r = c.at-entry.result.now in
     let at = c.at-entry.ensures in
     let p = c.args.piece.now in
@@ -55,7 +55,7 @@ pub returns-then-not-has_room_for-clause-answer : goal.returns-then-not-has_room
 returns-then-not-has_room_for-clause-answer g c = λ e there.
     let s = g.S.Filestore.state c.args.store.now in
     let b = c.args.books.now in
-    let k = c.args.place in
+    let k = c.args.index in
     let r = c.at-entry.result.now in
     let at = c.at-entry.ensures in
     let p = c.args.piece.now in
@@ -83,7 +83,7 @@ pub stage-requires-clause-taken : goal.stage-requires-clause-taken
 stage-requires-clause-taken g c =
     let s = g.S.Filestore.state c.args.store.now in
     let b = c.args.books.now in
-    let k = c.args.place in
+    let k = c.args.index in
     let r = c.at-entry.result.now in
     let at = c.at-entry.ensures in
     let p = c.args.piece.now in
@@ -119,14 +119,14 @@ pub judge_last-requires-clause-within : goal.judge_last-requires-clause-within
 judge_last-requires-clause-within g c =
     let s = g.S.Filestore.state c.args.store.now in
     let t = g.S.Filestore.state c.stage.new.store in
-    rw (stored_length s t c.args.books.now c.stage.new.books c.args.place c.at-entry.result.now c.args.piece.now c.at-entry.ensures c.in-Ok.ensures.stored)
+    rw (stored_length s t c.args.books.now c.stage.new.books c.args.index c.at-entry.result.now c.args.piece.now c.at-entry.ensures c.in-Ok.ensures.stored)
     c.requires.within
 
 pub returns-clause-answer : goal.returns-clause-answer
 returns-clause-answer g c = λ e there.
     let s = g.S.Filestore.state c.args.store.now in
     let b = c.args.books.now in
-    let k = c.args.place in
+    let k = c.args.index in
     let r = c.at-entry.result.now in
     let at = c.at-entry.ensures in
     let p = c.args.piece.now in

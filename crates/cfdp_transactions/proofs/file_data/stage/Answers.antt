@@ -4,13 +4,13 @@ use Rattle.cfdp_pdus.specs.Values.{FileDataFields}
 use Rattle.cfdp_transactions.proofs.KeptTable.DataStored.{live, kept_is, pieces_here, zeros_here, room, reserved, can_store, stored_at, stored_sound, stored_booked}
 use Rattle.cfdp_transactions.proofs.KeptTable.EntryChanged.{slot_below}
 use Rattle.cfdp_transactions.proofs.file_data.stage.Goals as goal
-use Rattle.cfdp_transactions.proofs.Places.{get_inside}
+use Rattle.cfdp_transactions.proofs.Indexes.{get_inside}
 
 pub keep-requires-clause-slot : goal.keep-requires-clause-slot
 keep-requires-clause-slot g c =
     let s = g.S.Filestore.state c.args.store.now in
     let b = c.args.books.now in
-    let k = c.args.place in
+    let k = c.args.index in
     let r = c.at-entry.result.now in
     let at = c.at-entry.ensures in
     let p = c.args.piece.now in
@@ -20,7 +20,7 @@ pub keep-requires-clause-some : goal.keep-requires-clause-some
 keep-requires-clause-some g c =
     let s = g.S.Filestore.state c.args.store.now in
     let b = c.args.books.now in
-    let k = c.args.place in
+    let k = c.args.index in
     let r = c.at-entry.result.now in
     let at = c.at-entry.ensures in
     let p = c.args.piece.now in
@@ -32,7 +32,7 @@ pub keep-requires-clause-within : goal.keep-requires-clause-within
 keep-requires-clause-within g c =
     let s = g.S.Filestore.state c.args.store.now in
     let b = c.args.books.now in
-    let k = c.args.place in
+    let k = c.args.index in
     let r = c.at-entry.result.now in
     let at = c.at-entry.ensures in
     let p = c.args.piece.now in
@@ -44,7 +44,7 @@ pub keep-requires-clause-pieces : goal.keep-requires-clause-pieces
 keep-requires-clause-pieces g c =
     let s = g.S.Filestore.state c.args.store.now in
     let b = c.args.books.now in
-    let k = c.args.place in
+    let k = c.args.index in
     let r = c.at-entry.result.now in
     let at = c.at-entry.ensures in
     let p = c.args.piece.now in
@@ -54,7 +54,7 @@ pub keep-requires-clause-zeros : goal.keep-requires-clause-zeros
 keep-requires-clause-zeros g c =
     let s = g.S.Filestore.state c.args.store.now in
     let b = c.args.books.now in
-    let k = c.args.place in
+    let k = c.args.index in
     let r = c.at-entry.result.now in
     let at = c.at-entry.ensures in
     let p = c.args.piece.now in
@@ -64,7 +64,7 @@ pub keep-requires-clause-room : goal.keep-requires-clause-room
 keep-requires-clause-room g c =
     let s = g.S.Filestore.state c.args.store.now in
     let b = c.args.books.now in
-    let k = c.args.place in
+    let k = c.args.index in
     let r = c.at-entry.result.now in
     let at = c.at-entry.ensures in
     let p = c.args.piece.now in
@@ -76,7 +76,7 @@ pub took-requires-clause-slot : goal.took-requires-clause-slot
 took-requires-clause-slot g c =
     let s = g.S.Filestore.state c.args.store.now in
     let b = c.args.books.now in
-    let k = c.args.place in
+    let k = c.args.index in
     let r = c.at-entry.result.now in
     let at = c.at-entry.ensures in
     let p = c.args.piece.now in
@@ -86,7 +86,7 @@ pub took-requires-clause-reserved : goal.took-requires-clause-reserved
 took-requires-clause-reserved g c =
     let s = g.S.Filestore.state c.args.store.now in
     let b = c.args.books.now in
-    let k = c.args.place in
+    let k = c.args.index in
     let r = c.at-entry.result.now in
     let at = c.at-entry.ensures in
     let p = c.args.piece.now in
@@ -100,7 +100,7 @@ pub overflow_add-end : goal.overflow_add-end
 overflow_add-end g c =
     let s = g.S.Filestore.state c.args.store.now in
     let b = c.args.books.now in
-    let k = c.args.place in
+    let k = c.args.index in
     let r = c.at-entry.result.now in
     let at = c.at-entry.ensures in
     let p = c.args.piece.now in
@@ -114,7 +114,7 @@ pub store-requires-clause-fits : goal.store-requires-clause-fits
 store-requires-clause-fits g c =
     let s = g.S.Filestore.state c.args.store.now in
     let b = c.args.books.now in
-    let k = c.args.place in
+    let k = c.args.index in
     let r = c.at-entry.result.now in
     let at = c.at-entry.ensures in
     let p = c.args.piece.now in
@@ -128,7 +128,7 @@ pub returns-clause-stored : goal.returns-clause-stored
 returns-clause-stored g c =
     let s = g.S.Filestore.state c.args.store.now in
     let b = c.args.books.now in
-    let k = c.args.place in
+    let k = c.args.index in
     let r = c.at-entry.result.now in
     let at = c.at-entry.ensures in
     let p = c.args.piece.now in
@@ -147,7 +147,7 @@ pub returns-clause-sound : goal.returns-clause-sound
 returns-clause-sound g c =
     let s = g.S.Filestore.state c.args.store.now in
     let b = c.args.books.now in
-    let k = c.args.place in
+    let k = c.args.index in
     let r = c.at-entry.result.now in
     let at = c.at-entry.ensures in
     let p = c.args.piece.now in
@@ -166,7 +166,7 @@ pub returns-clause-booked : goal.returns-clause-booked
 returns-clause-booked g c =
     let s = g.S.Filestore.state c.args.store.now in
     let b = c.args.books.now in
-    let k = c.args.place in
+    let k = c.args.index in
     let r = c.at-entry.result.now in
     let at = c.at-entry.ensures in
     let p = c.args.piece.now in
@@ -183,4 +183,4 @@ returns-clause-booked g c =
     (rw c.slot-slot.ensures at c.took.ensures.taken) c.took.ensures.spare)
 
 pub store-requires-clause-within : goal.store-requires-clause-within
-store-requires-clause-within g c = get_inside c.args.books.now.table c.args.place c.at-entry.result.now c.at-entry.ensures
+store-requires-clause-within g c = get_inside c.args.books.now.table c.args.index c.at-entry.result.now c.at-entry.ensures

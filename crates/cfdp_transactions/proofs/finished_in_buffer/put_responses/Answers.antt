@@ -12,30 +12,30 @@ use Rattle.cfdp_transactions.proofs.KeptTable.EntryTakenOut.{status_at, status_o
 use Rattle.cfdp_transactions.proofs.finished_in_buffer.put_responses.Goals as goal
 use Rattle.cfdp_pdus.proofs.OutcomeSteps.{and_true}
 
-pub loop-place-preserved : goal.loop-place-preserved
-loop-place-preserved c =
+pub loop-index-preserved : goal.loop-index-preserved
+loop-index-preserved c =
     let requests = c.args.requests.now in
     let performed = c.args.performed in
-    let place = c.loop-place.place in
-    let r = c.index-requests-place.result in
+    let index = c.loop-index.index in
+    let r = c.index-requests-index.result in
     let all = responses_of requests (statuses_of performed requests) in
-    let rest = responses_from requests performed (place + 1) in
-    let status : c.status_of-status.result ≡ status_at (performed - place) r =
-    status_of_number performed place r c.status_of-status.result
+    let rest = responses_from requests performed (index + 1) in
+    let status : c.status_of-status.result ≡ status_at (performed - index) r =
+    status_of_number performed index r c.status_of-status.result
     (λ less. c.status_of-status.ensures.performed less ∙ ap (λ a. Successful a) c.action.ensures.value)
     (λ past. c.status_of-status.ensures.left past ∙ ap (λ a. NotPerformed a) c.action.ensures.value) in
     let x = answered r c.status_of-status.result in
-    let left : responses_from requests performed place ≡ x ∷ rest =
-    next_is requests performed place r c.loop-place-test.true c.index-requests-place.is ∙ rw (← status) refl in
-    let whole = subst (λ (xs : List ResponseFields). with_octets_at c.loop-place.out c.loop-place.end (flat_map response_field xs)
+    let left : responses_from requests performed index ≡ x ∷ rest =
+    next_is requests performed index r c.loop-index-test.true c.index-requests-index.is ∙ rw (← status) refl in
+    let whole = subst (λ (xs : List ResponseFields). with_octets_at c.loop-index.out c.loop-index.end (flat_map response_field xs)
     ≡ with_octets_at c.args.out.now c.args.at (flat_map response_field all))
-    left c.loop-place.invariant.written in
-    let short : list_all is_short_response (x ∷ rest) ≡ true = sym (ap (list_all is_short_response) left) ∙ c.loop-place.invariant.short in
-    let offset : c.loop-place.end + length (flat_map response_field (x ∷ rest)) ≡ c.args.at + length (flat_map response_field all) =
-    omega (arith, ap (λ (xs : List ResponseFields). length (flat_map response_field xs)) left, c.loop-place.invariant.offset) in
+    left c.loop-index.invariant.written in
+    let short : list_all is_short_response (x ∷ rest) ≡ true = sym (ap (list_all is_short_response) left) ∙ c.loop-index.invariant.short in
+    let offset : c.loop-index.end + length (flat_map response_field (x ∷ rest)) ≡ c.args.at + length (flat_map response_field all) =
+    omega (arith, ap (λ (xs : List ResponseFields). length (flat_map response_field xs)) left, c.loop-index.invariant.offset) in
     record {
       short = (and_true (is_short_response x) (list_all is_short_response rest) short).1;
       offset = omega (arith, offset, length-append (response_field x) (flat_map response_field rest), c.put_response-end.ensures.end);
-      written = one_more c.loop-place.out c.put_response-end.new.out c.args.out.now c.args.at c.loop-place.end c.put_response-end.result x rest all
-          (omega (arith, offset, c.requires.room, c.loop-place.auto.out)) whole c.put_response-end.ensures.written c.put_response-end.ensures.end;
+      written = one_more c.loop-index.out c.put_response-end.new.out c.args.out.now c.args.at c.loop-index.end c.put_response-end.result x rest all
+          (omega (arith, offset, c.requires.room, c.loop-index.auto.out)) whole c.put_response-end.ensures.written c.put_response-end.ensures.end;
     }

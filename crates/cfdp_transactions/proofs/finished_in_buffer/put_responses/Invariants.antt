@@ -8,9 +8,9 @@ use Rattle.cfdp_transactions.proofs.FinishedPdus.ResponsesPut.{responses_from}
 use Rattle.cfdp_transactions.proofs.finished_in_buffer.put_responses.Given as goal
 
 -- what is written, and the responses to the requests that are left after it
-abbrev pub invariant-loop-place : goal.invariant-loop-place
-invariant-loop-place l =
-    let rest = responses_from l.requests l.performed l.place in
+abbrev pub invariant-loop-index : goal.invariant-loop-index
+invariant-loop-index l =
+    let rest = responses_from l.requests l.performed l.index in
     let all = responses_of l.requests (statuses_of l.performed l.requests) in
     record {
       short : list_all is_short_response rest ≡ true;

@@ -8,8 +8,8 @@ returns-clause-turns g c =
     let b = c.args.books.now in
     let r = c.at-entry.result.now in
     let at = c.at-entry.ensures in
-    rw (c.turn.ensures r at) (turned_world s b c.requires.sound c.requires.booked c.args.place r at
-    (live_row s b c.args.place r c.requires.live at) c.args.phase c.requires.still c.args.eof c.args.complete)
+    rw (c.turn.ensures r at) (turned_world s b c.requires.sound c.requires.booked c.args.index r at
+    (live_row s b c.args.index r c.requires.live at) c.args.phase c.requires.still c.args.eof c.args.complete)
 
 pub returns-clause-booked : goal.returns-clause-booked
 returns-clause-booked g c =
@@ -17,5 +17,5 @@ returns-clause-booked g c =
     let b = c.args.books.now in
     let r = c.at-entry.result.now in
     let at = c.at-entry.ensures in
-    rw (c.turn.ensures r at) (turned_booked s b c.requires.sound c.requires.booked c.args.place r at
-    (live_row s b c.args.place r c.requires.live at) c.args.phase c.requires.still c.args.eof c.args.complete)
+    rw (c.turn.ensures r at) (turned_booked s b c.requires.sound c.requires.booked c.args.index r at
+    (live_row s b c.args.index r c.requires.live at) c.args.phase c.requires.still c.args.eof c.args.complete)

@@ -20,7 +20,7 @@ returns-in_default-item-clause-answer g c =
     let at = c.at-entry.ensures in
     let n = c.in-Executing.next in
     let executing : r.phase ≡ Executing n = cc in
-    idle_step s b c.args.place r n at executing (sym (rw c.in_default-item.is at c.item.ensures))
+    idle_step s b c.args.index r n at executing (sym (rw c.in_default-item.is at c.item.ensures))
 
 pub item_count-requires : goal.item_count-requires
 item_count-requires g c =
@@ -32,7 +32,7 @@ item_count-requires g c =
     let executing : r.phase ≡ Executing n = cc in
     let item = item_of c.in-Some.item in
     let there = sym (rw c.in-Some.is at c.item.ensures) in
-    few_items c.requires.laws s b c.requires.sound c.requires.booked c.args.place r at n executing item there
+    few_items c.requires.laws s b c.requires.sound c.requires.booked c.args.index r at n executing item there
 
 pub act-requires-clause-slot : goal.act-requires-clause-slot
 act-requires-clause-slot g c =
@@ -42,7 +42,7 @@ act-requires-clause-slot g c =
     let at = c.at-entry.ensures in
     let n = c.in-Executing.next in
     let executing : r.phase ≡ Executing n = cc in
-    rw c.slot-slot.ensures (slot_below s b c.requires.sound c.requires.booked c.args.place r at (rw executing refl))
+    rw c.slot-slot.ensures (slot_below s b c.requires.sound c.requires.booked c.args.index r at (rw executing refl))
 
 pub act-requires-clause-succeeds : goal.act-requires-clause-succeeds
 act-requires-clause-succeeds g c =
@@ -54,7 +54,7 @@ act-requires-clause-succeeds g c =
     let executing : r.phase ≡ Executing n = cc in
     let item = item_of c.in-Some.item in
     let there = sym (rw c.in-Some.is at c.item.ensures) in
-    rw (c.protected.ensures, c.slot-slot.ensures) (succeeds c.requires.laws s b c.requires.sound c.requires.booked c.args.place r at n executing item there)
+    rw (c.protected.ensures, c.slot-slot.ensures) (succeeds c.requires.laws s b c.requires.sound c.requires.booked c.args.index r at n executing item there)
 
 pub settle_quota-requires-clause-slot : goal.settle_quota-requires-clause-slot
 settle_quota-requires-clause-slot g c =
@@ -64,7 +64,7 @@ settle_quota-requires-clause-slot g c =
     let at = c.at-entry.ensures in
     let n = c.in-Executing.next in
     let executing : r.phase ≡ Executing n = cc in
-    rw c.slot-slot.ensures (slot_below s b c.requires.sound c.requires.booked c.args.place r at (rw executing refl))
+    rw c.slot-slot.ensures (slot_below s b c.requires.sound c.requires.booked c.args.index r at (rw executing refl))
 
 pub settle_quota-requires-clause-opened : goal.settle_quota-requires-clause-opened
 settle_quota-requires-clause-opened g c =
@@ -76,7 +76,7 @@ settle_quota-requires-clause-opened g c =
     let executing : r.phase ≡ Executing n = cc in
     let item = item_of c.in-Some.item in
     let there = sym (rw c.in-Some.is at c.item.ensures) in
-    rw c.slot-slot.ensures (opened c.requires.laws s b c.requires.sound c.requires.booked c.args.place r at n executing item there)
+    rw c.slot-slot.ensures (opened c.requires.laws s b c.requires.sound c.requires.booked c.args.index r at n executing item there)
 
 pub settle_quota-requires-clause-taken : goal.settle_quota-requires-clause-taken
 settle_quota-requires-clause-taken g c =
@@ -88,10 +88,10 @@ settle_quota-requires-clause-taken g c =
     let executing : r.phase ≡ Executing n = cc in
     let item = item_of c.in-Some.item in
     let there = sym (rw c.in-Some.is at c.item.ensures) in
-    let same = done_as c.requires.laws s b c.requires.sound c.requires.booked c.args.place r at n executing item there in
+    let same = done_as c.requires.laws s b c.requires.sound c.requires.booked c.args.index r at n executing item there in
     let state = rw (c.protected.ensures, c.slot-slot.ensures, same) at c.in-Ok.ensures.state in
     rw (c.slot-slot.ensures, c.free-before.ensures.value, c.free-after.ensures.value, state)
-    (taken_within c.requires.laws s b c.requires.sound c.requires.booked c.args.place r at n executing item there)
+    (taken_within c.requires.laws s b c.requires.sound c.requires.booked c.args.index r at n executing item there)
 
 pub settle_quota-requires-clause-given : goal.settle_quota-requires-clause-given
 settle_quota-requires-clause-given g c =
@@ -103,9 +103,9 @@ settle_quota-requires-clause-given g c =
     let executing : r.phase ≡ Executing n = cc in
     let item = item_of c.in-Some.item in
     let there = sym (rw c.in-Some.is at c.item.ensures) in
-    let same = done_as c.requires.laws s b c.requires.sound c.requires.booked c.args.place r at n executing item there in
+    let same = done_as c.requires.laws s b c.requires.sound c.requires.booked c.args.index r at n executing item there in
     let state = rw (c.protected.ensures, c.slot-slot.ensures, same) at c.in-Ok.ensures.state in
-    rw (c.free-before.ensures.value, c.free-after.ensures.value, state) (given_within c.requires.laws s b c.requires.sound c.requires.booked c.args.place r at n
+    rw (c.free-before.ensures.value, c.free-after.ensures.value, state) (given_within c.requires.laws s b c.requires.sound c.requires.booked c.args.index r at n
     executing item there)
 
 pub settle_quota-requires-clause-unused : goal.settle_quota-requires-clause-unused
@@ -118,7 +118,7 @@ settle_quota-requires-clause-unused g c =
     let executing : r.phase ≡ Executing n = cc in
     let item = item_of c.in-Some.item in
     let there = sym (rw c.in-Some.is at c.item.ensures) in
-    c.free-before.ensures.value ∙ free_before c.requires.laws s b c.requires.sound c.requires.booked c.args.place r at n executing item there
+    c.free-before.ensures.value ∙ free_before c.requires.laws s b c.requires.sound c.requires.booked c.args.index r at n executing item there
 
 pub advance-requires-clause-next : goal.advance-requires-clause-next
 advance-requires-clause-next g c =
@@ -130,7 +130,7 @@ advance-requires-clause-next g c =
     let executing : r.phase ≡ Executing n = cc in
     let item = item_of c.in-Some.item in
     let there = sym (rw c.in-Some.is at c.item.ensures) in
-    next_below c.requires.laws s b c.requires.sound c.requires.booked c.args.place r at n executing item there
+    next_below c.requires.laws s b c.requires.sound c.requires.booked c.args.index r at n executing item there
 
 pub advance-requires-clause-fits : goal.advance-requires-clause-fits
 advance-requires-clause-fits g c =
@@ -142,9 +142,9 @@ advance-requires-clause-fits g c =
     let executing : r.phase ≡ Executing n = cc in
     let item = item_of c.in-Some.item in
     let there = sym (rw c.in-Some.is at c.item.ensures) in
-    let same = done_as c.requires.laws s b c.requires.sound c.requires.booked c.args.place r at n executing item there in
+    let same = done_as c.requires.laws s b c.requires.sound c.requires.booked c.args.index r at n executing item there in
     let ticks_are = rw (c.protected.ensures, c.slot-slot.ensures, same) at c.in-Ok.ensures.ticks in
-    rw at (can_advance c.requires.laws s b c.requires.sound c.requires.booked c.args.place r at n executing item there c.in-Ok.ticks c.is_install-install.result
+    rw at (can_advance c.requires.laws s b c.requires.sound c.requires.booked c.args.index r at n executing item there c.in-Ok.ticks c.is_install-install.result
     ticks_are c.is_install-install.ensures)
 
 pub close-requires : goal.close-requires
@@ -155,7 +155,7 @@ close-requires g c =
     let at = c.at-entry.ensures in
     let n = c.in-Executing.next in
     let executing : r.phase ≡ Executing n = cc in
-    rw c.slot-slot.ensures (slot_below s b c.requires.sound c.requires.booked c.args.place r at (rw executing refl))
+    rw c.slot-slot.ensures (slot_below s b c.requires.sound c.requires.booked c.args.index r at (rw executing refl))
 
 pub returns-then-last-clause-answer : goal.returns-then-last-clause-answer
 returns-then-last-clause-answer g c =
@@ -167,13 +167,13 @@ returns-then-last-clause-answer g c =
     let executing : r.phase ≡ Executing n = cc in
     let item = item_of c.in-Some.item in
     let there = sym (rw c.in-Some.is at c.item.ensures) in
-    let same = done_as c.requires.laws s b c.requires.sound c.requires.booked c.args.place r at n executing item there in
+    let same = done_as c.requires.laws s b c.requires.sound c.requires.booked c.args.index r at n executing item there in
     let state = rw (c.protected.ensures, c.slot-slot.ensures, same) at c.in-Ok.ensures.state in
     let ticks_are = rw (c.protected.ensures, c.slot-slot.ensures, same) at c.in-Ok.ensures.ticks in
     let is_after = c.free-after.ensures.value ∙ ap free_blocks state in
     let is_last : (c.from.result + 1 == c.item_count.result) ≡ (suc n == length r.items) = rw (c.from.ensures, c.item_count.ensures, add-one) refl in
     let replied_is = rw (c.protected.ensures, c.slot-slot.ensures, same) at c.in-Ok.ensures.reply in
-    rw (state, c.advance.ensures r at) (step_answer c.requires.laws s b c.requires.sound c.requires.booked c.args.place r at n executing item there
+    rw (state, c.advance.ensures r at) (step_answer c.requires.laws s b c.requires.sound c.requires.booked c.args.index r at n executing item there
     c.free-before.result c.free-after.result c.in-Ok.ticks (c.from.result
     + 1 == c.item_count.result) c.is_install-install.result c.free-before.ensures.value is_after ticks_are c.is_install-install.ensures is_last
     c.in-Ok.reply replied_is)
@@ -188,7 +188,7 @@ returns-then-last-clause-steady g c =
     let executing : r.phase ≡ Executing n = cc in
     let item = item_of c.in-Some.item in
     let there = sym (rw c.in-Some.is at c.item.ensures) in
-    let same = done_as c.requires.laws s b c.requires.sound c.requires.booked c.args.place r at n executing item there in
+    let same = done_as c.requires.laws s b c.requires.sound c.requires.booked c.args.index r at n executing item there in
     let state = rw (c.protected.ensures, c.slot-slot.ensures, same) at c.in-Ok.ensures.state in
     rw state (refl, refl)
 
@@ -202,7 +202,7 @@ returns-then-last-clause-answered g c =
     let executing : r.phase ≡ Executing n = cc in
     let item = item_of c.in-Some.item in
     let there = sym (rw c.in-Some.is at c.item.ensures) in
-    let same = done_as c.requires.laws s b c.requires.sound c.requires.booked c.args.place r at n executing item there in
+    let same = done_as c.requires.laws s b c.requires.sound c.requires.booked c.args.index r at n executing item there in
     let replied_is = rw (c.protected.ensures, c.slot-slot.ensures, same) at c.in-Ok.ensures.reply in
     λ thrifty. rw replied_is (answered_reply _)
 
@@ -216,13 +216,13 @@ returns-else-last-clause-answer g c =
     let executing : r.phase ≡ Executing n = cc in
     let item = item_of c.in-Some.item in
     let there = sym (rw c.in-Some.is at c.item.ensures) in
-    let same = done_as c.requires.laws s b c.requires.sound c.requires.booked c.args.place r at n executing item there in
+    let same = done_as c.requires.laws s b c.requires.sound c.requires.booked c.args.index r at n executing item there in
     let state = rw (c.protected.ensures, c.slot-slot.ensures, same) at c.in-Ok.ensures.state in
     let ticks_are = rw (c.protected.ensures, c.slot-slot.ensures, same) at c.in-Ok.ensures.ticks in
     let is_after = c.free-after.ensures.value ∙ ap free_blocks state in
     let is_last : (c.from.result + 1 == c.item_count.result) ≡ (suc n == length r.items) = rw (c.from.ensures, c.item_count.ensures, add-one) refl in
     let replied_is = rw (c.protected.ensures, c.slot-slot.ensures, same) at c.in-Ok.ensures.reply in
-    rw (state, c.advance.ensures r at) (step_answer c.requires.laws s b c.requires.sound c.requires.booked c.args.place r at n executing item there
+    rw (state, c.advance.ensures r at) (step_answer c.requires.laws s b c.requires.sound c.requires.booked c.args.index r at n executing item there
     c.free-before.result c.free-after.result c.in-Ok.ticks (c.from.result
     + 1 == c.item_count.result) c.is_install-install.result c.free-before.ensures.value is_after ticks_are c.is_install-install.ensures is_last
     c.in-Ok.reply replied_is)
@@ -237,7 +237,7 @@ returns-else-last-clause-steady g c =
     let executing : r.phase ≡ Executing n = cc in
     let item = item_of c.in-Some.item in
     let there = sym (rw c.in-Some.is at c.item.ensures) in
-    let same = done_as c.requires.laws s b c.requires.sound c.requires.booked c.args.place r at n executing item there in
+    let same = done_as c.requires.laws s b c.requires.sound c.requires.booked c.args.index r at n executing item there in
     let state = rw (c.protected.ensures, c.slot-slot.ensures, same) at c.in-Ok.ensures.state in
     rw state (refl, refl)
 
@@ -251,7 +251,7 @@ returns-else-last-clause-answered g c =
     let executing : r.phase ≡ Executing n = cc in
     let item = item_of c.in-Some.item in
     let there = sym (rw c.in-Some.is at c.item.ensures) in
-    let same = done_as c.requires.laws s b c.requires.sound c.requires.booked c.args.place r at n executing item there in
+    let same = done_as c.requires.laws s b c.requires.sound c.requires.booked c.args.index r at n executing item there in
     let replied_is = rw (c.protected.ensures, c.slot-slot.ensures, same) at c.in-Ok.ensures.reply in
     λ thrifty. rw replied_is (answered_reply _)
 
@@ -265,7 +265,7 @@ returns-then-last-clause-booked g c =
     let executing : r.phase ≡ Executing n = cc in
     let item = item_of c.in-Some.item in
     let there = sym (rw c.in-Some.is at c.item.ensures) in
-    let same = done_as c.requires.laws s b c.requires.sound c.requires.booked c.args.place r at n executing item there in
+    let same = done_as c.requires.laws s b c.requires.sound c.requires.booked c.args.index r at n executing item there in
     let state = rw (c.protected.ensures, c.slot-slot.ensures, same) at c.in-Ok.ensures.state in
     let ticks_are = rw (c.protected.ensures, c.slot-slot.ensures, same) at c.in-Ok.ensures.ticks in
     let is_after = c.free-after.ensures.value ∙ ap free_blocks state in
@@ -274,7 +274,7 @@ returns-then-last-clause-booked g c =
     let close = rw c.slot-slot.ensures at c.close.ensures.closed in
     let back = rw c.slot-slot.ensures at c.close.ensures.spare in
     rw (state, c.advance.ensures r at, c.release.ensures, c.name-transaction.ensures)
-    (booked_done c.requires.laws s b c.requires.sound c.requires.booked c.args.place r at n executing item there c.free-before.result c.free-after.result
+    (booked_done c.requires.laws s b c.requires.sound c.requires.booked c.args.index r at n executing item there c.free-before.result c.free-after.result
     c.in-Ok.ticks (c.from.result + 1 == c.item_count.result) c.is_install-install.result c.free-before.ensures.value is_after ticks_are
     c.is_install-install.ensures is_last c.settle_quota.new.quota settles c.close.new.self close back
     (eq-eqb (c.from.result + 1) c.item_count.result c.if-last.true))
@@ -289,13 +289,13 @@ returns-else-last-clause-booked g c =
     let executing : r.phase ≡ Executing n = cc in
     let item = item_of c.in-Some.item in
     let there = sym (rw c.in-Some.is at c.item.ensures) in
-    let same = done_as c.requires.laws s b c.requires.sound c.requires.booked c.args.place r at n executing item there in
+    let same = done_as c.requires.laws s b c.requires.sound c.requires.booked c.args.index r at n executing item there in
     let state = rw (c.protected.ensures, c.slot-slot.ensures, same) at c.in-Ok.ensures.state in
     let ticks_are = rw (c.protected.ensures, c.slot-slot.ensures, same) at c.in-Ok.ensures.ticks in
     let is_after = c.free-after.ensures.value ∙ ap free_blocks state in
     let is_last : (c.from.result + 1 == c.item_count.result) ≡ (suc n == length r.items) = rw (c.from.ensures, c.item_count.ensures, add-one) refl in
     let settles = rw c.slot-slot.ensures at c.settle_quota.ensures in
-    rw (state, c.advance.ensures r at) (booked_more c.requires.laws s b c.requires.sound c.requires.booked c.args.place r at n executing item there
+    rw (state, c.advance.ensures r at) (booked_more c.requires.laws s b c.requires.sound c.requires.booked c.args.index r at n executing item there
     c.free-before.result c.free-after.result c.in-Ok.ticks (c.from.result
     + 1 == c.item_count.result) c.is_install-install.result c.free-before.ensures.value is_after ticks_are c.is_install-install.ensures is_last
     c.settle_quota.new.quota settles (differ (c.from.result + 1) c.item_count.result c.if-last.false))

@@ -12,12 +12,12 @@ returns-clause-answer g c =
     let b = c.args.books.now in
     let row = c.at.result.now in
     let over : IsFalse (is_live row.phase) = sym (c.is_live.ensures ∙ ap is_live c.phase.ensures) ∙ c.if-is_live.false in
-    let there = row_at s.filestore b.table c.args.place row c.at.ensures in
+    let there = row_at s.filestore b.table c.args.index row c.at.ensures in
     let made = c.in-Ok.ensures ∙ c.requires.made (entry_in s.filestore row) there over in
-    rw c.forget.ensures (taken_answer s b c.requires.booked c.args.place row c.at.ensures over c.in-Ok.shared made)
+    rw c.forget.ensures (taken_answer s b c.requires.booked c.args.index row c.at.ensures over c.in-Ok.shared made)
 
 pub returns-clause-booked : goal.returns-clause-booked
 returns-clause-booked g c =
     let s = g.S.Filestore.state c.args.store.now in
     let over : IsFalse (is_live c.at.result.now.phase) = sym (c.is_live.ensures ∙ ap is_live c.phase.ensures) ∙ c.if-is_live.false in
-    rw c.forget.ensures (taken_booked s c.args.books.now c.requires.booked c.args.place c.at.result.now c.at.ensures over)
+    rw c.forget.ensures (taken_booked s c.args.books.now c.requires.booked c.args.index c.at.result.now c.at.ensures over)

@@ -27,7 +27,7 @@ put_finished-requires g c =
     let made : answered_with c.deref.result.now c.from-performed.result c.bare_outcome-outcome.result ≡ outcome_of (entry_in s.filestore row) =
     rw (c.bare_outcome-outcome.ensures s.filestore, requests, performed) refl in
     subst IsWritable (sym made) (c.requires.writable (entry_in s.filestore row)
-    (row_at s.filestore c.args.books.now.table c.args.place row c.at-entry.ensures) over)
+    (row_at s.filestore c.args.books.now.table c.args.index row c.at-entry.ensures) over)
 
 pub returns-in-Err-clause-err : goal.returns-in-Err-clause-err
 returns-in-Err-clause-err g c =
@@ -43,8 +43,8 @@ returns-in-Err-clause-err g c =
     let made : answered_with c.deref.result.now c.from-performed.result c.bare_outcome-outcome.result ≡ o =
     rw (c.bare_outcome-outcome.ensures s.filestore, requests, performed) refl in
     λ f there.
-    short_of_outcome (taken_out W c.args.place (Some f)) W W _ o c.args.out.now c.put_finished.new.out c.in-Err.short
-    (taken_answer s b c.requires.booked c.args.place row c.at-entry.ensures over o refl f there)
+    short_of_outcome (taken_out W c.args.index (Some f)) W W _ o c.args.out.now c.put_finished.new.out c.in-Err.short
+    (taken_answer s b c.requires.booked c.args.index row c.at-entry.ensures over o refl f there)
     (c.in-Err.ensures.short ∙ ap (λ (x : Outcome). length (finished_octets x)) made) c.in-Err.ensures.less refl c.in-Err.ensures.unwritten
 
 pub returns-clause-ok : goal.returns-clause-ok
@@ -60,8 +60,8 @@ returns-clause-ok g c = λ f there.
     let made : answered_with c.deref.result.now c.from-performed.result c.bare_outcome-outcome.result ≡ o =
     rw (c.bare_outcome-outcome.ensures s.filestore, requests, performed) refl in
     let condition = ap (λ (x : Outcome). x.finished.condition) (c.outcome.view_is ∙ c.bare_outcome-outcome.ensures s.filestore) in
-    rw c.forget.ensures (issues_outcome (taken_out (world_of s b) c.args.place (Some f)) _ o c.args.out.now c.put_finished.new.out _ c.in-Ok.len
-    (taken_answer s b c.requires.booked c.args.place row c.at-entry.ensures over o refl f there)
+    rw c.forget.ensures (issues_outcome (taken_out (world_of s b) c.args.index (Some f)) _ o c.args.out.now c.put_finished.new.out _ c.in-Ok.len
+    (taken_answer s b c.requires.booked c.args.index row c.at-entry.ensures over o refl f there)
     condition
     (c.in-Ok.ensures.len ∙ ap (λ (x : Outcome). length (finished_octets x)) made)
     (c.in-Ok.ensures.written ∙ ap (λ (x : Outcome). filled (finished_octets x) c.args.out.now) made) c.in-Ok.ensures.fits)
@@ -70,4 +70,4 @@ pub returns-clause-booked : goal.returns-clause-booked
 returns-clause-booked g c =
     let s = g.S.Filestore.state c.args.store.now in
     let over : IsFalse (is_live c.at-entry.result.now.phase) = sym (c.is_live.ensures ∙ ap is_live c.phase.ensures) ∙ c.if-is_live.false in
-    rw c.forget.ensures (taken_booked s c.args.books.now c.requires.booked c.args.place c.at-entry.result.now c.at-entry.ensures over)
+    rw c.forget.ensures (taken_booked s c.args.books.now c.requires.booked c.args.index c.at-entry.result.now c.at-entry.ensures over)

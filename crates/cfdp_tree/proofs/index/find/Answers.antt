@@ -4,7 +4,7 @@ use Rattle.std.specs.Prelude.{All, Contains}
 use Rattle.cfdp_tree.specs.code.NodeFields.{node_fields_of}
 use Rattle.cfdp_tree.specs.code.Nodes.{nodes_in}
 use Rattle.cfdp_tree.specs.code.Tree.{IsNode, IsEntry, node_fields_at}
-use Rattle.cfdp_tree.specs.code.Index.{index_chain, list_of, head_place, HasHead, IsHead}
+use Rattle.cfdp_tree.specs.code.Index.{index_chain, list_of, bucket_of, HasHead, IsHead}
 use Rattle.cfdp_tree.proofs.OfNodes.TreeLaws.{node_live, node_octets}
 use Rattle.cfdp_tree.proofs.OfIndex.IndexLaws.{chain_more, chain_some, own_first, rest_has, no_entry}
 use Rattle.cfdp_tree.proofs.OfIndex.HeadLaws.{head_here}
@@ -14,10 +14,11 @@ use Rattle.cfdp_order.proofs.SplitLaws.{All_front}
 
 pub loop-step-init : goal.loop-step-init
 loop-step-init c =
-    let nodes = nodes_in c.args.arena.now in let heads = c.args.heads.now in let place = c.place_of-place.result in
-    let within = c.place_of-place.ensures.within in let head = c.index-heads-place.result in
-    let is = subst (IsHead nodes None (length heads) place) (head_here heads place head within c.index-heads-place.is) (c.requires.index.each place within) in
-    let listed = All_front (HasHead nodes None (length heads) place) (list_of nodes head) is.rest is.own in
+    let nodes = nodes_in c.args.arena.now in let heads = c.args.heads.now in let bucket = c.bucket_of-bucket.result in
+    let within = c.bucket_of-bucket.ensures.within in let head = c.index-heads-bucket.result in
+    let is = subst (IsHead nodes None (length heads) bucket) (head_here heads bucket head within c.index-heads-bucket.is)
+    (c.requires.index.each bucket within) in
+    let listed = All_front (HasHead nodes None (length heads) bucket) (list_of nodes head) is.rest is.own in
     let all : head.listed ≡ head.listed - 0 = omega arith in
     record {
       own = subst (λ n. All (IsNode nodes) (index_chain nodes n head.first)) all (λ i d less. (listed i d less).node);
@@ -26,7 +27,7 @@ loop-step-init c =
 
 pub is_entry-requires-clause-node : goal.is_entry-requires-clause-node
 is_entry-requires-clause-node c =
-    let l = c.loop-step in let nodes = nodes_in c.args.arena.now in let count = c.index-heads-place.result.listed in
+    let l = c.loop-step in let nodes = nodes_in c.args.arena.now in let count = c.index-heads-bucket.result.listed in
     let m = count - (l._step + 1) in
     let more : count - l._step ≡ suc m = omega arith in
     own_first (IsNode nodes) l.node (index_chain nodes m (node_fields_at nodes l.node).same_head)
@@ -34,7 +35,7 @@ is_entry-requires-clause-node c =
 
 pub bytes-requires : goal.bytes-requires
 bytes-requires c =
-    let l = c.loop-step in let nodes = nodes_in c.args.arena.now in let count = c.index-heads-place.result.listed in
+    let l = c.loop-step in let nodes = nodes_in c.args.arena.now in let count = c.index-heads-bucket.result.listed in
     let m = count - (l._step + 1) in
     let more : count - l._step ≡ suc m = omega arith in
     record {
@@ -44,7 +45,7 @@ bytes-requires c =
 
 pub loop-step-preserved : goal.loop-step-preserved
 loop-step-preserved c =
-    let l = c.loop-step in let nodes = nodes_in c.args.arena.now in let count = c.index-heads-place.result.listed in
+    let l = c.loop-step in let nodes = nodes_in c.args.arena.now in let count = c.index-heads-bucket.result.listed in
     let m = count - (l._step + 1) in
     let next = (node_fields_at nodes l.node).same_head in
     let more : count - l._step ≡ suc m = omega arith in
@@ -63,12 +64,13 @@ loop-step-preserved c =
 
 pub returns-then-head-eq0-clause-none : goal.returns-then-head-eq0-clause-none
 returns-then-head-eq0-clause-none c b entry =
-    let l = c.loop-step in let nodes = nodes_in c.args.arena.now in let heads = c.args.heads.now in let place = c.place_of-place.result in
-    let within = c.place_of-place.ensures.within in let head = c.index-heads-place.result in
-    let is = subst (IsHead nodes None (length heads) place) (head_here heads place head within c.index-heads-place.is) (c.requires.index.each place within) in
+    let l = c.loop-step in let nodes = nodes_in c.args.arena.now in let heads = c.args.heads.now in let bucket = c.bucket_of-bucket.result in
+    let within = c.bucket_of-bucket.ensures.within in let head = c.index-heads-bucket.result in
+    let is = subst (IsHead nodes None (length heads) bucket) (head_here heads bucket head within c.index-heads-bucket.is)
+    (c.requires.index.each bucket within) in
     let has = is.all b record {
       node = entry.node;
-      place = (λ k. head_place (entry.there k) (entry.named k) (length heads)) ∙ sym c.place_of-place.ensures.place;
+      bucket = (λ k. bucket_of (entry.there k) (entry.named k) (length heads)) ∙ sym c.bucket_of-bucket.ensures.bucket;
       inside = (λ e. cc);
     } in
     elim (Contains-append_cases (list_of nodes head) is.rest b has) [

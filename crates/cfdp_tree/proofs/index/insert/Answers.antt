@@ -3,11 +3,11 @@ use Rattle.std.proofs.lemmas.List.{length-map}
 use Rattle.std.proofs.lemmas.List.Sums.{get_or-le-sum_by}
 use Rattle.std.specs.Prelude.{◌==◌, if◌then◌else◌, slice_set}
 use Rattle.cfdp_arena.proofs.Chains.{live_within}
-use Rattle.cfdp_tree.specs.declared.index.Head.{Head}
+use Rattle.cfdp_tree.specs.declared.index.ListHead.{ListHead}
 use Rattle.cfdp_tree.specs.code.NodeFields.{NodeFields}
 use Rattle.cfdp_tree.specs.code.Nodes.{only_node, nodes_in}
 use Rattle.cfdp_tree.specs.code.Tree.{Relinked}
-use Rattle.cfdp_tree.specs.code.Index.{no_head, head_place, head_count, IsIndex}
+use Rattle.cfdp_tree.specs.code.Index.{no_head, bucket_of, head_count, IsIndex}
 use Rattle.cfdp_tree.proofs.OfRuns.Counts.{free_count-written}
 use Rattle.cfdp_tree.proofs.OfNodes.TreeLaws.{node_live}
 use Rattle.cfdp_tree.proofs.OfNodes.LinkLaws.{link_noted, link_row, link_name, link_links}
@@ -19,21 +19,21 @@ use Rattle.cfdp_arena.proofs.Laws.{live_count-le}
 
 pub set_same_head-requires : goal.set_same_head-requires
 set_same_head-requires c =
-    let heads = c.args.heads.now in let place = c.place_of-place.result in let within = c.place_of-place.ensures.within in
-    let same = head_here heads place c.index-heads-place.result within c.index-heads-place.is in
-    record { small = subst (λ (h : Head). h.first < 65536) same (c.requires.index.each place within).small }
+    let heads = c.args.heads.now in let bucket = c.bucket_of-bucket.result in let within = c.bucket_of-bucket.ensures.within in
+    let same = head_here heads bucket c.index-heads-bucket.result within c.index-heads-bucket.is in
+    record { small = subst (λ (h : ListHead). h.first < 65536) same (c.requires.index.each bucket within).small }
 
 -- a head has no more nodes than there are blocks, and one less while one node is out
 pub overflow_add-heads : goal.overflow_add-heads
 overflow_add-heads c =
-    let heads = c.args.heads.now in let place = c.place_of-place.result in let within = c.place_of-place.ensures.within in
-    let same = head_here heads place c.index-heads-place.result within c.index-heads-place.is in
+    let heads = c.args.heads.now in let bucket = c.bucket_of-bucket.result in let within = c.bucket_of-bucket.ensures.within in
+    let same = head_here heads bucket c.index-heads-bucket.result within c.index-heads-bucket.is in
     let full = c.if-head-eq-MOST_LISTED.true in
     omega (
       arith,
       full,
-      ap (λ (h : Head). head_count h) same,
-      get_or-le-sum_by (λ (h : Head). head_count h) heads place no_head within,
+      ap (λ (h : ListHead). head_count h) same,
+      get_or-le-sum_by (λ (h : ListHead). head_count h) heads bucket no_head within,
       c.requires.index.counted,
       live_count-le (nodes_in c.args.arena.now),
       length-map c.args.arena.now only_node,
@@ -42,33 +42,33 @@ overflow_add-heads c =
 
 pub overflow_add-heads-2 : goal.overflow_add-heads-2
 overflow_add-heads-2 c =
-    let heads = c.args.heads.now in let place = c.place_of-place.result in let within = c.place_of-place.ensures.within in
-    let same = head_here heads place c.index-heads-place.result within c.index-heads-place.is in
-    omega (arith, (c.requires.index.each place within).few, ap (λ (h : Head). h.listed) same)
+    let heads = c.args.heads.now in let bucket = c.bucket_of-bucket.result in let within = c.bucket_of-bucket.ensures.within in
+    let same = head_here heads bucket c.index-heads-bucket.result within c.index-heads-bucket.is in
+    omega (arith, (c.requires.index.each bucket within).few, ap (λ (h : ListHead). h.listed) same)
 
 pub returns-then-head-eq-MOST_LISTED-clause-index : goal.returns-then-head-eq-MOST_LISTED-clause-index
 returns-then-head-eq-MOST_LISTED-clause-index c =
-    let heads = c.args.heads.now in let entry = c.requires.entry in let place = c.place_of-place.result in let within = c.place_of-place.ensures.within in
-    let head = c.index-heads-place.result in
-    inserted_beside (nodes_in c.args.arena.now) heads c.args.node.now place within c.requires.index entry.node
-    ((λ i. head_place (entry.there i) (entry.named i) (length heads)) ∙ sym c.place_of-place.ensures.place)
-    head (sym (head_here heads place head within c.index-heads-place.is))
+    let heads = c.args.heads.now in let entry = c.requires.entry in let bucket = c.bucket_of-bucket.result in let within = c.bucket_of-bucket.ensures.within in
+    let head = c.index-heads-bucket.result in
+    inserted_beside (nodes_in c.args.arena.now) heads c.args.node.now bucket within c.requires.index entry.node
+    ((λ i. bucket_of (entry.there i) (entry.named i) (length heads)) ∙ sym c.bucket_of-bucket.ensures.bucket)
+    head (sym (head_here heads bucket head within c.index-heads-bucket.is))
 
 pub returns-clause-index : goal.returns-clause-index
 returns-clause-index c =
     let arena = c.args.arena.now in let heads = c.args.heads.now in let b = c.args.node.now in let entry = c.requires.entry in let nodes = nodes_in arena in
     let new = c.set_same_head.new.block in let e = c.set_same_head.ensures in let shown = c.bytes_mut.result.now in let is = c.bytes_mut.ensures.octets in
-    let place = c.place_of-place.result in let within = c.place_of-place.ensures.within in
-    let head = c.index-heads-place.result in
-    let same = head_here heads place head within c.index-heads-place.is in
+    let bucket = c.bucket_of-bucket.result in let within = c.bucket_of-bucket.ensures.within in
+    let head = c.index-heads-bucket.result in
+    let same = head_here heads bucket head within c.index-heads-bucket.is in
     let not_full = c.if-head-eq-MOST_LISTED.false in
-    let room : head.listed < 8 = omega (arith, not_full, (c.requires.index.each place within).few, ap (λ (h : Head). h.listed) same) in
+    let room : head.listed < 8 = omega (arith, not_full, (c.requires.index.each bucket within).few, ap (λ (h : ListHead). h.listed) same) in
     let row = link_row arena b shown new head.first entry.node is e.row e.header e.name in
     let noted = link_noted arena b shown new head.first entry.node is e.row e.header e.name in
     let name = link_name arena b shown new head.first entry.node is e.row e.header e.name in
-    subst (λ after. IsIndex after (slice_set heads place record { first = b; listed = head.listed + 1; unlisted = head.unlisted }) None) (sym noted)
-    (inserted nodes heads b place within c.requires.index entry.node
-    ((λ i. head_place (entry.there i) (entry.named i) (length heads)) ∙ sym c.place_of-place.ensures.place)
+    subst (λ after. IsIndex after (slice_set heads bucket record { first = b; listed = head.listed + 1; unlisted = head.unlisted }) None) (sym noted)
+    (inserted nodes heads b bucket within c.requires.index entry.node
+    ((λ i. bucket_of (entry.there i) (entry.named i) (length heads)) ∙ sym c.bucket_of-bucket.ensures.bucket)
     head (sym same) new room
     (ap (λ (r : NodeFields). r.same_head) row)
     (ap (λ (r : NodeFields). if r.parent == b then None else Some r.parent) row)
@@ -79,7 +79,7 @@ pub returns-clause-links : goal.returns-clause-links
 returns-clause-links c =
     let arena = c.args.arena.now in let b = c.args.node.now in let entry = c.requires.entry in
     let new = c.set_same_head.new.block in let e = c.set_same_head.ensures in let shown = c.bytes_mut.result.now in let is = c.bytes_mut.ensures.octets in
-    let first = c.index-heads-place.result.first in
+    let first = c.index-heads-bucket.result.first in
     subst (Relinked (nodes_in arena)) (sym (link_noted arena b shown new first entry.node is e.row e.header e.name))
     (link_links arena b shown new first entry.node is e.row e.header e.name c.requires.tree e.whole)
 

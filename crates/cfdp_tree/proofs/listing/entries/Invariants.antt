@@ -3,7 +3,7 @@ use Rattle.std.specs.Prelude.{All}
 use Rattle.std.specs.Vec.Iter.{into_iter_items}
 use Rattle.cfdp_actions.specs.Store.{listing_entry}
 use Rattle.cfdp_tree.specs.code.Nodes.{nodes_in}
-use Rattle.cfdp_tree.specs.code.Survey.{shown_node, IsSoundNode}
+use Rattle.cfdp_tree.specs.code.NodesBelow.{shown_node, IsSoundNode}
 use Rattle.cfdp_tree.proofs.listing.entries.Given as goal
 
 -- those shown so far, and those to show yet

@@ -5,7 +5,7 @@ use Rattle.std.specs.Prelude.{All}
 use Rattle.std.specs.Vec.Iter.{into_iter_items}
 use Rattle.cfdp_actions.specs.Store.{standing_of}
 use Rattle.cfdp_tree.specs.code.Nodes.{nodes_in}
-use Rattle.cfdp_tree.specs.code.Survey.{shown_node, IsSoundNode}
+use Rattle.cfdp_tree.specs.code.NodesBelow.{shown_node, IsSoundNode}
 use Rattle.cfdp_tree.proofs.listing.standings.Goals as goal
 
 pub standing-requires : goal.standing-requires

@@ -7,6 +7,6 @@ pub returns-clause-row : goal.returns-clause-row
 returns-clause-row c =
     let name = c.args.name.now in
     let blank = row-payload c.set_tag.new.block c.args.block.now c.set_tag.ensures.payload ∙ ap node_fields_of c.requires.blank ∙ blank_row in
-    let placed = c.set_parent.ensures.row ∙ ap (λ (r : NodeFields). record r { parent = c.args.parent }) blank in
-    let told = c.set_kind.ensures.row ∙ ap (λ (r : NodeFields). record r { kind = standing_octet c.args.kind }) placed in
+    let sound = c.set_parent.ensures.row ∙ ap (λ (r : NodeFields). record r { parent = c.args.parent }) blank in
+    let told = c.set_kind.ensures.row ∙ ap (λ (r : NodeFields). record r { kind = standing_octet c.args.kind }) sound in
     c.set_name.ensures.row ∙ ap (λ (r : NodeFields). record r { name_length = length name }) told

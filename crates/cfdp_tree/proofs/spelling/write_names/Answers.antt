@@ -3,7 +3,7 @@ use Rattle.std.proofs.lemmas.List.{drop_all, append-nil, take-take}
 use Rattle.std.specs.List.{join_with_byte}
 use Rattle.cfdp_tree.specs.code.Nodes.{nodes_in}
 use Rattle.cfdp_tree.specs.code.NodeFields.{node_fields_of, node_name}
-use Rattle.cfdp_tree.specs.code.Places.{path_at}
+use Rattle.cfdp_tree.specs.code.Directories.{path_at}
 use Rattle.cfdp_tree.specs.code.Tree.{home, home_in, name_at, path_of_node}
 use Rattle.cfdp_tree.specs.code.Text.{separated_text}
 use Rattle.cfdp_tree.proofs.OfNodes.TreeLaws.{node_octets}

@@ -1,6 +1,6 @@
 //! The closing of a journal, in one thread.
 
-use super::super::journal::{Engine, engine};
+use super::super::journal::{JournaledTree, journaled_tree};
 use super::scene::{Given, event};
 use cfdp_engine::{Closed, Fault, NotClosed, Seat, Shared, close};
 use cfdp_paths::Memory;
@@ -24,8 +24,8 @@ fn seat(
     Ok(seat)
 }
 
-/// Two seats handed in a PDU each, the second under this number, and perhaps to another engine: with which fault the
-/// first engine's journal is closed with the seats from this one on.
+/// Two seats handed in a PDU each, the second under this number, and perhaps to another journal: with which fault the
+/// first journal is closed with the seats from this one on.
 struct Closing {
     name: &'static str,
     second: u8,
@@ -57,7 +57,7 @@ static CLOSINGS: [Closing; 4] = [
         fault: Some(Fault::SeatTwice(0)),
     },
     Closing {
-        name: "a seat of another engine",
+        name: "a seat of another journal",
         second: 0,
         of_another: true,
         from: 1,
@@ -78,7 +78,7 @@ fn told_of_refused(refused: &NotClosed<TreeStore>) -> HandedBack {
 }
 
 /// Closes with the seats.
-pub fn closed(journaled: Engine, seats: Vec<Seat>) -> HandedBack {
+pub fn closed(journaled: JournaledTree, seats: Vec<Seat>) -> HandedBack {
     match close(journaled, seats) {
         Ok(closed) => told_of_closed(&closed),
         Err(refused) => told_of_refused(&refused),
@@ -86,8 +86,8 @@ pub fn closed(journaled: Engine, seats: Vec<Seat>) -> HandedBack {
 }
 
 fn closes(rt: &(impl Abort + Wait), alloc: Global, closing: &Closing) -> Result<(), Memory> {
-    let first = Shared::new(engine(alloc, 1000)?);
-    let another = Shared::new(engine(alloc, 1000)?);
+    let first = Shared::new(journaled_tree(alloc, 1000)?);
+    let another = Shared::new(journaled_tree(alloc, 1000)?);
     let one = seat(rt, alloc, &first, 0, Given::Create)?;
     let second = if closing.of_another { &another } else { &first };
     let two = seat(rt, alloc, second, closing.second, Given::Bare(6))?;

@@ -1,7 +1,7 @@
-//! Two workers on one engine, one after the other, and a gate that lets everybody pass: each takes what it was sent, or
-//! stops because it is out of memory after a beginning of it.
+//! Two workers on one journaled core, one after the other, and a gate that lets everybody pass: each takes what it was
+//! sent, or stops because it is out of memory after a beginning of it.
 
-use super::super::journal::engine;
+use super::super::journal::journaled_tree;
 use super::scene::{Given, inbox};
 use super::workers::Open;
 use cfdp_engine::{Seat, Shared, Stop, Worked, close, work};
@@ -76,7 +76,7 @@ fn does_well<R: Wait>(
 #[test]
 fn two_workers(rt: HostRuntime) -> Result<(), Memory> {
     let alloc = rt.alloc();
-    let shared = Shared::new(engine(alloc, 1000)?);
+    let shared = Shared::new(journaled_tree(alloc, 1000)?);
     let mut seats = Vec::new(alloc);
     assert!(&rt;
         does_well(&rt, alloc, &shared, &mut seats, 0, &ONE_LIFE, (4, 6, 2))?,

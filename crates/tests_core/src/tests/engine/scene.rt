@@ -1,4 +1,4 @@
-//! An engine, and what it is handed.
+//! A journaled core, and what it is handed.
 
 use super::super::entity::{event_in, id};
 use cfdp_engine::Message;

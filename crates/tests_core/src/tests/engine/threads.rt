@@ -1,6 +1,6 @@
 //! Two workers at once. Four with a thousand events each are in `.ci/cases/links.txt`.
 
-use super::super::journal::{Engine, engine};
+use super::super::journal::{JournaledTree, journaled_tree};
 use super::calls::closed;
 use super::scene::{Given, inbox};
 use cfdp_engine::{Gate, Message, Seat, Shared, Worked, work};
@@ -89,7 +89,7 @@ fn two<R: Threads + Wait + Sync, G: Gate + Sync>(
 }
 
 /// Whether the journal begins with an event of this seat that was admitted.
-fn begins_with(journaled: &Engine, seat: u8) -> bool {
+fn begins_with(journaled: &JournaledTree, seat: u8) -> bool {
     match journaled.journal().first() {
         Some(entry) => match &entry.reply {
             Reply::Admitted(0, 0) => entry.seat == seat,
@@ -104,11 +104,11 @@ fn is_done(worked: &Worked, receipts: usize) -> bool {
     worked.stopped.is_none() && worked.seat.receipts().len() == receipts
 }
 
-/// Whether the workers took all of one and two messages, and the engine closes with their seats and begins with the
+/// Whether the workers took all of one and two messages, and the journal closes with their seats and begins with the
 /// second.
 fn is_crossed(
     alloc: Global,
-    engine: Shared<TreeStore>,
+    shared: Shared<TreeStore>,
     zero: Worked,
     one: Worked,
 ) -> Result<bool, Memory> {
@@ -116,14 +116,14 @@ fn is_crossed(
     let mut seats = Vec::new(alloc);
     seats.push(zero.seat)?;
     seats.push(one.seat)?;
-    let journaled = engine.into_journaled();
+    let journaled = shared.into_journaled();
     Ok(are_done && begins_with(&journaled, 1) && closed(journaled, seats).0.is_none())
 }
 
 #[test]
 fn two_workers_are_at_work_at_once(rt: HostRuntime) -> Result<(), Memory> {
     let alloc = rt.alloc();
-    let shared = Shared::new(engine(alloc, 1000)?);
+    let shared = Shared::new(journaled_tree(alloc, 1000)?);
     let crossing = Crossing::new(rt);
     let zero = inbox(&rt, alloc, &[Given::Create])?;
     let one = inbox(&rt, alloc, &[Given::Bare(6), Given::End(6)])?;

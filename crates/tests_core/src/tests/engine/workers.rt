@@ -1,6 +1,6 @@
 //! What a worker does. Whole inboxes are text, in `.ci/cases/links.txt`.
 
-use super::super::journal::engine;
+use super::super::journal::journaled_tree;
 use super::scene::{Given, inbox};
 use cfdp_engine::{Gate, Seat, Shared, Stop, work};
 use cfdp_paths::Memory;
@@ -40,12 +40,12 @@ static ONE_MORE: [Given; 2] = [Given::Bare(17), Given::Run];
 fn work_on<R: Wait>(
     rt: &R,
     alloc: Global,
-    engine: &Shared<TreeStore>,
+    shared: &Shared<TreeStore>,
     seat: u8,
     given: &[Given],
 ) -> Result<(usize, usize, Option<Stop>), Memory> {
     let inbox = inbox(rt, alloc, given)?;
-    let worked = work(rt, alloc, engine, Seat::new(alloc, seat), inbox, &Open);
+    let worked = work(rt, alloc, shared, Seat::new(alloc, seat), inbox, &Open);
     Ok((
         worked.seat.receipts().len(),
         worked.taken.len(),
@@ -55,7 +55,7 @@ fn work_on<R: Wait>(
 
 #[test]
 fn a_worker_stops_where_the_journal_is_full(rt: HostRuntime) -> Result<(), Memory> {
-    let shared = Shared::new(engine(rt.alloc(), 16)?);
+    let shared = Shared::new(journaled_tree(rt.alloc(), 16)?);
     let first = work_on(&rt, rt.alloc(), &shared, 0, &SIXTEEN)?;
     assert!(&rt; first == (16, 16, None), "sixteen events");
     let second = work_on(&rt, rt.alloc(), &shared, 1, &ONE_MORE)?;

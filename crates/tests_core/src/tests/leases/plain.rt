@@ -161,8 +161,8 @@ impl Beside {
     }
 
     /// Ends the transaction at an index of the plain list, if there is one.
-    fn end(&mut self, place: usize) {
-        if let Some((transaction, _)) = self.plain.grants.get(place) {
+    fn end(&mut self, index: usize) {
+        if let Some((transaction, _)) = self.plain.grants.get(index) {
             let transaction = *transaction;
             self.leases.release(transaction);
             self.plain.release(transaction);

@@ -1,7 +1,7 @@
 //! Lines of scripts: those that take memory are read when they are handed in again, and what is wrong with a bad one
 //! is said without memory.
 
-use cfdp_run::{CommandFault, Progress, Word, Wrong, default_mib, read_command};
+use cfdp_run::{CommandFault, FirstWord, HeadProgress, Wrong, default_mib, read_command};
 use std::alloc::{AllocError, Global};
 
 /// A line, and what is wrong with it.
@@ -16,16 +16,16 @@ const LINES: &[Line] = &[
     (b"at 5 pdu 0a 0b", None),
     (b"get a/b", None),
     (b"expect a  b", None),
-    (b"get a b", Some(Wrong::Expected(Word::Get))),
-    (b"put a/b 0a 0", Some(Wrong::Expected(Word::Put))),
-    (b"put a/b @x y", Some(Wrong::Expected(Word::Put))),
-    (b"at 5 pdu 0a 0", Some(Wrong::Expected(Word::At))),
-    (b"expect", Some(Wrong::Expected(Word::Expect))),
+    (b"get a b", Some(Wrong::Expected(FirstWord::Get))),
+    (b"put a/b 0a 0", Some(Wrong::Expected(FirstWord::Put))),
+    (b"put a/b @x y", Some(Wrong::Expected(FirstWord::Put))),
+    (b"at 5 pdu 0a 0", Some(Wrong::Expected(FirstWord::At))),
+    (b"expect", Some(Wrong::Expected(FirstWord::Expect))),
 ];
 
 /// What is wrong with a line, or that memory was refused to it.
 fn fault_of(alloc: Global, line: &[u8]) -> Option<CommandFault> {
-    read_command(alloc, line, default_mib(), Progress::Fresh).err()
+    read_command(alloc, line, default_mib(), HeadProgress::Fresh).err()
 }
 
 #[test]

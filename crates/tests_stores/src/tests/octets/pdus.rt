@@ -187,11 +187,11 @@ fn agree_on_cuts(rt: &impl Abort, alloc: Global, pdu: &[u8]) {
 
 // They agree where one bit is another.
 fn agree_on_changes(rt: &impl Abort, alloc: Global, pdu: &mut [u8]) {
-    for place in 0..pdu.len() {
+    for index in 0..pdu.len() {
         for bit in 0..8u32 {
-            pdu[place] ^= 1 << bit;
+            pdu[index] ^= 1 << bit;
             agree(rt, alloc, pdu);
-            pdu[place] ^= 1 << bit;
+            pdu[index] ^= 1 << bit;
         }
     }
 }

@@ -1,7 +1,7 @@
 use Rattle.std.proofs.Common.{◌≤◌, Some, length, subst, arith}
 use Rattle.cfdp_actions.specs.Filestore.{weight}
 use Rattle.cfdp_actions.specs.code.Listed.{content_node}
-use Rattle.cfdp_actions.proofs.SurveyLaws.{blocks_of-bound}
+use Rattle.cfdp_actions.proofs.BlocksLaws.{blocks_of-bound}
 use Rattle.cfdp_actions.proofs.content.Content.blocks.Goals as goal
 
 pub blocks_of-requires : goal.blocks_of-requires

@@ -4,7 +4,7 @@ use Rattle.cfdp_actions.specs.Filestore.{blocks_of}
 use Rattle.cfdp_actions.specs.Store.{extended}
 use Rattle.cfdp_actions.specs.Listed.{vector_octets}
 use Rattle.cfdp_actions.proofs.RowLaws.{blocks_of-mono}
-use Rattle.cfdp_actions.proofs.SurveyLaws.{blocks_of-bound}
+use Rattle.cfdp_actions.proofs.BlocksLaws.{blocks_of-bound}
 use Rattle.cfdp_actions.proofs.StagedLaws.{octets_of-at}
 use Rattle.cfdp_actions.proofs.StoreLaws.{seen_staged, seen_free, staged_kept, staged_small, lists-each}
 use Rattle.cfdp_actions.proofs.list_store.ListStoreFilestore.stage_extend.Goals as goal

@@ -4,10 +4,10 @@ use Rattle.cfdp_paths.specs.Paths.{Path}
 use Rattle.cfdp_actions.specs.code.Prefixes.{present}
 use Rattle.cfdp_actions.proofs.protected.Protected.add.Goals as goal
 
-present-push : (places : List (Option Path)) (path : Path) → present (places ++ Some path ∷ []) ≡ present places ++ path ∷ []
+present-push : (slots : List (Option Path)) (path : Path) → present (slots ++ Some path ∷ []) ≡ present slots ++ path ∷ []
 present-push [] path = refl
-present-push (None ∷ places) path = present-push places path
-present-push (Some p ∷ places) path = ap (λ paths. p ∷ paths) (present-push places path)
+present-push (None ∷ slots) path = present-push slots path
+present-push (Some p ∷ slots) path = ap (λ paths. p ∷ paths) (present-push slots path)
 
 room_left : (n cap : ℕ) (b : Bool) → b ≡ (n == cap) → b ≡ false → n ≤ cap → n < cap
 room_left n cap b e f h = grind (arith, nat_tests)

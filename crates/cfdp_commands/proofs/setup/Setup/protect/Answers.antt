@@ -1,6 +1,6 @@
 use Rattle.std.proofs.Common.{◌≢◌, None, sym, ◌∙◌}
 use Rattle.cfdp_paths.specs.Paths.{path_of}
-use Rattle.cfdp_commands.specs.declared.setup.Progress.TheVariants.{Closed}
+use Rattle.cfdp_commands.specs.declared.setup.SetupProgress.TheVariants.{Closed}
 use Rattle.cfdp_commands.proofs.PathLengths.{path-refused}
 use Rattle.cfdp_commands.proofs.Verdicts.{protected-open, with_prefix-good}
 use Rattle.cfdp_commands.proofs.setup.Setup.protect.Goals as goal

@@ -1,6 +1,6 @@
 use Rattle.std.proofs.Common.{◌∙◌, refl}
 use Rattle.std.specs.Prelude.{⊤, Ok}
-use Rattle.cfdp_transactions.specs.Engine.{outcome_in}
+use Rattle.cfdp_transactions.specs.CoreFields.{outcome_in}
 use Rattle.cfdp_entity.proofs.Sending.{none_changes, none_there, sent_len, told_fits, writable_then}
 use Rattle.cfdp_entity.proofs.entity.Entity.take_finished.Goals as goal
 

@@ -12,8 +12,8 @@ use Rattle.cfdp_leases.proofs.leased_paths.LeasedPaths.add_to_rows.Goals as goal
 use Rattle.cfdp_actions.proofs.StagedLaws.{on_err}
 
 -- no room for a row
-pub returns-in_err-place-clause-err : goal.returns-in_err-place-clause-err
-returns-in_err-place-clause-err c = λ holders held.
+pub returns-in_err-slot-clause-err : goal.returns-in_err-slot-clause-err
+returns-in_err-slot-clause-err c = λ holders held.
     let old = c.args.self.now in
     let new : LeasedPaths = record { rows = c.entry.follows.lender-at-none; others = old.others } in
     let same : c.entry.follows.lender-at-none.entries ≡ old.rows.entries = search rules in

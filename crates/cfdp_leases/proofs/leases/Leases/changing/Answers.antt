@@ -5,7 +5,7 @@ use Rattle.cfdp_leases.specs.Leases.{is_same}
 use Rattle.cfdp_leases.specs.code.Live.{grants_of}
 use Rattle.cfdp_leases.specs.code.Holders.{holders_at}
 use Rattle.cfdp_leases.proofs.Admitted.{first_there, first_none, first_exclusive, first_shared, nobody_changing}
-use Rattle.cfdp_leases.proofs.Kept.{place-live, length-live}
+use Rattle.cfdp_leases.proofs.Kept.{index-live, length-live}
 use Rattle.cfdp_leases.proofs.leases.Leases.changing.Goals as goal
 use Rattle.cfdp_leases.proofs.leases.Leases.changing.Goals.{in_default-via-in-Some+else-eq, in_default-via-in_default}
 
@@ -17,7 +17,7 @@ returns-in-Some c =
     let found = first_there (holders_at gs p) h (sym c.in-Some.is ∙ c.first.ensures (holders_at gs) c.self.invariant.rows) in
     c.count_before.ensures
     ∙ ap (prefix_len (λ l. not (is_same l.transaction h.transaction))) c.deref.ensures.value
-    ∙ place-live c.self.inside.footprints c.self.inside.live.items h.transaction
+    ∙ index-live c.self.inside.footprints c.self.inside.live.items h.transaction
     ∙ first_exclusive gs p h found.0 c.self.invariant.apart found.1 (search rules)
     ∙ ap (prefix_len (λ g. not (set.contains g.1.exclusive p))) c.self.view_is
 

@@ -4,7 +4,7 @@ use Rattle.std.specs.FinSet as set
 use Rattle.std.specs.Option.{option_map}
 use Rattle.std.specs.List.{AllByRecursion}
 use Rattle.cfdp_leases.specs.code.Footprint.{HasAncestors}
-use Rattle.cfdp_leases.proofs.Places.{conflict_at}
+use Rattle.cfdp_leases.proofs.Indexes.{conflict_at}
 use Rattle.cfdp_leases.proofs.Kept.{transaction-live}
 use Rattle.cfdp_leases.proofs.leases.Leases.conflict.Goals as goal
 

@@ -1,5 +1,5 @@
 use Rattle.std.proofs.Common.{◌≡◌, ◌∙◌, ap, arith, length, min}
-use Rattle.cfdp_leases.proofs.Places.{first_more, prefix_len-none}
+use Rattle.cfdp_leases.proofs.Indexes.{first_more, prefix_len-none}
 use Rattle.cfdp_leases.proofs.Kept.{length-live}
 use Rattle.cfdp_leases.proofs.leases.Leases.first_changing.Goals as goal
 

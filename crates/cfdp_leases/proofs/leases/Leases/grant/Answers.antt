@@ -1,7 +1,7 @@
 use Rattle.std.proofs.Common.{refl, sym, ◌∙◌, ap, subst, ◌++◌, ◌∷◌, [], if◌then◌else◌}
 use Rattle.std.specs.Result.{is_ok}
 use Rattle.slab.specs.Slab.{SameValues, get}
-use Rattle.cfdp_leases.specs.declared.leases.Live.{Live}
+use Rattle.cfdp_leases.specs.declared.leases.LiveGrant.{LiveGrant}
 use Rattle.cfdp_leases.specs.code.Footprint.{HasAncestors}
 use Rattle.cfdp_leases.specs.Leases.{first_conflict, holds}
 use Rattle.cfdp_leases.specs.code.Live.{AreKept, grants_of}
@@ -34,7 +34,7 @@ invariant_of-self-2 c =
     let s = c.self.inside.footprints in
     let t = c.reserve-2.new.self in
     let live = c.self.inside.live.items in
-    let new : Live = record { transaction = c.args.transaction; key = c.insert_reserved-key.result } in
+    let new : LiveGrant = record { transaction = c.args.transaction; key = c.insert_reserved-key.result } in
     let same : SameValues s t = λ key. ap (λ u. get u key) c.reserve-2.ensures.rest_kept in
     let kept = kept_same s t live live c.self.inside.paths c.self.inside.paths same refl c.self.invariant c.self.invariant.rows in
     let grants = sym (grants-same s t live same) ∙ c.self.view_is in
@@ -52,7 +52,7 @@ returns-clause-granted c =
     let s = c.self.inside.footprints in
     let t = c.reserve-2.new.self in
     let live = c.self.inside.live.items in
-    let new : Live = record { transaction = c.args.transaction; key = c.insert_reserved-key.result } in
+    let new : LiveGrant = record { transaction = c.args.transaction; key = c.insert_reserved-key.result } in
     let same : SameValues s t = λ key. ap (λ u. get u key) c.reserve-2.ensures.rest_kept in
     ap (grants_of c.insert_reserved-key.new.self)
     (c.push.ensures.items ∙ ap (λ r. if (is_ok r) then c.reserve.new.self.items ++ new ∷ [] else c.reserve.new.self.items) c.unwrap.ensures

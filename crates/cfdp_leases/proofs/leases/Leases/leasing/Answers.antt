@@ -6,7 +6,7 @@ use Rattle.cfdp_leases.specs.Leases.{is_same}
 use Rattle.cfdp_leases.specs.code.Live.{grants_of}
 use Rattle.cfdp_leases.specs.code.Holders.{holders_at}
 use Rattle.cfdp_leases.proofs.Admitted.{first_there, first_none, first_leasing, nobody_leasing}
-use Rattle.cfdp_leases.proofs.Kept.{place-live, length-live}
+use Rattle.cfdp_leases.proofs.Kept.{index-live, length-live}
 use Rattle.cfdp_leases.proofs.leases.Leases.leasing.Goals as goal
 
 pub returns-in-Some : goal.returns-in-Some
@@ -17,7 +17,7 @@ returns-in-Some c =
     let found = first_there (holders_at gs p) h (sym c.in-Some.is ∙ c.first.ensures (holders_at gs) c.self.invariant.rows) in
     c.count_before.ensures
     ∙ ap (prefix_len (λ l. not (is_same l.transaction h.transaction))) c.deref.ensures.value
-    ∙ place-live c.self.inside.footprints c.self.inside.live.items h.transaction
+    ∙ index-live c.self.inside.footprints c.self.inside.live.items h.transaction
     ∙ first_leasing gs p h found.0 c.self.invariant.apart found.1
     ∙ ap (prefix_len (λ g. not (set.contains (leased g.1) p))) c.self.view_is
 

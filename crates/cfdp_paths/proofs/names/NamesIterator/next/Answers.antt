@@ -9,7 +9,7 @@ pub returns-in-Some-clause-steps : goal.returns-in-Some-clause-steps
 returns-in-Some-clause-steps c =
     let found = c.in-Some.ensures in
     sym c.self.view_is ∙ ap (λ o. path_in (option_copied o)) c.in_ok-octets.was
-    ∙ names_of-next c.in_ok-octets.octets.now c.in-Some.place (c.in-Some.place + 1) refl found.0.high found.0.before found.1
+    ∙ names_of-next c.in_ok-octets.octets.now c.in-Some.offset (c.in-Some.offset + 1) refl found.0.high found.0.before found.1
 
 -- a name less is left
 fewer : (p rest : Path) (name : Name) → p ≡ name ∷ rest → length rest < length p

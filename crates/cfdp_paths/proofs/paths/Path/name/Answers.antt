@@ -22,11 +22,11 @@ pub returns-clause-name : goal.returns-clause-name
 returns-clause-name c =
     let item = nth_from_yields_List c.nth.result c.nth.new.self c.args.index c.nth.ensures.ran
     (YieldsList-from_first (λ x. x.now) (λ (names : Path). names) c.args.self.now c.names.ensures.names) in
-    let place = c.args.index in
+    let index = c.args.index in
     ap (λ x. x.now) c.unwrap_or.ensures
     ∙ seen (λ x. x.now) c.nth.result _
     ∙ ap (λ name. unwrap_or name []) item
-    ∙ unwrap_or-slice_get c.args.self.now place []
+    ∙ unwrap_or-slice_get c.args.self.now index []
 
 pub returns-clause-short : goal.returns-clause-short
 returns-clause-short c =

@@ -1,6 +1,6 @@
 use Rattle.std.proofs.Common.{ℕ, refl, ap, ◌∙◌}
 use Rattle.cfdp_receiver.specs.State.{CancelAsked}
-use Rattle.cfdp_receiver.specs.code.Machine.{Turns, at_moment}
+use Rattle.cfdp_receiver.specs.code.StateMachine.{Turns, at_moment}
 use Rattle.cfdp_receiver.proofs.Calls.{moved}
 use Rattle.cfdp_receiver.proofs.Turned.{turned}
 use Rattle.cfdp_receiver.proofs.Whole.{whole_turn}

@@ -1,8 +1,8 @@
 use Rattle.std.proofs.Common.{◌≡◌, subst}
 use Rattle.std.specs.Prelude.{IfOk, OnErr}
 use Rattle.cfdp_receiver.specs.State.{Finish}
-use Rattle.cfdp_receiver.specs.Machine.{MachineFields, AnswerParts}
-use Rattle.cfdp_receiver.specs.code.Machine.{IsWholeReceiver, Turns, at_moment}
+use Rattle.cfdp_receiver.specs.StateMachine.{StateMachineFields, AnswerParts}
+use Rattle.cfdp_receiver.specs.code.StateMachine.{IsWholeReceiver, Turns, at_moment}
 use Rattle.cfdp_receiver.proofs.Calls.{turned_where_ok, whole_where_ok}
 use Rattle.cfdp_receiver.proofs.receiver.Receiver.finish.Goals as goal
 
@@ -15,14 +15,14 @@ invariant_of-self c =
     let N = c.finish.new.self in
     let i = Finish c.args.now in
     let v = c.self.view_is in
-    let done = subst (λ (X : MachineFields). IfOk c.finish.result (λ (a : AnswerParts). Turns (at_moment c.args.now X) N a i)) v c.finish.ensures.ok in
-    let same = subst (λ (X : MachineFields). OnErr c.finish.result (N ≡ X)) v c.finish.ensures.unchanged in
-    whole_where_ok M N i c.finish.result (subst (λ (X : MachineFields). IsWholeReceiver X.state) v c.self.invariant) (c.stays_whole.ensures i) done same
+    let done = subst (λ (X : StateMachineFields). IfOk c.finish.result (λ (a : AnswerParts). Turns (at_moment c.args.now X) N a i)) v c.finish.ensures.ok in
+    let same = subst (λ (X : StateMachineFields). OnErr c.finish.result (N ≡ X)) v c.finish.ensures.unchanged in
+    whole_where_ok M N i c.finish.result (subst (λ (X : StateMachineFields). IsWholeReceiver X.state) v c.self.invariant) (c.stays_whole.ensures i) done same
 
 pub returns-clause-ok : goal.returns-clause-ok
 returns-clause-ok c =
     let N = c.finish.new.self in
     let i = Finish c.args.now in
     let done =
-    subst (λ (X : MachineFields). IfOk c.finish.result (λ (a : AnswerParts). Turns (at_moment c.args.now X) N a i)) c.self.view_is c.finish.ensures.ok in
+    subst (λ (X : StateMachineFields). IfOk c.finish.result (λ (a : AnswerParts). Turns (at_moment c.args.now X) N a i)) c.self.view_is c.finish.ensures.ok in
     turned_where_ok c.args.self.now N i c.finish.result done

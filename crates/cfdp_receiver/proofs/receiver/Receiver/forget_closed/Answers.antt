@@ -1,7 +1,7 @@
 use Rattle.std.proofs.Common.{sym, subst, ◌∙◌}
 use Rattle.cfdp_receiver.specs.State.{ForgetAsked}
-use Rattle.cfdp_receiver.specs.Machine.{MachineFields}
-use Rattle.cfdp_receiver.specs.code.Machine.{Turns, at_moment}
+use Rattle.cfdp_receiver.specs.StateMachine.{StateMachineFields}
+use Rattle.cfdp_receiver.specs.code.StateMachine.{Turns, at_moment}
 use Rattle.cfdp_receiver.proofs.Calls.{at_no_moment}
 use Rattle.cfdp_receiver.proofs.Turned.{turned}
 use Rattle.cfdp_receiver.proofs.Whole.{whole_turn}
@@ -10,7 +10,8 @@ use Rattle.cfdp_receiver.proofs.receiver.Receiver.forget_closed.Goals.{After-for
 
 as_it_came : (c : After-forget) → Turns (at_moment 0 c.args.self.now) c.forget.new.self c.forget.result ForgetAsked
 as_it_came c =
-    subst (λ (M : MachineFields). Turns M c.forget.new.self c.forget.result ForgetAsked) (c.self.view_is ∙ sym (at_no_moment c.args.self.now)) c.forget.ensures
+    subst (λ (M : StateMachineFields). Turns M c.forget.new.self c.forget.result ForgetAsked)
+    (c.self.view_is ∙ sym (at_no_moment c.args.self.now)) c.forget.ensures
 
 pub invariant_of-self : goal.invariant_of-self
 invariant_of-self c =

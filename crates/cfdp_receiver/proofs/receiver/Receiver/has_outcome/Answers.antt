@@ -1,7 +1,7 @@
 use Rattle.std.proofs.Common.{ap, ◌∙◌}
 use Rattle.std.specs.Prelude.{is_some}
 use Rattle.cfdp_receiver.specs.Due.{first_over}
-use Rattle.cfdp_receiver.specs.Machine.{MachineFields}
+use Rattle.cfdp_receiver.specs.StateMachine.{StateMachineFields}
 use Rattle.cfdp_receiver.proofs.Calls.{some_there}
 use Rattle.cfdp_receiver.proofs.receiver.Receiver.has_outcome.Goals as goal
 
@@ -10,4 +10,4 @@ returns c =
     let R = c.self.inside.machine.state in
     let e = c.first_over.ensures in
     c.is_some.ensures ∙ some_there c.first_over.result R.sessions (first_over R.world R.sessions) e.some e.here e.none
-    ∙ ap (λ (M : MachineFields). is_some (first_over M.state.world M.state.sessions)) c.self.view_is
+    ∙ ap (λ (M : StateMachineFields). is_some (first_over M.state.world M.state.sessions)) c.self.view_is

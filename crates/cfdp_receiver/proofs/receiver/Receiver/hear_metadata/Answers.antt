@@ -1,8 +1,8 @@
 use Rattle.std.proofs.Common.{◌≡◌, subst}
 use Rattle.std.specs.Prelude.{IfOk, OnErr}
 use Rattle.cfdp_receiver.specs.State.{MetadataPdu}
-use Rattle.cfdp_receiver.specs.Machine.{MachineFields, AnswerParts}
-use Rattle.cfdp_receiver.specs.code.Machine.{IsWholeReceiver, Turns, at_moment}
+use Rattle.cfdp_receiver.specs.StateMachine.{StateMachineFields, AnswerParts}
+use Rattle.cfdp_receiver.specs.code.StateMachine.{IsWholeReceiver, Turns, at_moment}
 use Rattle.cfdp_receiver.proofs.Calls.{whole_where_ok}
 use Rattle.cfdp_receiver.proofs.receiver.Receiver.hear_metadata.Goals as goal
 
@@ -12,6 +12,6 @@ invariant_of-self c =
     let N = c.metadata.new.self in
     let i = MetadataPdu c.args.now c.args.header c.args.metadata in
     let v = c.self.view_is in
-    let done = subst (λ (X : MachineFields). IfOk c.metadata.result (λ (a : AnswerParts). Turns (at_moment c.args.now X) N a i)) v c.metadata.ensures.ok in
-    let same = subst (λ (X : MachineFields). OnErr c.metadata.result (N ≡ X)) v c.metadata.ensures.unchanged in
-    whole_where_ok M N i c.metadata.result (subst (λ (X : MachineFields). IsWholeReceiver X.state) v c.self.invariant) (c.stays_whole.ensures i) done same
+    let done = subst (λ (X : StateMachineFields). IfOk c.metadata.result (λ (a : AnswerParts). Turns (at_moment c.args.now X) N a i)) v c.metadata.ensures.ok in
+    let same = subst (λ (X : StateMachineFields). OnErr c.metadata.result (N ≡ X)) v c.metadata.ensures.unchanged in
+    whole_where_ok M N i c.metadata.result (subst (λ (X : StateMachineFields). IsWholeReceiver X.state) v c.self.invariant) (c.stays_whole.ensures i) done same

@@ -2,7 +2,7 @@ use Rattle.std.proofs.Common.{sym, ap, subst, ◌∙◌}
 use Rattle.std.specs.Prelude.{map, slice_get, is_some}
 use Rattle.cfdp_transactions.specs.Entry.{name_of}
 use Rattle.cfdp_transactions.specs.World.{World}
-use Rattle.cfdp_receiver.specs.code.Machine.{IsWholeReceiver}
+use Rattle.cfdp_receiver.specs.code.StateMachine.{IsWholeReceiver}
 use Rattle.cfdp_receiver.proofs.Calls.{none_named}
 use Rattle.cfdp_receiver.proofs.Whole.{whole_begin}
 use Rattle.cfdp_receiver.proofs.receiver.Receiver.new.Goals as goal

@@ -2,7 +2,7 @@ use Rattle.std.proofs.Common.{rules, ◌≡◌, sym, ap, ◌∙◌}
 use Rattle.std.specs.Prelude.{Ok}
 use Rattle.cfdp_receiver.specs.State.{DataPdu}
 use Rattle.cfdp_receiver.specs.Heard.{heard}
-use Rattle.cfdp_receiver.specs.Machine.{AnswerParts, answer_in}
+use Rattle.cfdp_receiver.specs.StateMachine.{AnswerParts, answer_in}
 use Rattle.cfdp_receiver.proofs.Calls.{heard_ok}
 use Rattle.cfdp_receiver.proofs.receiver.Receiver.receive.Goals as goal
 

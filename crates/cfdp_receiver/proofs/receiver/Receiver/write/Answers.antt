@@ -1,6 +1,6 @@
 use Rattle.std.proofs.Common.{◌≡◌, true, sym, ap, ◌∙◌}
 use Rattle.std.specs.Prelude.{slice_get}
-use Rattle.cfdp_receiver.specs.Machine.{MachineFields}
+use Rattle.cfdp_receiver.specs.StateMachine.{StateMachineFields}
 use Rattle.cfdp_receiver.specs.Sent.{pdus_of}
 use Rattle.cfdp_receiver.specs.declared.receiver.Receiver.TheInside.{Inside}
 use Rattle.cfdp_receiver.proofs.Written.{sent_is, sent_rest, sent_within}
@@ -11,10 +11,10 @@ returns-clause-ok c =
     let a = c.args in
     let s = c.seal.ensures in
     let crc : a.self.now.state.mib.has_crc ≡ true =
-    ap (λ (m : MachineFields). m.state.mib.has_crc) (sym c.self.view_is)
+    ap (λ (m : StateMachineFields). m.state.mib.has_crc) (sym c.self.view_is)
     ∙ ap (λ (i : Inside). i.machine.state.mib.has_crc) (sym c.self-inside.view_is)
     ∙ c.if-not-self.false in
-    let is = ap (λ (m : MachineFields). slice_get (pdus_of m a.answer.now) a.number) (sym c.self.view_is) ∙ c.in_ok-len.ensures.ok in
+    let is = ap (λ (m : StateMachineFields). slice_get (pdus_of m a.answer.now) a.number) (sym c.self.view_is) ∙ c.in_ok-len.ensures.ok in
     let len = c.in_ok-len.len in
     let room = c.saturating_sub-room.result in
     sent_is a.self.now.state.mib _ a.out.now c.put-2.new.out c.seal.new.buffer len room c.unwrap_or.result c.seal.result crc is

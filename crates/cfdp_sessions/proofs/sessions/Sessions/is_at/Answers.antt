@@ -2,7 +2,7 @@ use Rattle.std.proofs.Common.{◌≡◌, List, length, Some, refl, sym, ap, subs
 use Rattle.std.specs.Prelude.{slice_get}
 use Rattle.std.proofs.lemmas.Option.{slice_get_read}
 use Rattle.cfdp_sessions.specs.Sessions.{SessionFields, AreDistinct, session_id}
-use Rattle.cfdp_sessions.proofs.Places.{place_here}
+use Rattle.cfdp_sessions.proofs.Indexes.{index_here}
 use Rattle.cfdp_sessions.proofs.sessions.Sessions.is_at.Goals as goal
 use Rattle.cfdp_leases.proofs.Admitted.{same_is}
 
@@ -13,5 +13,5 @@ returns-then-index-len c same =
     let here : slice_get items c.args.index ≡ Some session =
     slice_get_read items (length items) c.args.index session refl (omega (arith, c.if-index-len.true, c.len.ensures)) c.index.ensures in
     let at = ap (λ (xs : List SessionFields). slice_get xs c.args.index) (sym c.self.view_is) ∙ here in
-    place_here c.args.self.now c.args.index session c.args.id (subst AreDistinct c.self.view_is c.self.invariant.2) at
+    index_here c.args.self.now c.args.index session c.args.id (subst AreDistinct c.self.view_is c.self.invariant.2) at
     (same_is (session_id session) c.args.id (sym c.has_name.ensures ∙ same))

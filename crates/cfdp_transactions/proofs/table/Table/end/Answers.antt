@@ -4,7 +4,7 @@ use Rattle.cfdp_transactions.proofs.table.Table.end.Goals as goal
 
 pub invariant_of-self : goal.invariant_of-self
 invariant_of-self c =
-    set_named c.self.inside.entries.entries c.args.place c.end.new.self c.self.invariant (λ r at.
+    set_named c.self.inside.entries.entries c.args.index c.end.new.self c.self.invariant (λ r at.
     let value = rw c.unwrap.ensures at c.get_index_mut.ensures.value in
     let same : c.unwrap.result.now ≡ r = cc in
     rw (c.end.ensures, same) refl)
@@ -14,4 +14,4 @@ returns c = λ r at.
     let value = rw c.unwrap.ensures at c.get_index_mut.ensures.value in
     let there = rw (← c.self.view_is) at at in
     let same : c.unwrap.result.now ≡ r = cc in
-    rows-set c.self.inside.entries.entries c.args.place c.end.new.self ∙ rw (c.self.view_is, c.end.ensures, same) refl
+    rows-set c.self.inside.entries.entries c.args.index c.end.new.self ∙ rw (c.self.view_is, c.end.ensures, same) refl

@@ -5,13 +5,13 @@ use Rattle.cfdp_transactions.proofs.KeptTable.TableUnderNames.{remove_named, row
 use Rattle.cfdp_transactions.proofs.table.Table.take_out.Goals as goal
 
 pub invariant_of-self : goal.invariant_of-self
-invariant_of-self c = rw c.shift_remove_index.ensures.entries (remove_named c.self.inside.entries.entries c.args.place c.self.invariant)
+invariant_of-self c = rw c.shift_remove_index.ensures.entries (remove_named c.self.inside.entries.entries c.args.index c.self.invariant)
 
 pub returns-clause-rest : goal.returns-clause-rest
-returns-clause-rest c = rw (c.shift_remove_index.ensures.entries, ← c.self.view_is) (rows-remove c.self.inside.entries.entries c.args.place)
+returns-clause-rest c = rw (c.shift_remove_index.ensures.entries, ← c.self.view_is) (rows-remove c.self.inside.entries.entries c.args.index)
 
 pub returns-clause-taken : goal.returns-clause-taken
 returns-clause-taken c =
     let es = c.self.inside.entries.entries in
     let there = c.shift_remove_index.ensures.entry in
-    rw (← c.self.view_is, slice_get-map (λ e. e.1) es c.args.place) (ap (option_map (λ e. e.1)) (sym there ∙ c.unwrap.ensures))
+    rw (← c.self.view_is, slice_get-map (λ e. e.1) es c.args.index) (ap (option_map (λ e. e.1)) (sym there ∙ c.unwrap.ensures))

@@ -4,7 +4,7 @@ use Rattle.cfdp_transactions.proofs.table.Table.turn.Goals as goal
 
 pub invariant_of-self : goal.invariant_of-self
 invariant_of-self c =
-    set_named c.self.inside.entries.entries c.args.place c.turn.new.self c.self.invariant (λ r at.
+    set_named c.self.inside.entries.entries c.args.index c.turn.new.self c.self.invariant (λ r at.
     let value = rw c.unwrap.ensures at c.get_index_mut.ensures.value in
     let same : c.unwrap.result.now ≡ r = cc in
     rw (c.turn.ensures, same) refl)
@@ -14,4 +14,4 @@ returns c = λ r at.
     let value = rw c.unwrap.ensures at c.get_index_mut.ensures.value in
     let there = rw (← c.self.view_is) at at in
     let same : c.unwrap.result.now ≡ r = cc in
-    rows-set c.self.inside.entries.entries c.args.place c.turn.new.self ∙ rw (c.self.view_is, c.turn.ensures, same) refl
+    rows-set c.self.inside.entries.entries c.args.index c.turn.new.self ∙ rw (c.self.view_is, c.turn.ensures, same) refl

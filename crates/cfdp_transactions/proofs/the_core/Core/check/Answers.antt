@@ -12,7 +12,7 @@ invariant_of-self g c =
     let t = g.S.Filestore.state c.check.new.store in
     let d = c.check.new.books in
     let carried = found_carries s b c.args.id (λ k o. checked (world_of s b) k o)
-    (world_of t d) c.check.result c.in-Some.place c.in-Some.ensures.found c.in-Some.ensures.within c.check.ensures.answer in
+    (world_of t d) c.check.result c.in-Some.index c.in-Some.ensures.found c.in-Some.ensures.within c.check.ensures.answer in
     let follows = carries_follows (world_of s b) (world_of t d) (Check c.args.id) c.check.result carried in
     still_whole c.follows_is_sound.ensures s t b d (Check c.args.id) c.check.result c.self.invariant follows c.check.ensures.booked
 
@@ -23,7 +23,7 @@ returns-clause-follows g c =
     let t = g.S.Filestore.state c.check.new.store in
     let d = c.check.new.books in
     let carried = found_carries s b c.args.id (λ k o. checked (world_of s b) k o)
-    (world_of t d) c.check.result c.in-Some.place c.in-Some.ensures.found c.in-Some.ensures.within c.check.ensures.answer in
+    (world_of t d) c.check.result c.in-Some.index c.in-Some.ensures.found c.in-Some.ensures.within c.check.ensures.answer in
     let follows = carries_follows (world_of s b) (world_of t d) (Check c.args.id) c.check.result carried in
     rw (← c.self.view_is) follows
 

@@ -14,7 +14,7 @@ invariant_of-self g c =
     let b = c.self.inside.books in
     let t = g.S.Filestore.state c.eof.new.store in
     let d = c.eof.new.books in
-    let carried = found_carries s b (id_of c.args.header.now) (λ k o. eof_came (world_of s b) k c.args.eof o) (world_of t d) c.eof.result c.in-Some.place
+    let carried = found_carries s b (id_of c.args.header.now) (λ k o. eof_came (world_of s b) k c.args.eof o) (world_of t d) c.eof.result c.in-Some.index
     (rw c.transaction_of.ensures at c.in-Some.ensures.found) c.in-Some.ensures.within c.eof.ensures.answer in
     let mine : (c.args.header.now.destination == b.config.entity) ≡ true = eq-eqb _ _ (c.if-header-entity.false ∙ c.entity.ensures) in
     let follows = carries_follows (world_of s b) (world_of t d) (EofCame c.args.header.now c.args.eof) c.eof.result
@@ -27,7 +27,7 @@ returns-clause-follows g c =
     let b = c.self.inside.books in
     let t = g.S.Filestore.state c.eof.new.store in
     let d = c.eof.new.books in
-    let carried = found_carries s b (id_of c.args.header.now) (λ k o. eof_came (world_of s b) k c.args.eof o) (world_of t d) c.eof.result c.in-Some.place
+    let carried = found_carries s b (id_of c.args.header.now) (λ k o. eof_came (world_of s b) k c.args.eof o) (world_of t d) c.eof.result c.in-Some.index
     (rw c.transaction_of.ensures at c.in-Some.ensures.found) c.in-Some.ensures.within c.eof.ensures.answer in
     let mine : (c.args.header.now.destination == b.config.entity) ≡ true = eq-eqb _ _ (c.if-header-entity.false ∙ c.entity.ensures) in
     let follows = carries_follows (world_of s b) (world_of t d) (EofCame c.args.header.now c.args.eof) c.eof.result

@@ -15,7 +15,7 @@ invariant_of-self g c =
     let t = g.S.Filestore.state c.receive.new.store in
     let d = c.receive.new.books in
     let carried = found_carries s b (id_of c.args.header.now) (λ k o. data_came (world_of s b) k c.args.piece.now o)
-    (world_of t d) c.receive.result c.in-Some.place (rw c.transaction_of.ensures at c.in-Some.ensures.found) c.in-Some.ensures.within
+    (world_of t d) c.receive.result c.in-Some.index (rw c.transaction_of.ensures at c.in-Some.ensures.found) c.in-Some.ensures.within
     c.receive.ensures.answer in
     let mine : (c.args.header.now.destination == b.config.entity) ≡ true = eq-eqb _ _ (c.if-header-entity.false ∙ c.entity.ensures) in
     let follows = carries_follows (world_of s b) (world_of t d) (DataCame c.args.header.now c.args.piece.now) c.receive.result
@@ -30,7 +30,7 @@ returns-clause-follows g c =
     let t = g.S.Filestore.state c.receive.new.store in
     let d = c.receive.new.books in
     let carried = found_carries s b (id_of c.args.header.now) (λ k o. data_came (world_of s b) k c.args.piece.now o)
-    (world_of t d) c.receive.result c.in-Some.place (rw c.transaction_of.ensures at c.in-Some.ensures.found) c.in-Some.ensures.within
+    (world_of t d) c.receive.result c.in-Some.index (rw c.transaction_of.ensures at c.in-Some.ensures.found) c.in-Some.ensures.within
     c.receive.ensures.answer in
     let mine : (c.args.header.now.destination == b.config.entity) ≡ true = eq-eqb _ _ (c.if-header-entity.false ∙ c.entity.ensures) in
     let follows = carries_follows (world_of s b) (world_of t d) (DataCame c.args.header.now c.args.piece.now) c.receive.result

@@ -1,7 +1,7 @@
 use Rattle.std.proofs.Common.{◌≡◌, ℕ, List, refl, ap, sym}
 use Rattle.std.specs.Prelude.{Some, slice_get}
 use Rattle.cfdp_transactions.specs.Entry.{gaps}
-use Rattle.cfdp_transactions.specs.code.TableEntries.{kept_place}
+use Rattle.cfdp_transactions.specs.code.TableEntries.{kept_index}
 use Rattle.cfdp_transactions.proofs.Received.GapsOfEntry.{gaps_row}
 use Rattle.cfdp_transactions.proofs.KeptTable.WorldOfTable.{read_in}
 use Rattle.cfdp_transactions.proofs.the_core.Core.gaps.Goals as goal
@@ -16,7 +16,7 @@ pub returns : goal.returns
 returns g c =
     let s = g.S.Filestore.state c.self.inside.store in
     let b = c.self.inside.books in
-    let at : slice_get b.table (kept_place c.args.id b.table) ≡ Some c.in-Some.entry.now = rw c.in-Some.is at (sym c.get.ensures) in
+    let at : slice_get b.table (kept_index c.args.id b.table) ≡ Some c.in-Some.entry.now = rw c.in-Some.is at (sym c.get.ensures) in
     rw (← c.self.view_is, read_in gaps s.filestore c.args.id b.table, ← c.get.ensures, c.in-Some.is, c.gaps.ensures)
     (ap (λ (ranges : List (ℕ × ℕ)). Some ranges) (sym (gaps_row s b c.self.invariant.sound c.self.invariant.booked
-    (kept_place c.args.id b.table) c.in-Some.entry.now at)))
+    (kept_index c.args.id b.table) c.in-Some.entry.now at)))

@@ -12,7 +12,7 @@ invariant_of-self g c =
     let t = s in
     let d = c.hand_out.new.books in
     let carried = found_carries s b c.args.id (λ k o. taken_out (world_of s b) k o)
-    (world_of t d) c.hand_out.result c.in-Some.place c.in-Some.ensures.found c.in-Some.ensures.within c.hand_out.ensures.answer in
+    (world_of t d) c.hand_out.result c.in-Some.index c.in-Some.ensures.found c.in-Some.ensures.within c.hand_out.ensures.answer in
     let follows = carries_follows (world_of s b) (world_of t d) (Take c.args.id) c.hand_out.result carried in
     still_whole c.follows_is_sound.ensures s t b d (Take c.args.id) c.hand_out.result c.self.invariant follows c.hand_out.ensures.booked
 
@@ -23,7 +23,7 @@ returns-clause-follows g c =
     let t = s in
     let d = c.hand_out.new.books in
     let carried = found_carries s b c.args.id (λ k o. taken_out (world_of s b) k o)
-    (world_of t d) c.hand_out.result c.in-Some.place c.in-Some.ensures.found c.in-Some.ensures.within c.hand_out.ensures.answer in
+    (world_of t d) c.hand_out.result c.in-Some.index c.in-Some.ensures.found c.in-Some.ensures.within c.hand_out.ensures.answer in
     let follows = carries_follows (world_of s b) (world_of t d) (Take c.args.id) c.hand_out.result carried in
     rw (← c.self.view_is) follows
 
@@ -38,4 +38,4 @@ pub hand_out-requires-clause-made : goal.hand_out-requires-clause-made
 hand_out-requires-clause-made g c =
     let s = g.S.Filestore.state c.self.inside.store in
     let b = c.self.inside.books in
-    outcome_made s b c.args.id c.in-Some.place c.in-Some.ensures.found c.args.outcome (rw (← c.self.view_is) at c.requires.made)
+    outcome_made s b c.args.id c.in-Some.index c.in-Some.ensures.found c.args.outcome (rw (← c.self.view_is) at c.requires.made)

@@ -3,7 +3,7 @@ use Rattle.std.proofs.lemmas.Bool.{both_ways, eq-eqb}
 use Rattle.std.specs.Prelude.{◌==◌}
 use Rattle.cfdp_transactions.specs.Entry.{id_of}
 use Rattle.cfdp_transactions.specs.code.Books.{world_of}
-use Rattle.cfdp_transactions.specs.Engine.{may_begin}
+use Rattle.cfdp_transactions.specs.CoreFields.{may_begin}
 use Rattle.cfdp_transactions.proofs.KeptTable.Following.{found_some, absent_none, begins_when, full_answer, long_answer}
 use Rattle.cfdp_transactions.proofs.KeptTable.WorldOfTable.{length_in}
 use Rattle.cfdp_transactions.proofs.the_core.Core.judge.Goals as goal

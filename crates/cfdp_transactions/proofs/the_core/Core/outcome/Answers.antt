@@ -1,7 +1,7 @@
 use Rattle.std.proofs.Common.{◌≡◌, ◌∙◌, refl, sym, ap, true, false}
 use Rattle.std.specs.Prelude.{Some}
 use Rattle.cfdp_transactions.specs.Entry.{is_live}
-use Rattle.cfdp_transactions.specs.Engine.{outcome_when_over}
+use Rattle.cfdp_transactions.specs.CoreFields.{outcome_when_over}
 use Rattle.cfdp_transactions.specs.declared.outcome.Outcome.{Outcome}
 use Rattle.cfdp_transactions.proofs.KeptTable.WorldOfTable.{read_in}
 use Rattle.cfdp_transactions.proofs.the_core.Core.outcome.Goals as goal

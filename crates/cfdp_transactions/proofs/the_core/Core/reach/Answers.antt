@@ -1,7 +1,7 @@
 use Rattle.std.proofs.Common.{◌≡◌, ℕ, refl, ap, sym}
 use Rattle.std.specs.Prelude.{Some, slice_get}
 use Rattle.cfdp_transactions.specs.Entry.{reach}
-use Rattle.cfdp_transactions.specs.code.TableEntries.{kept_place}
+use Rattle.cfdp_transactions.specs.code.TableEntries.{kept_index}
 use Rattle.cfdp_transactions.proofs.Received.GapsOfEntry.{reach_row}
 use Rattle.cfdp_transactions.proofs.KeptTable.WorldOfTable.{read_in}
 use Rattle.cfdp_transactions.proofs.the_core.Core.reach.Goals as goal
@@ -16,6 +16,6 @@ pub returns : goal.returns
 returns g c =
     let s = g.S.Filestore.state c.self.inside.store in
     let b = c.self.inside.books in
-    let at : slice_get b.table (kept_place c.args.id b.table) ≡ Some c.in-Some.entry.now = rw c.in-Some.is at (sym c.get.ensures) in
+    let at : slice_get b.table (kept_index c.args.id b.table) ≡ Some c.in-Some.entry.now = rw c.in-Some.is at (sym c.get.ensures) in
     rw (← c.self.view_is, read_in reach s.filestore c.args.id b.table, ← c.get.ensures, c.in-Some.is, c.reach.ensures)
-    (ap (λ (n : ℕ). Some n) (sym (reach_row s b c.self.invariant.sound c.self.invariant.booked (kept_place c.args.id b.table) c.in-Some.entry.now at)))
+    (ap (λ (n : ℕ). Some n) (sym (reach_row s b c.self.invariant.sound c.self.invariant.booked (kept_index c.args.id b.table) c.in-Some.entry.now at)))

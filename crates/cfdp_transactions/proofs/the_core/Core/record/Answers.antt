@@ -4,7 +4,7 @@ use Rattle.cfdp_transactions.specs.Events.{MetadataCame}
 use Rattle.cfdp_transactions.specs.World.{entry_of}
 use Rattle.cfdp_transactions.specs.Admission.{metadata_came}
 use Rattle.cfdp_transactions.specs.code.Books.{Carries, world_of}
-use Rattle.cfdp_transactions.proofs.KeptTable.Following.{carries_follows, absent_place, still_whole, ours, begins_so}
+use Rattle.cfdp_transactions.proofs.KeptTable.Following.{carries_follows, absent_index, still_whole, ours, begins_so}
 use Rattle.cfdp_transactions.proofs.KeptTable.WorldOfTable.{length_in}
 use Rattle.cfdp_transactions.proofs.the_core.Core.record.Goals as goal
 
@@ -13,7 +13,7 @@ record-requires-clause-absent g c =
     let s = g.S.Filestore.state c.self.inside.store in
     let b = c.self.inside.books in
     let begun = begins_so (world_of s b) c.args.header.now c.args.metadata (rw (← c.self.view_is) at c.requires.begins) in
-    absent_place s b (id_of c.args.header.now) begun.absent
+    absent_index s b (id_of c.args.header.now) begun.absent
 
 pub record-requires-clause-few : goal.record-requires-clause-few
 record-requires-clause-few g c =

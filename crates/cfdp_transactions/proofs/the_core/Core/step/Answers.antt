@@ -12,7 +12,7 @@ invariant_of-self g c =
     let t = g.S.Filestore.state c.step.new.store in
     let d = c.step.new.books in
     let carried = found_carries s b c.args.id (λ k o. stepped (world_of s b) k o)
-    (world_of t d) c.step.result c.in-Some.place c.in-Some.ensures.found c.in-Some.ensures.within c.step.ensures.answer in
+    (world_of t d) c.step.result c.in-Some.index c.in-Some.ensures.found c.in-Some.ensures.within c.step.ensures.answer in
     let follows = carries_follows (world_of s b) (world_of t d) (Step c.args.id) c.step.result carried in
     still_whole c.follows_is_sound.ensures s t b d (Step c.args.id) c.step.result c.self.invariant follows c.step.ensures.booked
 
@@ -23,7 +23,7 @@ returns-clause-follows g c =
     let t = g.S.Filestore.state c.step.new.store in
     let d = c.step.new.books in
     let carried = found_carries s b c.args.id (λ k o. stepped (world_of s b) k o)
-    (world_of t d) c.step.result c.in-Some.place c.in-Some.ensures.found c.in-Some.ensures.within c.step.ensures.answer in
+    (world_of t d) c.step.result c.in-Some.index c.in-Some.ensures.found c.in-Some.ensures.within c.step.ensures.answer in
     let follows = carries_follows (world_of s b) (world_of t d) (Step c.args.id) c.step.result carried in
     rw (← c.self.view_is) follows
 

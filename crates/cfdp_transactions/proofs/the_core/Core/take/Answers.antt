@@ -2,7 +2,7 @@ use Rattle.std.proofs.Common.{refl}
 use Rattle.cfdp_transactions.specs.Events.{Take}
 use Rattle.cfdp_transactions.specs.Ending.{taken_out}
 use Rattle.cfdp_transactions.specs.code.Books.{world_of}
-use Rattle.cfdp_transactions.proofs.KeptTable.Following.{carries_follows, found_carries, absent_entry, live_place, still_whole}
+use Rattle.cfdp_transactions.proofs.KeptTable.Following.{carries_follows, found_carries, absent_entry, live_index, still_whole}
 use Rattle.cfdp_transactions.proofs.the_core.Core.take.Goals as goal
 
 pub invariant_of-self : goal.invariant_of-self
@@ -12,7 +12,7 @@ invariant_of-self g c =
     let t = s in
     let d = c.take.new.books in
     let carried = found_carries s b c.args.id (λ k o. taken_out (world_of s b) k o)
-    (world_of t d) c.take.result.0 c.in-Some.place c.in-Some.ensures.found c.in-Some.ensures.within c.take.ensures.answer in
+    (world_of t d) c.take.result.0 c.in-Some.index c.in-Some.ensures.found c.in-Some.ensures.within c.take.ensures.answer in
     let follows = carries_follows (world_of s b) (world_of t d) (Take c.args.id) c.take.result.0 carried in
     still_whole c.follows_is_sound.ensures s t b d (Take c.args.id) c.take.result.0 c.self.invariant follows c.take.ensures.booked
 
@@ -23,7 +23,7 @@ returns-clause-follows g c =
     let t = s in
     let d = c.take.new.books in
     let carried = found_carries s b c.args.id (λ k o. taken_out (world_of s b) k o)
-    (world_of t d) c.take.result.0 c.in-Some.place c.in-Some.ensures.found c.in-Some.ensures.within c.take.ensures.answer in
+    (world_of t d) c.take.result.0 c.in-Some.index c.in-Some.ensures.found c.in-Some.ensures.within c.take.ensures.answer in
     let follows = carries_follows (world_of s b) (world_of t d) (Take c.args.id) c.take.result.0 carried in
     rw (← c.self.view_is) follows
 
@@ -38,4 +38,4 @@ pub returns-clause-lean : goal.returns-clause-lean
 returns-clause-lean g c = λ none.
     let s = g.S.Filestore.state c.self.inside.store in
     let b = c.self.inside.books in
-    c.take.ensures.lean (live_place s b c.args.id c.in-Some.place c.in-Some.ensures.found c.in-Some.ensures.within (rw (← c.self.view_is) at none))
+    c.take.ensures.lean (live_index s b c.args.id c.in-Some.index c.in-Some.ensures.found c.in-Some.ensures.within (rw (← c.self.view_is) at none))

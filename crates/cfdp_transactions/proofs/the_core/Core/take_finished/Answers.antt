@@ -9,13 +9,13 @@ pub take_finished-requires-clause-writable : goal.take_finished-requires-clause-
 take_finished-requires-clause-writable g c =
     let s = g.S.Filestore.state c.self.inside.store in
     let b = c.self.inside.books in
-    writable_at s b c.args.id c.in-Some.place c.in-Some.ensures.found (rw (← c.self.view_is) at c.requires.writable)
+    writable_at s b c.args.id c.in-Some.index c.in-Some.ensures.found (rw (← c.self.view_is) at c.requires.writable)
 
 pub invariant_of-self : goal.invariant_of-self
 invariant_of-self g c =
     let s = g.S.Filestore.state c.self.inside.store in
     let b = c.self.inside.books in
-    let told = told_so s b c.args.id c.in-Some.place c.in-Some.ensures.found c.in-Some.ensures.within
+    let told = told_so s b c.args.id c.in-Some.index c.in-Some.ensures.found c.in-Some.ensures.within
     (world_of s c.take_finished.new.books) c.args.out.now c.take_finished.new.out c.take_finished.result c.take_finished.ensures.ok
     c.take_finished.ensures.err in
     record {
@@ -27,7 +27,7 @@ pub returns-clause-told : goal.returns-clause-told
 returns-clause-told g c =
     let s = g.S.Filestore.state c.self.inside.store in
     let b = c.self.inside.books in
-    let told = told_so s b c.args.id c.in-Some.place c.in-Some.ensures.found c.in-Some.ensures.within
+    let told = told_so s b c.args.id c.in-Some.index c.in-Some.ensures.found c.in-Some.ensures.within
     (world_of s c.take_finished.new.books) c.args.out.now c.take_finished.new.out c.take_finished.result c.take_finished.ensures.ok
     c.take_finished.ensures.err in
     rw (← c.self.view_is) told.told
@@ -36,7 +36,7 @@ pub returns-clause-world : goal.returns-clause-world
 returns-clause-world g c =
     let s = g.S.Filestore.state c.self.inside.store in
     let b = c.self.inside.books in
-    let told = told_so s b c.args.id c.in-Some.place c.in-Some.ensures.found c.in-Some.ensures.within
+    let told = told_so s b c.args.id c.in-Some.index c.in-Some.ensures.found c.in-Some.ensures.within
     (world_of s c.take_finished.new.books) c.args.out.now c.take_finished.new.out c.take_finished.result c.take_finished.ensures.ok
     c.take_finished.ensures.err in
     rw (← c.self.view_is) told.world
@@ -45,7 +45,7 @@ pub returns-clause-written : goal.returns-clause-written
 returns-clause-written g c =
     let s = g.S.Filestore.state c.self.inside.store in
     let b = c.self.inside.books in
-    let told = told_so s b c.args.id c.in-Some.place c.in-Some.ensures.found c.in-Some.ensures.within
+    let told = told_so s b c.args.id c.in-Some.index c.in-Some.ensures.found c.in-Some.ensures.within
     (world_of s c.take_finished.new.books) c.args.out.now c.take_finished.new.out c.take_finished.result c.take_finished.ensures.ok
     c.take_finished.ensures.err in
     rw (← c.self.view_is) told.octets
@@ -54,7 +54,7 @@ pub returns-clause-fits : goal.returns-clause-fits
 returns-clause-fits g c =
     let s = g.S.Filestore.state c.self.inside.store in
     let b = c.self.inside.books in
-    let told = told_so s b c.args.id c.in-Some.place c.in-Some.ensures.found c.in-Some.ensures.within
+    let told = told_so s b c.args.id c.in-Some.index c.in-Some.ensures.found c.in-Some.ensures.within
     (world_of s c.take_finished.new.books) c.args.out.now c.take_finished.new.out c.take_finished.result c.take_finished.ensures.ok
     c.take_finished.ensures.err in
     rw (← c.self.view_is) told.fits
@@ -63,7 +63,7 @@ pub returns-clause-needed : goal.returns-clause-needed
 returns-clause-needed g c =
     let s = g.S.Filestore.state c.self.inside.store in
     let b = c.self.inside.books in
-    let told = told_so s b c.args.id c.in-Some.place c.in-Some.ensures.found c.in-Some.ensures.within
+    let told = told_so s b c.args.id c.in-Some.index c.in-Some.ensures.found c.in-Some.ensures.within
     (world_of s c.take_finished.new.books) c.args.out.now c.take_finished.new.out c.take_finished.result c.take_finished.ensures.ok
     c.take_finished.ensures.err in
     rw (← c.self.view_is) told.needed
@@ -72,7 +72,7 @@ pub returns-clause-less : goal.returns-clause-less
 returns-clause-less g c =
     let s = g.S.Filestore.state c.self.inside.store in
     let b = c.self.inside.books in
-    let told = told_so s b c.args.id c.in-Some.place c.in-Some.ensures.found c.in-Some.ensures.within
+    let told = told_so s b c.args.id c.in-Some.index c.in-Some.ensures.found c.in-Some.ensures.within
     (world_of s c.take_finished.new.books) c.args.out.now c.take_finished.new.out c.take_finished.result c.take_finished.ensures.ok
     c.take_finished.ensures.err in
     told.less
@@ -81,7 +81,7 @@ pub returns-clause-unchanged : goal.returns-clause-unchanged
 returns-clause-unchanged g c =
     let s = g.S.Filestore.state c.self.inside.store in
     let b = c.self.inside.books in
-    let told = told_so s b c.args.id c.in-Some.place c.in-Some.ensures.found c.in-Some.ensures.within
+    let told = told_so s b c.args.id c.in-Some.index c.in-Some.ensures.found c.in-Some.ensures.within
     (world_of s c.take_finished.new.books) c.args.out.now c.take_finished.new.out c.take_finished.result c.take_finished.ensures.ok
     c.take_finished.ensures.err in
     rw (← c.self.view_is) told.unchanged
@@ -90,7 +90,7 @@ pub returns-clause-unwritten : goal.returns-clause-unwritten
 returns-clause-unwritten g c =
     let s = g.S.Filestore.state c.self.inside.store in
     let b = c.self.inside.books in
-    let told = told_so s b c.args.id c.in-Some.place c.in-Some.ensures.found c.in-Some.ensures.within
+    let told = told_so s b c.args.id c.in-Some.index c.in-Some.ensures.found c.in-Some.ensures.within
     (world_of s c.take_finished.new.books) c.args.out.now c.take_finished.new.out c.take_finished.result c.take_finished.ensures.ok
     c.take_finished.ensures.err in
     told.unwritten

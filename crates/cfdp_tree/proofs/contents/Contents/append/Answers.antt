@@ -58,7 +58,7 @@ returns-clause-spares c =
 pub returns-clause-ways : goal.returns-clause-ways
 returns-clause-ways c =
     let m = c.make_room-to in let copy = c.copy.ensures in
-    ways_still m.new.arena c.copy.new.arena m.new.ways m.new.self.run copy.size (λ k less. copy.places k (omega (arith, less))) m.ensures.ways
+    ways_still m.new.arena c.copy.new.arena m.new.ways m.new.self.run copy.size (λ k less. copy.sequence k (omega (arith, less))) m.ensures.ways
 
 pub returns-clause-other_ways : goal.returns-clause-other_ways
 returns-clause-other_ways c =

@@ -1,6 +1,6 @@
 use Rattle.std.proofs.Common.{◌≡◌, ◌+◌, ◌-◌, take, ap, ◌∙◌, arith}
 use Rattle.cfdp_checksum.specs.Checksum.{checksum_at}
-use Rattle.cfdp_checksum.proofs.ChecksumSteps.{only-places-count}
+use Rattle.cfdp_checksum.proofs.ChecksumSteps.{only-word-offsets-count}
 use Rattle.cfdp_tree.specs.code.Runs.{octets_of_run}
 use Rattle.cfdp_tree.specs.code.Contents.{contents_in}
 use Rattle.cfdp_tree.proofs.OfRuns.Filling.{blocks_of-fits}
@@ -10,7 +10,7 @@ pub sum_of-requires-clause-range : goal.sum_of-requires-clause-range
 sum_of-requires-clause-range c = omega (arith, c.requires.filled.blocks, blocks_of-fits c.args.self.now.size)
 
 pub returns-then-offset-eq0 : goal.returns-then-offset-eq0
-returns-then-offset-eq0 c = c.requires.filled.summed ∙ only-places-count 0 c.args.offset (contents_in c.args.arena.now c.args.self.now)
+returns-then-offset-eq0 c = c.requires.filled.summed ∙ only-word-offsets-count 0 c.args.offset (contents_in c.args.arena.now c.args.self.now)
     (omega (arith, c.if-offset-eq0.true))
 
 pub returns : goal.returns

@@ -3,14 +3,14 @@ use Rattle.std.proofs.lemmas.List.{with_items_is}
 use Rattle.cfdp_order.specs.Orders as trees
 use Rattle.cfdp_order.specs.Orders.{times_in}
 use Rattle.cfdp_tree.specs.code.Nodes.{nodes_in}
-use Rattle.cfdp_tree.proofs.OfOrders.OrderLaws.{enters, entered, same_change, place_inside, home_node}
+use Rattle.cfdp_tree.proofs.OfOrders.OrderLaws.{enters, entered, same_change, directory_inside, home_node}
 use Rattle.cfdp_tree.proofs.orders.Orders.enter.Goals as goal
 
 pub of-order-requires : goal.of-order-requires
 of-order-requires c =
     let nodes = nodes_in c.args.arena.now in
     record {
-      within = place_inside nodes c.args.self.now _ c.args.directory c.requires.ordered
+      within = directory_inside nodes c.args.self.now _ c.args.directory c.requires.ordered
           (home_node nodes c.requires.tree c.args.directory c.args.name.now c.args.node.now c.requires.entry);
     }
 
@@ -23,7 +23,7 @@ pub set-requires : goal.set-requires
 set-requires c =
     let nodes = nodes_in c.args.arena.now in
     record {
-      within = place_inside nodes c.args.self.now _ c.args.directory c.requires.ordered
+      within = directory_inside nodes c.args.self.now _ c.args.directory c.requires.ordered
           (home_node nodes c.requires.tree c.args.directory c.args.name.now c.args.node.now c.requires.entry);
     }
 

@@ -15,22 +15,23 @@ use Rattle.cfdp_tree.specs.code.Entries.{IsMember}
 use Rattle.cfdp_tree.specs.code.Next.{name_cmp}
 use Rattle.cfdp_tree.specs.code.Orders.{in_order, IsInOrders}
 use Rattle.cfdp_tree.proofs.OfNodes.TreeLaws.{node_live, node_octets}
-use Rattle.cfdp_tree.proofs.OfOrders.OrderLaws.{member_at, place_inside}
+use Rattle.cfdp_tree.proofs.OfOrders.OrderLaws.{member_at, directory_inside}
 use Rattle.cfdp_tree.proofs.OfOrders.SortLaws.{at_times, less_first, none_from, other_from, there_from}
 use Rattle.cfdp_tree.proofs.orders.Orders.find.Goals as goal
 
 pub of-order-requires : goal.of-order-requires
-of-order-requires c = record { within = place_inside (nodes_in c.args.arena.now) c.args.self.now _ c.args.directory.now c.requires.ordered c.requires.place }
+of-order-requires c =
+    record { within = directory_inside (nodes_in c.args.arena.now) c.args.self.now _ c.args.directory.now c.requires.ordered c.requires.directory }
 
 -- what a search for a name finds
-module _ (nodes : Blocks) (orders : Orders) (place : Option ℕ) (ordered : IsInOrders nodes orders None) (name : Name) (list : List ℕ) (is : list
-    ≡ in_order orders place) (r : Option ℕ)
+module _ (nodes : Blocks) (orders : Orders) (directory : Option ℕ) (ordered : IsInOrders nodes orders None) (name : Name) (list : List ℕ) (is : list
+    ≡ in_order orders directory) (r : Option ℕ)
     (ends : (before after : List ℕ) → list ≡ before ++ after → SplitsFrom (λ m. name_cmp (name_at nodes m) name) before after → r ≡ slice_get after 0) where
   abbrev own : List ℕ
-  own = in_order orders place
+  own = in_order orders directory
 
   parts : (before : List ℕ) × (after : List ℕ) × (own ≡ before ++ after) × SplitsFrom (λ m. name_cmp (name_at nodes m) name) before after
-  parts = splits_from (λ m. name_cmp (name_at nodes m) name) own (less_first nodes name own (ordered.rising place))
+  parts = splits_from (λ m. name_cmp (name_at nodes m) name) own (less_first nodes name own (ordered.rising directory))
 
   found_is : r ≡ slice_get parts.1 0
   found_is = ends parts.0 parts.1 (is ∙ parts.2) parts.3
@@ -38,25 +39,26 @@ module _ (nodes : Blocks) (orders : Orders) (place : Option ℕ) (ordered : IsIn
   none_some : {x : ℕ} → None ≡ Some x → ⊥
   none_some e = cc
 
-  absent : All (λ e. name_at nodes e ≡ name → ⊥) own → (e : ℕ) → IsEntry nodes place name e → ⊥
+  absent : All (λ e. name_at nodes e ≡ name → ⊥) own → (e : ℕ) → IsEntry nodes directory name e → ⊥
   absent all e entry = at_times (λ e. name_at nodes e ≡ name → ⊥) own e all
       (contains_times own e (subst (λ p. Contains (in_order orders p) e) entry.there (ordered.all e entry.node none_some))) entry.named
 
-  none_entry : r ≡ None → (e : ℕ) → IsEntry nodes place name e → ⊥
-  none_entry none = absent (none_from nodes own (ordered.rising place) name parts.0 parts.1 parts.2 parts.3 (sym found_is ∙ none))
+  none_entry : r ≡ None → (e : ℕ) → IsEntry nodes directory name e → ⊥
+  none_entry none = absent (none_from nodes own (ordered.rising directory) name parts.0 parts.1 parts.2 parts.3 (sym found_is ∙ none))
 
-  other_entry : (b : ℕ) → r ≡ Some b → (name_at nodes b ≡ name → ⊥) → (e : ℕ) → IsEntry nodes place name e → ⊥
-  other_entry b some other = absent (other_from nodes own (ordered.rising place) name parts.0 parts.1 parts.2 parts.3 b (sym found_is ∙ some) other)
+  other_entry : (b : ℕ) → r ≡ Some b → (name_at nodes b ≡ name → ⊥) → (e : ℕ) → IsEntry nodes directory name e → ⊥
+  other_entry b some other = absent (other_from nodes own (ordered.rising directory) name parts.0 parts.1 parts.2 parts.3 b (sym found_is ∙ some) other)
 
-  found_member : (b : ℕ) → r ≡ Some b → IsMember nodes None place b
-  found_member b some = member_at nodes orders None ordered place b (there_from nodes own (ordered.rising place) name parts.0 parts.1 parts.2 parts.3 b
+  found_member : (b : ℕ) → r ≡ Some b → IsMember nodes None directory b
+  found_member b some = member_at nodes orders None ordered directory b (there_from nodes own (ordered.rising directory) name parts.0 parts.1 parts.2 parts.3 b
       (sym found_is ∙ some))
 
 pub returns-in_err-found-clause-none : goal.returns-in_err-found-clause-none
 returns-in_err-found-clause-none c =
-    let nodes = nodes_in c.args.arena.now in let place = c.args.directory.now in let name = c.args.name.now in
-    subst (λ r. IfNone r ((b : ℕ) → IsEntry nodes place name b → ⊥)) (sym c.from_residual.ensures)
-    (none_entry nodes c.args.self.now place c.requires.ordered name _ (λ k. trees.nodes (c.deref.ensures.value k) (c.of-order.ensures k)) c.first_from.result
+    let nodes = nodes_in c.args.arena.now in let directory = c.args.directory.now in let name = c.args.name.now in
+    subst (λ r. IfNone r ((b : ℕ) → IsEntry nodes directory name b → ⊥)) (sym c.from_residual.ensures)
+    (none_entry nodes c.args.self.now directory c.requires.ordered name _ (λ k. trees.nodes (c.deref.ensures.value k)
+    (c.of-order.ensures k)) c.first_from.result
     c.first_from.ensures c.in_err-found.was)
 
 pub bytes-requires : goal.bytes-requires

@@ -12,24 +12,25 @@ use Rattle.cfdp_tree.specs.code.Nodes.{nodes_in}
 use Rattle.cfdp_tree.specs.code.Tree.{name_at}
 use Rattle.cfdp_tree.specs.code.Next.{name_cmp, IsBehind, IsLeast}
 use Rattle.cfdp_tree.specs.code.Orders.{in_order, IsInOrders}
-use Rattle.cfdp_tree.proofs.OfOrders.OrderLaws.{place_inside}
+use Rattle.cfdp_tree.proofs.OfOrders.OrderLaws.{directory_inside}
 use Rattle.cfdp_tree.proofs.OfOrders.SortLaws.{first_least, after_least, greater_last}
 use Rattle.cfdp_tree.proofs.orders.Orders.least_after.Goals as goal
 use Rattle.cfdp_tree.proofs.orders.Orders.least_after.Goals.{in-Some+in_ok-found-in-Some, in-None+in_ok-found-in-None}
 
 pub of-order-requires : goal.of-order-requires
-of-order-requires c = record { within = place_inside (nodes_in c.args.arena.now) c.args.self.now _ c.args.directory.now c.requires.ordered c.requires.place }
+of-order-requires c =
+    record { within = directory_inside (nodes_in c.args.arena.now) c.args.self.now _ c.args.directory.now c.requires.ordered c.requires.directory }
 
 -- what a search after a name finds
 abbrev Told : Blocks → Option Name → List ℕ → Option ℕ → Type 0
 Told nodes after list r = IfSome r (IsLeast nodes after list) × IfNone r (All (λ c. IsBehind after (name_at nodes c) → ⊥) list)
 
-told : (nodes : Blocks) (orders : Orders) (place : Option ℕ) (ordered : IsInOrders nodes orders None) (name : Name) (list : List ℕ) → list
-    ≡ in_order orders place → (r : Option ℕ)
+told : (nodes : Blocks) (orders : Orders) (directory : Option ℕ) (ordered : IsInOrders nodes orders None) (name : Name) (list : List ℕ) → list
+    ≡ in_order orders directory → (r : Option ℕ)
     → ((before after : List ℕ) → list ≡ before ++ after → SplitsAfter (λ m. name_cmp (name_at nodes m) name) before after → r ≡ slice_get after 0) →
-    Told nodes (Some name) (in_order orders place) r
-told nodes orders place ordered name list is r found =
-    let own = in_order orders place in let rising = ordered.rising place in
+    Told nodes (Some name) (in_order orders directory) r
+told nodes orders directory ordered name list is r found =
+    let own = in_order orders directory in let rising = ordered.rising directory in
     let s = splits_after (λ m. name_cmp (name_at nodes m) name) own (greater_last nodes name own rising) in
     after_least nodes own rising name s.0 s.1 s.2 s.3 r (found s.0 s.1 (is ∙ s.2) s.3)
 
@@ -59,28 +60,29 @@ returns-in_err-found-in-Some-clause-none c =
 
 pub returns-in_err-found-in-None-clause-none : goal.returns-in_err-found-in-None-clause-none
 returns-in_err-found-in-None-clause-none c =
-    let nodes = nodes_in c.args.arena.now in let orders = c.args.self.now in let place = c.args.directory.now in
-    let same : trees.nodes c.deref-in-None.result.now c.of-order.result ≡ in_order orders place =
+    let nodes = nodes_in c.args.arena.now in let orders = c.args.self.now in let directory = c.args.directory.now in
+    let same : trees.nodes c.deref-in-None.result.now c.of-order.result ≡ in_order orders directory =
     λ k. trees.nodes (c.deref-in-None.ensures.value k) (c.of-order.ensures k) in
-    let both = first_least nodes (in_order orders place) (c.requires.ordered.rising place) c.first.result (c.first.ensures ∙ ap (λ l. slice_get l 0) same) in
-    none_told nodes c.args.after None (in_order orders place) c.first.result c.from_residual-in_err-found-in-None.result
+    let both = first_least nodes (in_order orders directory) (c.requires.ordered.rising directory) c.first.result
+    (c.first.ensures ∙ ap (λ l. slice_get l 0) same) in
+    none_told nodes c.args.after None (in_order orders directory) c.first.result c.from_residual-in_err-found-in-None.result
     (ap (option_map (λ name. name.now)) c.in-None.is) (c.in_err-found-in-None.was) c.from_residual-in_err-found-in-None.ensures both
 
 pub returns-clause-least : goal.returns-clause-least
 returns-clause-least c =
-    let nodes = nodes_in c.args.arena.now in let orders = c.args.self.now in let place = c.args.directory.now in
+    let nodes = nodes_in c.args.arena.now in let orders = c.args.self.now in let directory = c.args.directory.now in
     let is = c.of_number.ensures.same_number ∙ c.from.ensures in
     elim c.match-after.branch [
       | in-Some+in_ok-found-in-Some w ↦ (
-          let both = told nodes orders place c.requires.ordered w.in-Some.name.now _
+          let both = told nodes orders directory c.requires.ordered w.in-Some.name.now _
           (λ k. trees.nodes (w.deref.ensures.value k) (c.of-order.ensures k)) w.first_after.result w.first_after.ensures in
-          some_told nodes c.args.after (Some w.in-Some.name.now) (in_order orders place) w.first_after.result _ c.of_number.result
+          some_told nodes c.args.after (Some w.in-Some.name.now) (in_order orders directory) w.first_after.result _ c.of_number.result
           (ap (option_map (λ name. name.now)) w.in-Some.is) (w.in_ok-found-in-Some.was) (is ∙ w.found-is) both)
       | in-None+in_ok-found-in-None w ↦ (
-          let same : trees.nodes w.deref-in-None.result.now c.of-order.result ≡ in_order orders place =
+          let same : trees.nodes w.deref-in-None.result.now c.of-order.result ≡ in_order orders directory =
           λ k. trees.nodes (w.deref-in-None.ensures.value k) (c.of-order.ensures k) in
-          let both = first_least nodes (in_order orders place) (c.requires.ordered.rising place) w.first.result (w.first.ensures
+          let both = first_least nodes (in_order orders directory) (c.requires.ordered.rising directory) w.first.result (w.first.ensures
           ∙ ap (λ l. slice_get l 0) same) in
-          some_told nodes c.args.after None (in_order orders place) w.first.result _ c.of_number.result (ap (option_map (λ name. name.now)) w.in-None.is)
+          some_told nodes c.args.after None (in_order orders directory) w.first.result _ c.of_number.result (ap (option_map (λ name. name.now)) w.in-None.is)
           (w.in_ok-found-in-None.was) (is ∙ w.found-is) both)
     ]

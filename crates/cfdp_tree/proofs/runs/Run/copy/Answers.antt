@@ -18,15 +18,15 @@ after-from-requires-clause-held c =
     let q = 120 * l.target.index + c.args.at % 120 in
     let keeps : KeepsFront run q c.args.source.now c.args.len = (λ same. let r = c.requires.source_stays same in (r.0, omega (arith, r.1, inv.target_index))) in
     let within : q ≤ length (octets_of_run l.arena run) = omega (arith, inv.target_index, length-run l.arena run.first 0 run.count run.first inv.held.parts) in
-    front_held l.arena c.copy_block.new.arena run c.args.source.now q c.args.len _ keeps e.held e.octets within e.places e.others inv.source
+    front_held l.arena c.copy_block.new.arena run c.args.source.now q c.args.len _ keeps e.held e.octets within e.sequence e.others inv.source
 
-pub after-from-requires-clause-place : goal.after-from-requires-clause-place
-after-from-requires-clause-place c =
+pub after-from-requires-clause-cursor : goal.after-from-requires-clause-cursor
+after-from-requires-clause-cursor c =
     let l = c.loop-index in let inv = l.invariant in let run = c.args.self.now in let e = c.copy_block.ensures in
     let q = 120 * l.target.index + c.args.at % 120 in
     let keeps : KeepsFront run q c.args.source.now c.args.len = (λ same. let r = c.requires.source_stays same in (r.0, omega (arith, r.1, inv.target_index))) in
     let within : q ≤ length (octets_of_run l.arena run) = omega (arith, inv.target_index, length-run l.arena run.first 0 run.count run.first inv.held.parts) in
-    let still = front_nth l.arena c.copy_block.new.arena run c.args.source.now q c.args.len _ keeps e.held e.octets within e.places e.others inv.source in
+    let still = front_nth l.arena c.copy_block.new.arena run c.args.source.now q c.args.len _ keeps e.held e.octets within e.sequence e.others inv.source in
     (inv.from.0, inv.from.1 ∙ sym (still l.from.index inv.from.0))
 
 pub loop-index-preserved : goal.loop-index-preserved
@@ -52,13 +52,13 @@ loop-index-preserved c =
           ∙ (λ k. overwritten (inv.octets k) (120 * inv.target_index k + at % 120) (part k))
           ∙ (λ k. overwritten (overwritten old at (take (min len (120 * i)) src)) p (slice_range src (120 * inv.from_index k) (120 * inv.from_index k + n)))
           ∙ step_copy old src at len i n p (omega (arith, old_long)) (omega (arith, long)) (omega arith) (omega arith) p_is;
-      target = c.after-target.ensures.place;
+      target = c.after-target.ensures.cursor;
       target_index = omega (arith, c.after-target.ensures.index, inv.target_index);
-      source = front_held l.arena after run source q len _ keeps e.held e.octets within e.places e.others inv.source;
-      source_octets = front_take l.arena after run source q len _ keeps e.held e.octets within e.places e.others inv.source ∙ inv.source_octets;
-      from = c.after-from.ensures.place;
+      source = front_held l.arena after run source q len _ keeps e.held e.octets within e.sequence e.others inv.source;
+      source_octets = front_take l.arena after run source q len _ keeps e.held e.octets within e.sequence e.others inv.source ∙ inv.source_octets;
+      from = c.after-from.ensures.cursor;
       from_index = omega (arith, c.after-from.ensures.index, inv.from_index);
-      places = (λ k within. e.places k within ∙ inv.places k within);
+      sequence = (λ k within. e.sequence k within ∙ inv.sequence k within);
       free = e.free ∙ inv.free;
       size = e.size ∙ inv.size;
       others = others_then a l.arena after run inv.others e.others;

@@ -16,7 +16,7 @@ invariant-loop-index l = record {
   source_octets : take l.len (octets_of_run l.arena l.source) ≡ take l.len (octets_of_run l.fn.arena l.source);
   from : IsAt l.arena l.source l.from;
   from_index : l.from.index ≡ l.index;
-  places : (k : ℕ) → k ≤ l.self.count → nth l.arena l.self.first k ≡ nth l.fn.arena l.self.first k;
+  sequence : (k : ℕ) → k ≤ l.self.count → nth l.arena l.self.first k ≡ nth l.fn.arena l.self.first k;
   free : free_count l.arena ≡ free_count l.fn.arena;
   size : length l.arena ≡ length l.fn.arena;
   others : OtherRunsStay l.fn.arena l.arena l.self;

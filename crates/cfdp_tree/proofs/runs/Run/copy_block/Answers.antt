@@ -11,14 +11,14 @@ pub copy_in-requires-3-clause-source : goal.copy_in-requires-3-clause-source
 copy_in-requires-3-clause-source c =
     let r = c.requires in let run = c.args.self.now in let a = c.args.arena.now in let e = c.copy_in-2.ensures in
     let old_long = length-run a run.first 0 run.count run.first r.held.parts in
-    front_held a c.copy_in-2.new.arena run c.args.source.now _ _ _ r.source_stays e.held e.octets (omega (arith, old_long)) e.places e.others r.source
+    front_held a c.copy_in-2.new.arena run c.args.source.now _ _ _ r.source_stays e.held e.octets (omega (arith, old_long)) e.sequence e.others r.source
 
 pub copy_in-requires-3-clause-from : goal.copy_in-requires-3-clause-from
 copy_in-requires-3-clause-from c =
     let r = c.requires in let run = c.args.self.now in let a = c.args.arena.now in let e = c.copy_in-2.ensures in
     let old_long = length-run a run.first 0 run.count run.first r.held.parts in
     let still = front_nth a c.copy_in-2.new.arena run c.args.source.now _ _ _ r.source_stays e.held e.octets
-    (omega (arith, old_long)) e.places e.others r.source in
+    (omega (arith, old_long)) e.sequence e.others r.source in
     (r.from.0, r.from.1 ∙ sym (still c.args.from.now.index r.from.0))
 
 pub returns-clause-octets : goal.returns-clause-octets
@@ -32,7 +32,7 @@ returns-clause-octets c =
     let long = length-run a source.first 0 source.count source.first r.source.parts in
     let old_long = length-run a run.first 0 run.count run.first r.held.parts in
     let within : p ≤ length old = omega (arith, old_long) in
-    let same = front_take a c.copy_in-2.new.arena run source p (base + n) _ r.source_stays e.held e.octets within e.places e.others r.source in
+    let same = front_take a c.copy_in-2.new.arena run source p (base + n) _ r.source_stays e.held e.octets within e.sequence e.others r.source in
     let start = base + room in
     let rest : slice_range (octets_of_run c.copy_in-2.new.arena source) start (start + (n - room)) ≡ slice_range src start (start + (n - room)) =
     slice-first (octets_of_run c.copy_in-2.new.arena source) src (base + n) start (start + (n - room)) (omega arith) same in

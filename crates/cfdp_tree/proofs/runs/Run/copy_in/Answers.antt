@@ -50,7 +50,7 @@ returns c =
       octets = ap (λ x. octets_of_run x run) target
           ∙ put_octets a run r.held t.index r.to_within t.block r.to.1 new whole same at part fits (payload-part old at part to.whole)
           ∙ ap (λ xs. overwritten (octets_of_run a run) (120 * t.index + at) xs) (part_is ∙ sym (slice_is (octets_of_run a source) start (start + n) n refl));
-      places = (λ k le. ap (λ x. nth x run.first k) target ∙ put_nth a run r.held t.index r.to_within t.block r.to.1 new whole same k le);
+      sequence = (λ k le. ap (λ x. nth x run.first k) target ∙ put_nth a run r.held t.index r.to_within t.block r.to.1 new whole same k le);
       free = ap free_count target ∙ free_count-written a t.block new to.live;
       size = ap length target ∙ length-set a t.block (Some new);
       others = subst (λ x. OtherRunsStay a x run) (sym target) (put_others a run r.held t.index r.to_within t.block r.to.1 new whole same);

@@ -9,7 +9,7 @@ use Rattle.cfdp_tree.proofs.runs.Run.get_in.Goals as goal
 
 pub bytes-requires : goal.bytes-requires
 bytes-requires c = let r = c.requires in let k = c.args.cursor.now in
-    record { live = (held_part c.args.arena.now c.args.self.now r.held k.index r.within k.block r.place.1).live }
+    record { live = (held_part c.args.arena.now c.args.self.now r.held k.index r.within k.block r.cursor.1).live }
 
 pub returns : goal.returns
 returns c = let r = c.requires in let k = c.args.cursor.now in let a = c.args.arena.now in let run = c.args.self.now in
@@ -17,6 +17,6 @@ returns c = let r = c.requires in let k = c.args.cursor.now in let a = c.args.ar
     c.get_part.ensures
     ∙ slice_is (payload c.bytes.result.now) at (at + n) n refl
     ∙ ap (λ o. take n (drop at (payload o))) (octets_are a k.block _ c.bytes.ensures.octets)
-    ∙ ap (λ b. take n (drop at (payload (octets (octets_at a b))))) r.place.1
+    ∙ ap (λ b. take n (drop at (payload (octets (octets_at a b))))) r.cursor.1
     ∙ sym (run_slice a run.first 0 run.count run.first k.index at n (120 * k.index + at) r.held.parts r.within r.fits refl)
     ∙ sym (slice_is (octets_of_run a run) (120 * k.index + at) (120 * k.index + at + n) n refl)

@@ -18,7 +18,7 @@ invariant-loop-block l = record {
   others : OtherRunsStay l.fn.arena l.arena l.self;
   first : 0 < l.fn.self.count → l.self.first ≡ l.fn.self.first;
   fresh : l.fn.self.count ≡ 0 → 0 < l._block → octets_at l.fn.arena l.self.first ≡ None;
-  places : (k : ℕ) → k < l.fn.self.count → nth l.arena l.self.first k ≡ nth l.fn.arena l.fn.self.first k;
+  sequence : (k : ℕ) → k < l.fn.self.count → nth l.arena l.self.first k ≡ nth l.fn.arena l.fn.self.first k;
   nodes : nodes_in l.arena ≡ nodes_in l.fn.arena;
   live : StayLive l.fn.arena l.arena;
   ways : HasWays l.arena l.ways l.self;

@@ -4,7 +4,7 @@ use Rattle.cfdp_arena.specs.Arena.{octets_at, with_block}
 use Rattle.cfdp_tree.specs.declared.runs.Run.{Run}
 use Rattle.cfdp_tree.specs.code.Block.{block_header, payload, linked}
 use Rattle.cfdp_tree.proofs.OfRuns.HeldLaws.{octets_are}
-use Rattle.cfdp_tree.proofs.OfRuns.GrowLaws.{taken_octets, taken_written, grown_last_live, grown_held, grown_octets, grown_others, grown_free, grown_size, grown_places, grown_nodes, grown_live}
+use Rattle.cfdp_tree.proofs.OfRuns.GrowLaws.{taken_octets, taken_written, grown_last_live, grown_held, grown_octets, grown_others, grown_free, grown_size, grown_sequence, grown_nodes, grown_live}
 use Rattle.cfdp_tree.proofs.runs.Run.lengthen.Goals as goal
 
 pub bytes_mut-requires-2 : goal.bytes_mut-requires-2
@@ -45,7 +45,8 @@ returns c =
       others = grown_others a begun b t.ensures.was_free t.ensures.within run.first run.count fresh is c.set_tag.ensures.whole before c.set_tag.ensures.header
           zeros run c.requires.held c.requires.some refl refl new c.set_next.ensures.whole link same;
       first = refl;
-      places = grown_places a begun b t.ensures.was_free t.ensures.within run.first run.count fresh is c.set_tag.ensures.whole before c.set_tag.ensures.header
+      sequence = grown_sequence a begun b t.ensures.was_free t.ensures.within run.first run.count fresh is c.set_tag.ensures.whole before
+          c.set_tag.ensures.header
           zeros run c.requires.held c.requires.some refl refl new c.set_next.ensures.whole link same after refl;
       nodes = grown_nodes a begun b t.ensures.was_free t.ensures.within run.first run.count fresh is c.set_tag.ensures.whole before c.set_tag.ensures.header
           zeros run c.requires.held c.requires.some refl refl new c.set_next.ensures.whole link same;

@@ -15,14 +15,14 @@ parts-preserved c =
     let whole : length piece ≡ count = omega (arith, c.get_in.auto.buffer, length-take {A = ℕ}, length-drop {A = ℕ}, begins, ends) in
     let next = inv.next (omega (arith, less, l.auto.buffer)) in
     let piece_is : piece ≡ take count (drop (at + l.filled) all) =
-    c.get_in.ensures ∙ slice_is all (120 * l.cursor.index + l.place) _ count (omega (arith, c.get_in.auto.buffer, whole))
+    c.get_in.ensures ∙ slice_is all (120 * l.cursor.index + l.block_offset) _ count (omega (arith, c.get_in.auto.buffer, whole))
     ∙ ap (λ n. take count (drop n all)) next in
     let read = step_read all l.buffer piece at l.filled count inv.octets piece_is whole (omega (arith, upto, ends)) in
     record {
       within = omega (arith, l.auto.buffer, ends);
       octets = subst (λ n. take n (put_mid l.filled (n - l.filled) l.buffer piece) ≡ take n (drop at all)) upto read;
-      place = c.after-cursor.ensures.place;
+      cursor = c.after-cursor.ensures.cursor;
       inside = omega arith;
       next = (λ more. omega (arith, more, l.auto.buffer, c.min-stop.ensures, next, inv.inside, less, c.after-cursor.ensures.index));
-      last = inv.place;
+      last = inv.cursor;
     }

@@ -6,9 +6,9 @@ abbrev pub invariant-parts : goal.invariant-parts
 invariant-parts l = record {
   within : l.filled ≤ length l.fn.buffer;
   octets : take l.filled l.buffer ≡ take l.filled (drop l.at (octets_of_run l.arena l.self));
-  place : IsAt l.arena l.self l.cursor;
-  inside : l.place < 120;
-  next : l.filled < length l.fn.buffer → 120 * l.cursor.index + l.place ≡ l.at + l.filled;
+  cursor : IsAt l.arena l.self l.cursor;
+  inside : l.block_offset < 120;
+  next : l.filled < length l.fn.buffer → 120 * l.cursor.index + l.block_offset ≡ l.at + l.filled;
   last : IsAt l.arena l.self l.last;
 }
 

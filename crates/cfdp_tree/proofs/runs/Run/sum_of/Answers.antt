@@ -13,7 +13,7 @@ parts-init c =
       fewer = omega arith;
       sum = sym (none_summed c.args.offset (drop at (octets_of_run c.args.arena.now c.args.self.now)) (len - len) (omega arith));
       offset = omega arith;
-      place = c.requires.first;
+      cursor = c.requires.first;
       inside = omega arith;
       next = (λ some. omega (arith, c.requires.index));
     }
@@ -33,7 +33,7 @@ parts-preserved c =
           (omega (arith, length-run c.args.arena.now run.first 0 run.count run.first c.requires.held.parts, c.requires.range, fewer, inv.fewer)) inv.sum part
           ∙ ap (λ n. checksum_at offset (take n (drop at all))) later;
       offset = omega (arith, inv.offset, fewer, inv.fewer);
-      place = c.after-cursor.ensures.place;
+      cursor = c.after-cursor.ensures.cursor;
       inside = omega arith;
       next = (λ more. omega (arith, more, c.min-count.ensures, next, inv.inside, inv.fewer, c.after-cursor.ensures.index));
     }

@@ -8,9 +8,9 @@ invariant-parts l = record {
   fewer : l.left ≤ l.len;
   sum : l.sum ≡ checksum_at l.fn.offset (take (l.len - l.left) (drop l.at (octets_of_run l.arena l.self)));
   offset : l.offset ≡ l.fn.offset + (l.len - l.left);
-  place : IsAt l.arena l.self l.cursor;
-  inside : l.place < 120;
-  next : 0 < l.left → 120 * l.cursor.index + l.place ≡ l.at + (l.len - l.left);
+  cursor : IsAt l.arena l.self l.cursor;
+  inside : l.block_offset < 120;
+  next : 0 < l.left → 120 * l.cursor.index + l.block_offset ≡ l.at + (l.len - l.left);
 }
 
 abbrev pub decreases-parts : goal.decreases-parts

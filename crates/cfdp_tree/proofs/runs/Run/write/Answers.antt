@@ -21,18 +21,18 @@ parts-preserved c =
       fewer = omega (arith, left, inv.fewer);
       rest = parts.back ∙ ap (drop count) inv.rest ∙ drop-drop count done octets ∙ ap (λ n. drop n octets) later;
       octets = put.octets
-          ∙ (λ k. overwritten (inv.octets k) (120 * l.cursor.index + l.place) (parts.front k))
-          ∙ step_write (octets_of_run a run) octets l.rest.now at done count (120 * l.cursor.index + l.place)
+          ∙ (λ k. overwritten (inv.octets k) (120 * l.cursor.index + l.block_offset) (parts.front k))
+          ∙ step_write (octets_of_run a run) octets l.rest.now at done count (120 * l.cursor.index + l.block_offset)
           (omega (arith, length-run a run.first 0 run.count run.first c.requires.held.parts, c.requires.range)) (omega (arith, fewer, inv.fewer)) inv.rest
           (inv.next some)
           ∙ ap (λ n. overwritten (octets_of_run a run) at (take n octets)) later;
-      place = c.after-cursor.ensures.place;
+      cursor = c.after-cursor.ensures.cursor;
       inside = omega arith;
       next = (λ more. omega (arith, more, left, c.min.ensures, inv.next some, inv.inside, inv.fewer, c.after-cursor.ensures.index));
-      last = (inv.place.0, inv.place.1 ∙ sym (put.places l.cursor.index inv.place.0));
+      last = (inv.cursor.0, inv.cursor.1 ∙ sym (put.sequence l.cursor.index inv.cursor.0));
       free = put.free ∙ inv.free;
       size = put.size ∙ inv.size;
       others = others_then a l.arena c.put_in.new.arena run inv.others put.others;
-      places = (λ k within. put.places k within ∙ inv.places k within);
+      sequence = (λ k within. put.sequence k within ∙ inv.sequence k within);
       nodes = put.nodes ∙ inv.nodes;
     }

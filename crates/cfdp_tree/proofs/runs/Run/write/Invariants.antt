@@ -11,14 +11,14 @@ invariant-parts l = record {
   fewer : length l.rest ≤ length l.octets;
   rest : l.rest ≡ drop (length l.octets - length l.rest) l.octets;
   octets : octets_of_run l.arena l.self ≡ overwritten (octets_of_run l.fn.arena l.self) l.at (take (length l.octets - length l.rest) l.octets);
-  place : IsAt l.arena l.self l.cursor;
-  inside : l.place < 120;
-  next : 0 < length l.rest → 120 * l.cursor.index + l.place ≡ l.at + (length l.octets - length l.rest);
+  cursor : IsAt l.arena l.self l.cursor;
+  inside : l.block_offset < 120;
+  next : 0 < length l.rest → 120 * l.cursor.index + l.block_offset ≡ l.at + (length l.octets - length l.rest);
   last : IsAt l.arena l.self l.last;
   free : free_count l.arena ≡ free_count l.fn.arena;
   size : length l.arena ≡ length l.fn.arena;
   others : OtherRunsStay l.fn.arena l.arena l.self;
-  places : (k : ℕ) → k ≤ l.self.count → nth l.arena l.self.first k ≡ nth l.fn.arena l.self.first k;
+  sequence : (k : ℕ) → k ≤ l.self.count → nth l.arena l.self.first k ≡ nth l.fn.arena l.self.first k;
   nodes : nodes_in l.arena ≡ nodes_in l.fn.arena;
 }
 

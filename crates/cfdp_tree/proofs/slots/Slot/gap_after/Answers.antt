@@ -1,5 +1,5 @@
 use Rattle.std.proofs.Common.{refl}
-use Rattle.cfdp_tree.proofs.OfStore.SlotPlaces.{gap_written}
+use Rattle.cfdp_tree.proofs.OfStore.SlotCursors.{gap_written}
 use Rattle.cfdp_tree.proofs.slots.Slot.gap_after.Goals as goal
 
 pub returns-clause-blank : goal.returns-clause-blank

@@ -18,7 +18,7 @@ nothing octets at end blank = sym (ap (checksum_at at) blank.zeros ∙ none-adde
 
 pub returns-then-self-start : goal.returns-then-self-start
 returns-then-self-start c =
-    let slot = c.args.self.now in let r = c.requires in let octets = contents_in c.args.arena.now slot.contents in let known = r.placed.unwritten in
+    let slot = c.args.self.now in let r = c.requires in let octets = contents_in c.args.arena.now slot.contents in let known = r.sound.unwritten in
     let there : Gap = record { from = c.args.at; to = c.args.end } in
     nothing octets c.args.at c.args.end (elim c.then-self-start.branch [
       | then-self-start-via-then-self-start w ↦ part_blank octets (blank_end slot) known.end there w.if-self-start.true r.ordered r.range

@@ -4,7 +4,7 @@ use Rattle.cfdp_actions.specs.Filestore.{File, Becomes, Stages, file_octets_at, 
 use Rattle.cfdp_actions.specs.Store.{with_changes}
 use Rattle.cfdp_tree.specs.declared.contents.Contents.{Contents}
 use Rattle.cfdp_tree.specs.code.Nodes.{nodes_in}
-use Rattle.cfdp_tree.proofs.OfStore.SlotPlaces.{slot_starts}
+use Rattle.cfdp_tree.proofs.OfStore.SlotCursors.{slot_starts}
 use Rattle.cfdp_tree.proofs.OfStore.SeenLaws.{slot_filled}
 use Rattle.cfdp_tree.proofs.OfStore.FoundLaws.{file_found, file_most}
 use Rattle.cfdp_tree.proofs.OfStore.ExchangeLaws.{exchange_store, exchange_seen}

@@ -8,9 +8,9 @@ use Rattle.cfdp_tree.proofs.OfStore.MakeLaws.{tree_made, index_made, make_view, 
 use Rattle.std.proofs.Math.ListN.{get_or-map}
 use Rattle.cfdp_arena.specs.Arena.{octets_of}
 use Rattle.cfdp_tree.specs.code.Orders.{IsInOrders}
-use Rattle.cfdp_tree.proofs.OfNodes.LinkLaws.{relinked_places}
+use Rattle.cfdp_tree.proofs.OfNodes.LinkLaws.{relinked_entries}
 use Rattle.cfdp_tree.proofs.OfIndex.OutLaws.{nodes_long}
-use Rattle.cfdp_tree.proofs.OfOrders.OrderedLaws.{kept_places, ordered_kept, ordered_made}
+use Rattle.cfdp_tree.proofs.OfOrders.OrderedLaws.{kept_entries, ordered_kept, ordered_made}
 use Rattle.cfdp_tree.proofs.tree_store.TreeStore.make_node.Goals as goal
 
 pub enter-requires-clause-tree : goal.enter-requires-clause-tree
@@ -64,8 +64,8 @@ invariant_of-self c =
           (linked.size ∙ made.capacity) (ap (λ n. n + 1) linked.free ∙ made.taken));
       ordered = ordered_kept (nodes_in c.create_node-node.new.arena) (nodes_in later) c.enter.new.self None
           (nodes_long c.create_node-node.new.arena later linked.size)
-          (kept_places (nodes_in c.create_node-node.new.arena) (nodes_in later) None
-          (relinked_places (nodes_in c.create_node-node.new.arena) (nodes_in later) linked.links)) c.enter.ensures;
+          (kept_entries (nodes_in c.create_node-node.new.arena) (nodes_in later) None
+          (relinked_entries (nodes_in c.create_node-node.new.arena) (nodes_in later) linked.links)) c.enter.ensures;
     }
 
 pub returns : goal.returns

@@ -7,11 +7,11 @@ use Rattle.cfdp_tree.specs.code.Nodes.{nodes_in}
 use Rattle.cfdp_tree.specs.code.Tree.{IsNode, path_of_node}
 use Rattle.cfdp_tree.specs.code.Orders.{in_order}
 use Rattle.cfdp_tree.specs.code.Walk.{walks, walk_from, most_names_in, StandAt}
-use Rattle.cfdp_tree.specs.code.Survey.{IsNodeSurvey}
+use Rattle.cfdp_tree.specs.code.NodesBelow.{AreNodesBelow}
 use Rattle.cfdp_tree.proofs.OfStore.SeenLaws.{shows, seen_none}
-use Rattle.cfdp_tree.proofs.OfWalks.WalkLaws.{place_deep, one_deeper}
+use Rattle.cfdp_tree.proofs.OfWalks.WalkLaws.{directory_deep, one_deeper}
 use Rattle.cfdp_tree.proofs.OfWalks.DeepestLaws.{deepest_is}
-use Rattle.cfdp_tree.proofs.OfWalks.SurveyLaws.{survey_from}
+use Rattle.cfdp_tree.proofs.OfWalks.NodesBelowLaws.{nodes_from}
 use Rattle.cfdp_tree.proofs.tree_store.TreeStoreFilestore.deepest.Goals as goal
 
 there : (found : Option ℕ) (P : Type 0) (A : Type 0) (o : Option A) → IfNone found P → (P → o ≡ None) → IsSome o → IsSome found
@@ -35,7 +35,7 @@ deepest_in-below-requires-clause-deep c =
     let nodes = nodes_in c.self.inside.arena in let orders = c.self.inside.orders in let b = c.unwrap-node.result in let path = c.args.path.now in
     let way = subst (λ r. IfSome r (λ b. path_of_node nodes b ≡ path)) c.unwrap-node.ensures c.find_path.ensures.path in
     subst (λ (o : Order). StandAt nodes (c.depth-depth.result + 1) (trees.nodes orders.links.items o)) (sym c.of-entries.ensures)
-    (place_deep nodes c.self.invariant.store.kept.tree orders c.self.invariant.ordered (Some b) c.depth-depth.result (ap length way
+    (directory_deep nodes c.self.invariant.store.kept.tree orders c.self.invariant.ordered (Some b) c.depth-depth.result (ap length way
     ∙ sym c.depth-depth.ensures.depth))
 
 some_node : (P : ℕ → Type 0) (b : ℕ) → P b → (d : ℕ) → Some b ≡ Some d → P d
@@ -52,11 +52,11 @@ returns-clause-value c =
     let node = subst (λ r. IfSome r (λ b. IsNode nodes b)) c.unwrap-node.ensures c.find_path.ensures.node in
     let way = subst (λ r. IfSome r (λ b. path_of_node nodes b ≡ path)) c.unwrap-node.ensures c.find_path.ensures.path in
     let long : length (path_of_node nodes b) ≡ depth = ap length way ∙ sym c.depth-depth.ensures.depth in
-    let survey = survey_from nodes tree orders c.self.invariant.ordered (Some b) depth (some_node (IsNode nodes) b node) long in
+    let nodes_below = nodes_from nodes tree orders c.self.invariant.ordered (Some b) depth (some_node (IsNode nodes) b node) long in
     let below : c.deepest_in-below.result ≡ most_names_in nodes (walks orders (8 - depth) (in_order orders (Some b))) =
     c.deepest_in-below.ensures.value
     ∙ ap (most_names_in nodes) (one_deeper orders depth (trees.nodes orders.links.items c.of-entries.result)
     ∙ ap (λ (o : Order). walks orders (8 - depth) (trees.nodes orders.links.items o)) c.of-entries.ensures) in
     c.max.ensures ∙ (λ k. max (sym long k) (below k))
     ∙ deepest_is nodes arena c.args.self.now.filestore (shows _ _ _ c.self.invariant.store _ c.self.view_is) path (walk_from orders depth (Some b))
-    (subst (λ p. IsNodeSurvey nodes p (walk_from orders depth (Some b))) way survey)
+    (subst (λ p. AreNodesBelow nodes p (walk_from orders depth (Some b))) way nodes_below)

@@ -11,7 +11,7 @@ use Rattle.cfdp_tree.specs.code.Nodes.{nodes_in}
 use Rattle.cfdp_tree.specs.code.Orders.{in_order}
 use Rattle.cfdp_tree.specs.code.Walk.{walks_at, most_names_in, StandAt}
 use Rattle.cfdp_tree.proofs.OfStore.SeenLaws.{shows}
-use Rattle.cfdp_tree.proofs.OfWalks.WalkLaws.{place_deep}
+use Rattle.cfdp_tree.proofs.OfWalks.WalkLaws.{directory_deep}
 use Rattle.cfdp_tree.proofs.OfWalks.BesideLaws.{longest_is, absent_longest}
 use Rattle.cfdp_tree.proofs.tree_store.TreeStoreFilestore.deepest_beside.Goals as goal
 
@@ -24,7 +24,8 @@ pub deepest_beside-requires-clause-deep : goal.deepest_beside-requires-clause-de
 deepest_beside-requires-clause-deep c =
     let nodes = nodes_in c.self.inside.arena in let orders = c.self.inside.orders in let path = c.args.path.now in
     subst (λ (o : Order). StandAt nodes (length path + 1) (trees.nodes orders.links.items o)) (sym c.of-entries.ensures)
-    (place_deep nodes c.self.invariant.store.kept.tree orders c.self.invariant.ordered (Some c.in-Some.node) (length path) (ap length c.in-Some.ensures.path))
+    (directory_deep nodes c.self.invariant.store.kept.tree orders c.self.invariant.ordered (Some c.in-Some.node) (length path)
+    (ap length c.in-Some.ensures.path))
 
 pub deepest_in-requires-clause-order : goal.deepest_in-requires-clause-order
 deepest_in-requires-clause-order c =
@@ -36,7 +37,8 @@ deepest_in-requires-clause-deep c =
     let nodes = nodes_in c.self.inside.arena in let orders = c.self.inside.orders in let path = c.args.path.now in
     subst (λ n. StandAt nodes (n + 1) (trees.nodes orders.links.items c.of-entries.result)) (sym c.depth.ensures.depth)
     (subst (λ (o : Order). StandAt nodes (length path + 1) (trees.nodes orders.links.items o)) (sym c.of-entries.ensures)
-    (place_deep nodes c.self.invariant.store.kept.tree orders c.self.invariant.ordered (Some c.in-Some.node) (length path) (ap length c.in-Some.ensures.path)))
+    (directory_deep nodes c.self.invariant.store.kept.tree orders c.self.invariant.ordered (Some c.in-Some.node) (length path)
+    (ap length c.in-Some.ensures.path)))
 
 no_others : (xs : List Path) → (length xs == 0) ≡ true → xs ≡ []
 no_others [] e = refl

@@ -7,7 +7,7 @@ use Rattle.cfdp_tree.specs.code.Beside.{is_entry_beside}
 use Rattle.cfdp_tree.specs.code.Nodes.{nodes_in}
 use Rattle.cfdp_tree.specs.code.Walk.{StandAt}
 use Rattle.cfdp_tree.proofs.OfStore.SeenLaws.{shows}
-use Rattle.cfdp_tree.proofs.OfWalks.WalkLaws.{place_deep}
+use Rattle.cfdp_tree.proofs.OfWalks.WalkLaws.{directory_deep}
 use Rattle.cfdp_tree.proofs.OfWalks.BesideLaws.{any_is, absent_any}
 use Rattle.cfdp_tree.proofs.tree_store.TreeStoreFilestore.has_beside.Goals as goal
 
@@ -20,7 +20,8 @@ pub any_beside-requires-clause-deep : goal.any_beside-requires-clause-deep
 any_beside-requires-clause-deep c =
     let nodes = nodes_in c.self.inside.arena in let orders = c.self.inside.orders in let path = c.args.path.now in
     subst (λ (o : Order). StandAt nodes (length path + 1) (trees.nodes orders.links.items o)) (sym c.of-entries.ensures)
-    (place_deep nodes c.self.invariant.store.kept.tree orders c.self.invariant.ordered (Some c.in-Some.node) (length path) (ap length c.in-Some.ensures.path))
+    (directory_deep nodes c.self.invariant.store.kept.tree orders c.self.invariant.ordered (Some c.in-Some.node) (length path)
+    (ap length c.in-Some.ensures.path))
 
 pub returns-in-Some : goal.returns-in-Some
 returns-in-Some c =

@@ -14,7 +14,7 @@ use Rattle.cfdp_tree.proofs.OfStore.AlikeLaws.{runs_then}
 use Rattle.cfdp_tree.proofs.OfStore.DropLaws.{seen_found, held_filled, held_by_node, held_small, weight_is, node_name, alike_two, tree_one, index_one, entry_one, drop_view, drop_store}
 use Rattle.cfdp_tree.specs.code.Orders.{IsInOrders}
 use Rattle.cfdp_tree.proofs.OfIndex.OutLaws.{nodes_long}
-use Rattle.cfdp_tree.proofs.OfOrders.OrderedLaws.{kept_places, ordered_kept, ordered_gone}
+use Rattle.cfdp_tree.proofs.OfOrders.OrderedLaws.{kept_entries, ordered_kept, ordered_gone}
 use Rattle.cfdp_tree.proofs.tree_store.TreeStoreFilestore.remove.Goals as goal
 
 pub unwrap-node-requires : goal.unwrap-node-requires
@@ -87,7 +87,7 @@ invariant_of-self c =
     let two = c.remove.new.arena in
     let alike = alike_two _ _ _ c.self.invariant.store _ c.self.view_is path b node way one c.release.ensures.nodes two c.remove.ensures.links in
     let out = ordered_kept (nodes_in arena) (nodes_in two) c.leave.new.self (Some b) (nodes_long arena two (c.remove.ensures.size ∙ c.release.ensures.capacity))
-    (kept_places (nodes_in arena) (nodes_in two) (Some b) alike.places) c.leave.ensures in
+    (kept_entries (nodes_in arena) (nodes_in two) (Some b) alike.entries) c.leave.ensures in
     record {
       store = subst (λ hs. IsStore later c.self.inside.ways.items hs c.self.inside.slots.items) (sym heads)
           (drop_store _ _ _ c.self.invariant.store _ c.self.view_is path b node way c.release.new.arena c.release.ensures.nodes
@@ -98,7 +98,7 @@ invariant_of-self c =
           (c.delete_node.ensures.capacity ∙ c.remove.ensures.size ∙ c.release.ensures.capacity)
           (omega (arith, c.delete_node.ensures.freed, c.remove.ensures.free, c.release.ensures.freed, ap (λ (x : Contents). blocks_of x.size) held)));
       ordered = subst (λ ns. IsInOrders ns c.leave.new.self None) (sym c.delete_node.ensures.nodes)
-          (ordered_gone (nodes_in two) c.leave.new.self b (alike.places.nodes b ∙ node) out);
+          (ordered_gone (nodes_in two) c.leave.new.self b (alike.entries.nodes b ∙ node) out);
     }
 
 pub returns-clause-ticks : goal.returns-clause-ticks

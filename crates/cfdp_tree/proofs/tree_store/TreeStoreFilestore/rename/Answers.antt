@@ -10,10 +10,10 @@ use Rattle.cfdp_tree.proofs.OfNodes.TreeLaws.{node_octets}
 use Rattle.cfdp_tree.proofs.OfIndex.OutLaws.{nodes_long}
 use Rattle.cfdp_tree.proofs.OfStore.AlikeLaws.{alike_relinked, runs_then}
 use Rattle.cfdp_tree.proofs.OfStore.DropLaws.{seen_found, tree_one, index_one, entry_one, node_name, alike_two}
-use Rattle.cfdp_tree.proofs.OfStore.ShiftLaws.{place_nodes, place_other, tree_three, index_three, entry_three, shift_view, shift_store}
+use Rattle.cfdp_tree.proofs.OfStore.ShiftLaws.{directory_nodes, directory_other, tree_three, index_three, entry_three, shift_view, shift_store}
 use Rattle.cfdp_arena.specs.Arena.{octets_of}
 use Rattle.cfdp_tree.specs.code.Orders.{IsInOrders}
-use Rattle.cfdp_tree.proofs.OfOrders.OrderedLaws.{kept_places, ordered_kept, ordered_moved}
+use Rattle.cfdp_tree.proofs.OfOrders.OrderedLaws.{kept_entries, ordered_kept, ordered_moved}
 use Rattle.cfdp_tree.proofs.tree_store.TreeStoreFilestore.rename.Goals as goal
 
 pub unwrap-node-requires : goal.unwrap-node-requires
@@ -59,7 +59,7 @@ rename_node-requires-clause-directory c =
     let arena = c.self.inside.arena in let b = c.unwrap-node.result in let p = c.args.from.now in let q = c.args.to.now in
     let node = subst (λ r. IfSome r (λ x. IsNode (nodes_in arena) x)) c.unwrap-node.ensures c.find_path.ensures.node in
     let way = subst (λ r. IfSome r (λ x. path_of_node (nodes_in arena) x ≡ p)) c.unwrap-node.ensures c.find_path.ensures.path in
-    place_nodes _ _ _ c.self.invariant.store _ c.self.view_is p b node way q c.depth-depth.ensures.within _
+    directory_nodes _ _ _ c.self.invariant.store _ c.self.view_is p b node way q c.depth-depth.ensures.within _
     (omega (arith, c.depth-depth.ensures.depth, c.depth-depth.ensures.within.some)) c.requires.parent
     c.lookup.result c.lookup.ensures.node c.lookup.ensures.path c.lookup.ensures.none c.name-new_name.result.now c.name-new_name.ensures.name c.requires.apart
     c.remove.new.arena (alike_two _ _ _ c.self.invariant.store _ c.self.view_is p b node way arena refl c.remove.new.arena c.remove.ensures.links)
@@ -69,7 +69,7 @@ rename_node-requires-clause-apart c =
     let arena = c.self.inside.arena in let b = c.unwrap-node.result in let p = c.args.from.now in let q = c.args.to.now in
     let node = subst (λ r. IfSome r (λ x. IsNode (nodes_in arena) x)) c.unwrap-node.ensures c.find_path.ensures.node in
     let way = subst (λ r. IfSome r (λ x. path_of_node (nodes_in arena) x ≡ p)) c.unwrap-node.ensures c.find_path.ensures.path in
-    place_other _ _ _ c.self.invariant.store _ c.self.view_is p b node way q c.depth-depth.ensures.within _
+    directory_other _ _ _ c.self.invariant.store _ c.self.view_is p b node way q c.depth-depth.ensures.within _
     (omega (arith, c.depth-depth.ensures.depth, c.depth-depth.ensures.within.some)) c.requires.parent
     c.lookup.result c.lookup.ensures.node c.lookup.ensures.path c.lookup.ensures.none c.name-new_name.result.now c.name-new_name.ensures.name c.requires.apart
 
@@ -95,7 +95,7 @@ enter-requires-clause-ordered c =
     subst (λ ns. IsInOrders ns c.leave.new.self (Some b)) (sym c.rename_node.ensures.nodes)
     (ordered_moved (nodes_in two) c.leave.new.self b (octets_of (nodes_in c.rename_node.new.arena) b)
     (ordered_kept (nodes_in arena) (nodes_in two) c.leave.new.self (Some b) (nodes_long arena two c.remove.ensures.size)
-    (kept_places (nodes_in arena) (nodes_in two) (Some b) alike.places) c.leave.ensures))
+    (kept_entries (nodes_in arena) (nodes_in two) (Some b) alike.entries) c.leave.ensures))
 
 pub insert-requires-clause-tree : goal.insert-requires-clause-tree
 insert-requires-clause-tree c =
@@ -157,7 +157,7 @@ invariant_of-self c =
           c.rename_node.ensures.whole c.requires.absent c.requires.depth
           later alike runs c.insert.new.heads c.insert.ensures.index long free);
       ordered = ordered_kept (nodes_in three) (nodes_in later) c.enter.new.self None (nodes_long three later c.insert.ensures.size)
-          (kept_places (nodes_in three) (nodes_in later) None alike.places) c.enter.ensures;
+          (kept_entries (nodes_in three) (nodes_in later) None alike.entries) c.enter.ensures;
     }
 
 pub returns-clause-moved : goal.returns-clause-moved

@@ -68,7 +68,7 @@ invariant_of-self c =
       store = subst (λ ws. IsStore c.extend.new.arena ws c.self.inside.heads.items (set c.self.inside.slots.items c.from.result c.extend.new.self)) (sym ways)
           (slot_store c.self.inside.arena c.extend.new.arena c.self.inside.heads.items c.self.inside.slots.items c.self.invariant.store c.from.result
           (omega (arith, c.from.ensures, c.requires.slot))
-          c.index_mut-slot.result.now c.index_mut-slot.ensures.value c.extend.new.self after.nodes after.capacity after.spares after.filled after.placed
+          c.index_mut-slot.result.now c.index_mut-slot.ensures.value c.extend.new.self after.nodes after.capacity after.spares after.filled after.sound
           (taken _ _ _ _ _ after.taken after.size)
           c.extend.new.ways after.ways
           (subst (λ ws. KeepsWays c.self.inside.arena c.extend.new.arena ws c.extend.new.ways c.index_mut-slot.result.now.contents.run)
@@ -92,7 +92,7 @@ returns-clause-extended c =
     let was = seen_staged _ _ _ c.self.invariant.store _ c.self.view_is c.args.slot c.requires.slot slot is in
     slot_changes c.self.inside.arena c.extend.new.arena c.self.inside.heads.items c.self.inside.slots.items c.self.invariant.store c.from.result
     (omega (arith, c.from.ensures, c.requires.slot))
-    slot c.index_mut-slot.ensures.value c.extend.new.self after.nodes after.capacity after.spares after.filled after.placed
+    slot c.index_mut-slot.ensures.value c.extend.new.self after.nodes after.capacity after.spares after.filled after.sound
     (taken _ _ _ _ _ after.taken after.size)
     c.args.self.now c.self.view_is c.args.slot c.from.ensures (extended (staged_in c.args.self.now.filestore c.args.slot) c.args.size)
     (after.octets ∙ ap (λ octets. extended octets c.args.size) (sym was))

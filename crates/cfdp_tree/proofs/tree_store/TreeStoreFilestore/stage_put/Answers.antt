@@ -38,7 +38,7 @@ invariant_of-self c =
     record {
       store = slot_store c.self.inside.arena c.put.new.arena c.self.inside.heads.items c.self.inside.slots.items c.self.invariant.store c.from.result
           (omega (arith, c.from.ensures, c.requires.slot))
-          c.index_mut-slot.result.now c.index_mut-slot.ensures.value c.put.new.self after.nodes after.capacity after.spares after.filled after.placed
+          c.index_mut-slot.result.now c.index_mut-slot.ensures.value c.put.new.self after.nodes after.capacity after.spares after.filled after.sound
           (same_taken _ _ c.index_mut-slot.result.now.contents c.put.new.self.contents after.free after.size)
           c.self.inside.ways.items (subst (λ ws. HasWays c.put.new.arena ws c.put.new.self.contents.run) c.deref.ensures.value after.ways)
           (subst (λ ws. KeepsWays c.self.inside.arena c.put.new.arena ws ws c.index_mut-slot.result.now.contents.run) c.deref.ensures.value after.other_ways);
@@ -53,7 +53,7 @@ returns c =
     let was = seen_staged _ _ _ c.self.invariant.store _ c.self.view_is c.args.slot c.requires.slot slot is in
     slot_changes c.self.inside.arena c.put.new.arena c.self.inside.heads.items c.self.inside.slots.items c.self.invariant.store c.from.result
     (omega (arith, c.from.ensures, c.requires.slot))
-    slot c.index_mut-slot.ensures.value c.put.new.self after.nodes after.capacity after.spares after.filled after.placed
+    slot c.index_mut-slot.ensures.value c.put.new.self after.nodes after.capacity after.spares after.filled after.sound
     (same_taken _ _ slot.contents c.put.new.self.contents after.free after.size)
     c.args.self.now c.self.view_is c.args.slot c.from.ensures (overwritten (staged_in c.args.self.now.filestore c.args.slot) c.args.at c.args.octets.now)
     (after.octets ∙ ap (λ list. overwritten list c.args.at c.args.octets.now) (sym was))

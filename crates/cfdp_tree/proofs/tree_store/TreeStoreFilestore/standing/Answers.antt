@@ -12,10 +12,10 @@ use Rattle.cfdp_tree.specs.code.Nodes.{nodes_in}
 use Rattle.cfdp_tree.specs.code.Tree.{IsNode}
 use Rattle.cfdp_tree.specs.code.Orders.{order_at, in_order}
 use Rattle.cfdp_tree.specs.code.Walk.{walk_from}
-use Rattle.cfdp_tree.specs.code.Survey.{IsNodeSurvey, shown_node, IsSoundNode}
+use Rattle.cfdp_tree.specs.code.NodesBelow.{AreNodesBelow, shown_node, IsSoundNode}
 use Rattle.cfdp_tree.proofs.OfNodes.AloneLaws.{alone_tree}
 use Rattle.cfdp_tree.proofs.OfStore.SeenLaws.{shows}
-use Rattle.cfdp_tree.proofs.OfWalks.SurveyLaws.{survey_from, survey_rising}
+use Rattle.cfdp_tree.proofs.OfWalks.NodesBelowLaws.{nodes_from, nodes_rising}
 use Rattle.cfdp_tree.proofs.OfWalks.InOrderLaws.{found_tree, told_tree}
 use Rattle.cfdp_tree.proofs.OfStore.SoundLaws.{items_are, under_nodes, node_sound, found_sound, none_under}
 use Rattle.cfdp_tree.proofs.tree_store.TreeStoreFilestore.standing.Goals as goal
@@ -30,11 +30,11 @@ pub standings-requires : goal.standings-requires
 standings-requires c =
     let nodes = nodes_in c.self.inside.arena in let orders = c.self.inside.orders in let b = c.in-Some.node in let depth = c.depth.result in let list =
     walk_from orders depth (Some b) in
-    let survey = survey_from nodes c.self.invariant.store.kept.tree orders c.self.invariant.ordered (Some b) depth
+    let nodes_below = nodes_from nodes c.self.invariant.store.kept.tree orders c.self.invariant.ordered (Some b) depth
     (some_node (IsNode nodes) b c.in-Some.ensures.node) (ap length c.in-Some.ensures.path ∙ sym c.depth.ensures.depth) in
     record {
       sound = found_sound _ _ _ c.self.invariant.store _ c.self.view_is list c.in_ok-found.found.items
-          (under_nodes nodes _ list survey) c.in_ok-found.ensures;
+          (under_nodes nodes _ list nodes_below) c.in_ok-found.ensures;
     }
 
 pub returns : goal.returns
@@ -44,9 +44,9 @@ returns c =
     let tree = c.self.invariant.store.kept.tree in let ordered = c.self.invariant.ordered in let list = walk_from orders depth (Some b) in let found =
     c.in_ok-found.found.items in let F = c.args.self.now.filestore in
     let node = some_node (IsNode nodes) b c.in-Some.ensures.node in
-    let survey = survey_from nodes tree orders ordered (Some b) depth node (ap length c.in-Some.ensures.path ∙ sym c.depth.ensures.depth) in
-    let told = told_tree nodes tree path list (subst (λ p. IsNodeSurvey nodes p list) c.in-Some.ensures.path survey)
-    (survey_rising nodes tree orders ordered (Some b) depth node) found c.in_ok-found.ensures
+    let nodes_below = nodes_from nodes tree orders ordered (Some b) depth node (ap length c.in-Some.ensures.path ∙ sym c.depth.ensures.depth) in
+    let told = told_tree nodes tree path list (subst (λ p. AreNodesBelow nodes p list) c.in-Some.ensures.path nodes_below)
+    (nodes_rising nodes tree orders ordered (Some b) depth node) found c.in_ok-found.ensures
     arena F (shows _ _ _ c.self.invariant.store _ c.self.view_is) in
     items_are (λ (v : Vec Standing Global). v.items) c.standings.result (map (λ e. standing_of (shown_node arena nodes e)) found)
     (standings_of F path) c.standings.ensures

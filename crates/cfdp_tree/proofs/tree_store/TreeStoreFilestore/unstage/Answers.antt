@@ -5,10 +5,10 @@ use Rattle.cfdp_tree.specs.declared.contents.Contents.{Contents}
 use Rattle.cfdp_tree.specs.declared.runs.Run.{Run}
 use Rattle.cfdp_tree.specs.declared.slots.Slot.{Slot}
 use Rattle.cfdp_tree.specs.code.Runs.{Spares}
-use Rattle.cfdp_tree.specs.code.Slots.{no_gap, IsPlaced}
+use Rattle.cfdp_tree.specs.code.Slots.{no_gap, IsSoundSlot}
 use Rattle.cfdp_tree.proofs.OfRuns.Filling.{blocks_of-none}
 use Rattle.cfdp_tree.proofs.OfRuns.ContentsLaws.{none_filled, none_contents}
-use Rattle.cfdp_tree.proofs.OfStore.SlotPlaces.{slot_starts}
+use Rattle.cfdp_tree.proofs.OfStore.SlotCursors.{slot_starts}
 use Rattle.cfdp_tree.proofs.OfStore.SeenLaws.{slot_filled, slot_ways, staged_size}
 use Rattle.cfdp_tree.proofs.OfStore.SlotLaws.{slot_changes, slot_store}
 use Rattle.cfdp_tree.proofs.OfRuns.WayLaws.{ways_none, keeps_still}
@@ -29,16 +29,16 @@ record IsEmptied (arena : Blocks) (after : Slot) : Type 0 where
   blocks : after.contents.run.count ≡ 0
   size : after.contents.size ≡ 0
   sum : after.contents.sum ≡ 0
-  placed : IsPlaced arena after
+  sound : IsSoundSlot arena after
 
-emptied : (none : Contents) (after : Slot) → none.run.count ≡ 0 → none.size ≡ 0 → none.sum ≡ 0 → after.contents ≡ none → after.place.block ≡ none.run.first →
-    after.place.index ≡ 0 → after.blank_from ≡ none.size → after.gap ≡ no_gap
+emptied : (none : Contents) (after : Slot) → none.run.count ≡ 0 → none.size ≡ 0 → none.sum ≡ 0 → after.contents ≡ none → after.cursor.block ≡ none.run.first →
+    after.cursor.index ≡ 0 → after.blank_from ≡ none.size → after.gap ≡ no_gap
     → (arena : Blocks) → IsEmptied arena after
 emptied none after blocks size sum holds block index blank gap arena = record {
   blocks = ap (λ (x : Contents). x.run.count) holds ∙ blocks;
   size = ap (λ (x : Contents). x.size) holds ∙ size;
   sum = ap (λ (x : Contents). x.sum) holds ∙ sum;
-  placed = slot_starts arena after (block ∙ ap (λ (x : Contents). x.run.first) (sym holds)) index (blank ∙ ap (λ (x : Contents). x.size) (sym holds)) gap;
+  sound = slot_starts arena after (block ∙ ap (λ (x : Contents). x.run.first) (sym holds)) index (blank ∙ ap (λ (x : Contents). x.size) (sym holds)) gap;
 }
 
 pub release-requires : goal.release-requires
@@ -59,7 +59,7 @@ invariant_of-self c =
       store = slot_store arena later c.self.inside.heads.items c.self.inside.slots.items c.self.invariant.store c.from-index.result
           (omega (arith, c.from-index.ensures, c.requires)) slot c.index.ensures after
           gone.nodes gone.capacity (spares_none arena later slot.contents.run slot.contents.run after.contents.run none.blocks gone.spares)
-          (none_filled later after.contents none.blocks none.size none.sum) none.placed (no_room arena later slot after none.blocks none.size _ _ gone.freed)
+          (none_filled later after.contents none.blocks none.size none.sum) none.sound (no_room arena later slot after none.blocks none.size _ _ gone.freed)
           c.self.inside.ways.items (ways_none later c.self.inside.ways.items after.contents.run (had.long ∙ sym gone.capacity) none.blocks)
           (keeps_still arena later c.self.inside.ways.items slot.contents.run slot.contents.run gone.capacity gone.spares);
       ordered = subst (λ ns. IsInOrders ns c.self.inside.orders None) (sym gone.nodes) c.self.invariant.ordered;
@@ -80,5 +80,5 @@ returns-clause-dropped c =
     slot_changes arena later c.self.inside.heads.items c.self.inside.slots.items c.self.invariant.store c.from-index.result
     (omega (arith, c.from-index.ensures, c.requires)) slot c.index.ensures after
     gone.nodes gone.capacity (spares_none arena later slot.contents.run slot.contents.run after.contents.run none.blocks gone.spares)
-    (none_filled later after.contents none.blocks none.size none.sum) none.placed (no_room arena later slot after none.blocks none.size _ _ gone.freed)
+    (none_filled later after.contents none.blocks none.size none.sum) none.sound (no_room arena later slot after none.blocks none.size _ _ gone.freed)
     c.args.self.now c.self.view_is c.args.slot c.from-index.ensures [] (none_contents later after.contents none.blocks none.size)

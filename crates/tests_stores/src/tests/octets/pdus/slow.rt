@@ -19,10 +19,10 @@ fn octet(octets: &[u8], at: usize) -> u8 {
 // The number in this many octets from an offset on.
 fn number(octets: &[u8], at: usize, len: usize) -> u64 {
     let mut number = 0u64;
-    for place in at..at.wrapping_add(len) {
+    for index in at..at.wrapping_add(len) {
         number = number
             .wrapping_mul(256)
-            .wrapping_add(u64::from(octet(octets, place)));
+            .wrapping_add(u64::from(octet(octets, index)));
     }
     number
 }
