@@ -26,8 +26,9 @@
  * path (those of the requests and of the destination, and each directory above one of them), twice the octets of
  * these paths, and twice those of the names in the Metadata PDU. That is at most 600000 octets for a transaction.
  * While cfdp_receive judges a Metadata PDU with more than 64 filestore requests it also takes, and gives back, 40
- * octets for each of them. A list that changes directories with entries and names what is in them may take more than
- * this sum until it is judged: 890000 octets were counted for one, and no bound of it is known.
+ * octets for each of them. Until a list is judged that changes directories with entries and names what is in them it
+ * also takes up to 480 octets for each path that it sees, and four times the octets of these, as docs/C.md says: so a
+ * Metadata PDU takes at most 5200000 octets, and the most that is known is @SWAPR@.
  * After the last cfdp_take nothing is kept but what cfdp_new took, and a table that grows once, by 57032 octets,
  * where many transactions come and go with more than 32 known at once. examples/c/memory.c counts it.
  *

@@ -648,6 +648,7 @@ static const struct workload workloads[] = {
     {"move-admitted", 70, 30000, 65000, RANDOM, prepare_move, admit, check_move},
     {"moves-admitted", 70, 30000, 65000, RANDOM, prepare_moves, admit, check_moves},
     {"inside-admitted", 70, 30000, 65000, RANDOM, prepare_inside, admit, check_nothing},
+    {"nested-walk", 70, 30000, 60000, RISING, prepare_nested_walk, admit, check_nothing},
     {"move-step", 70, 30000, 65000, RANDOM, prepare_move_step, step_list, check_moved},
     {"move-deeper", 70, 30000, 65000, RANDOM, prepare_deeper, step_list, check_deeper},
     /* the size: blocks of the filestore */
@@ -671,6 +672,8 @@ static const struct workload workloads[] = {
     /* the size: requests of a list */
     {"nested-directories", 1, LIST, LIST, RISING, prepare_nest, admit, check_nothing},
     {"swapped-chains", 4, LIST, LIST, RISING, prepare_chains, admit, check_nothing},
+    /* the size: other directories in each of six */
+    {"other-directories", 4, LIST, LIST, RISING, prepare_other_directories, admit, check_nothing},
     /* the size: other transactions of a receiver */
     {"receiver-metadata", 1, LIVE, LIVE, RISING, prepare_heard_metadata, hear_one, check_receiver},
     {"receiver-data", 1, LIVE, LIVE, RISING, prepare_heard_data, hear_one, check_receiver},

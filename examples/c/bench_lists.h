@@ -189,4 +189,40 @@ static void prepare_chains(uint32_t requests) {
     }
 }
 
+/* Directories, each in the one before it: in each is this many other directories with a file, and the last has this
+ * many files. A list creates a file in each, and then renames the first one. */
+enum { WALKED = 6, WALKED_FILES = 4096, NEIGHBOURS = 16 };
+
+static void put_level(const char *path, uint32_t others) {
+    char text[TEXT];
+    put_text(path, CFDP_ENTRY_DIRECTORY);
+    for (uint32_t other = 0; other < others; other++) {
+        sprintf(text, "%s/a%02u", path, (unsigned)other);
+        put_text(text, CFDP_ENTRY_DIRECTORY);
+        strcat(text, "/x");
+        put_text(text, CFDP_ENTRY_FILE);
+    }
+}
+
+static void prepare_walk(uint32_t others, uint32_t files) {
+    char path[TEXT] = "d", text[TEXT];
+    make_engine(BLOCKS);
+    make_metadata(LIST_NUMBER, 0, "");
+    for (int level = 1; level <= WALKED; level++) {
+        put_level(path, others);
+        sprintf(text, "%s/z", path);
+        add_request(CREATE_FILE, text, NULL);
+        if (level < WALKED) sprintf(path + strlen(path), "/m%d", level);
+    }
+    add_request(RENAME, "d", "e");
+    for (uint32_t file = 0; file < files; file++) {
+        sprintf(text, "%s/f%05u", path, (unsigned)file);
+        put_text(text, CFDP_ENTRY_FILE);
+    }
+}
+
+static void prepare_nested_walk(uint32_t files) { prepare_walk(NEIGHBOURS, files); }
+
+static void prepare_other_directories(uint32_t others) { prepare_walk(others, WALKED_FILES); }
+
 #endif

@@ -3,7 +3,7 @@
  * for itself is not counted.
  *
  * It fails if cfdp_new takes another number of octets than CFDP_NEW_OCTETS says, if a Metadata PDU takes more than
- * docs/C.md says, also one that is refused since it has too many requests and one whose list renames directories that
+ * docs/C.md says, also one that is refused since it has too many requests and two whose lists rename directories that
  * have entries, or if anything is kept after the last outcome was taken. */
 #include "../../include/cfdp.h"
 #include <inttypes.h>
@@ -219,8 +219,20 @@ static size_t put_rename(const struct cfdp_path *from, const struct cfdp_path *t
     return 150 + most_of_path(from) + most_of_path(to) + 2 * (from->length + to->length);
 }
 
-static bool run_nested(void) {
+/* The Metadata PDU of a list of transaction 1/1 begins. */
+static void begin_list(void) {
     static const uint8_t head[] = {0x24, 0, 0, 0x00, 0x01, 1, 0x02, 0x07, 0x40, 0, 0, 0, 0, 0, 0};
+    length = 0;
+    put(head, sizeof head);
+}
+
+/* It ends: its header has its length. */
+static void end_list(void) {
+    pdu[1] = (uint8_t)((length - 7) >> 8);
+    pdu[2] = (uint8_t)(length - 7);
+}
+
+static bool run_nested(void) {
     struct cfdp_reply reply = {0};
     bool right = make_engine(65536, 0);
     for (unsigned directory = 1; directory <= NESTED; directory++) {
@@ -232,8 +244,7 @@ static bool run_nested(void) {
         }
     }
     size_t before = in_use, blocks_before = blocks_in_use, bound = 2000;
-    length = 0;
-    put(head, sizeof head);
+    begin_list();
     for (unsigned request = 0; request < LIST; request++) {
         unsigned file = request / (NESTED + 1), directories = 1 + request % (NESTED + 1);
         char now = file % 2 ? 'e' : 'd', then = file % 2 ? 'd' : 'e';
@@ -242,13 +253,114 @@ static bool run_nested(void) {
         struct cfdp_path to = moves ? nested(then, 1, 0, 0) : nested(now, directories, 'g', file);
         bound += put_rename(&from, &to);
     }
-    pdu[1] = (uint8_t)((length - 7) >> 8);
-    pdu[2] = (uint8_t)(length - 7);
+    end_list();
     most = in_use;
     right &= cfdp_receive(&engine, pdu, length, &reply) == CFDP_ANSWER_DONE && reply.kind == CFDP_REPLY_ADMITTED;
     right &= most - before <= bound;
     printf("64 renames of directories with entries and of files in them, in a PDU of %zu octets: it takes %zu octets"
         " (at most %zu)\n", length, most - before, bound);
+    right &= end(&engine, 1) && in_use == before && blocks_in_use == blocks_before;
+    return cfdp_free(&engine) == CFDP_ANSWER_DONE && in_use == 0 && blocks_in_use == 0 && right;
+}
+
+/* A list that moves a directory to where another one was, renames files there, and moves it to a longer path. Both
+ * directories have the same chains of directories, so that each path that the list names existed under another name
+ * before it. No other list is known that takes as much until it is admitted. */
+enum { RENAMED = LIST - 3, CHAINS = 2 * RENAMED, CHAIN = 5, LONG_NAME = 96 };
+
+/* The path of a directory of a chain, or of a file in it; without directories, of the directory with all chains. That
+ * has the name `a`, or two long names, of which the first ends with `top`. */
+static struct cfdp_path chained(char top, unsigned chain, unsigned directories, const char *file) {
+    struct cfdp_path path = {0};
+    char *octets = (char *)path.octets;
+    if (top == 'a') {
+        octets[path.length++] = top;
+    } else {
+        memset(octets, 'x', 2 * LONG_NAME + 1);
+        octets[LONG_NAME - 1] = top;
+        octets[LONG_NAME] = '/';
+        path.length = 2 * LONG_NAME + 1;
+    }
+    if (directories) {
+        octets[path.length] = '/';
+        memset(octets + path.length + 1, 'z', LONG_NAME);
+        path.length += 1 + LONG_NAME;
+        octets[path.length - 1] = (char)('0' + chain);
+    }
+    for (unsigned level = 1; level < directories; level++)
+        path.length += (uint32_t)sprintf(octets + path.length, "/0");
+    path.length += (uint32_t)sprintf(octets + path.length, "%s", file);
+    return path;
+}
+
+static bool put_entry(struct cfdp_path path, enum cfdp_entry_kind kind) {
+    return cfdp_put(&engine, &path, kind, pdu, 0) == CFDP_ANSWER_DONE;
+}
+
+/* A directory with a long name exists, in which the one of two names can be. */
+static bool put_above(char top) {
+    struct cfdp_path path = chained(top, 0, 0, "");
+    path.length = LONG_NAME;
+    return put_entry(path, CFDP_ENTRY_DIRECTORY);
+}
+
+/* A directory with chains exists, and in each directory a file that the list does not name. */
+static bool put_chains(char top) {
+    bool right = put_entry(chained(top, 0, 0, ""), CFDP_ENTRY_DIRECTORY);
+    right &= put_entry(chained(top, 0, 0, "/~~"), CFDP_ENTRY_FILE);
+    for (unsigned chain = 0; chain < CHAINS; chain++) {
+        for (unsigned directories = 1; directories <= CHAIN; directories++) {
+            right &= put_entry(chained(top, chain, directories, ""), CFDP_ENTRY_DIRECTORY);
+            right &= put_entry(chained(top, chain, directories, "/zz"), CFDP_ENTRY_FILE);
+        }
+        if (top == 'b' && chain % 2 == 0) right &= put_entry(chained(top, chain, CHAIN, "/y"), CFDP_ENTRY_FILE);
+    }
+    return right;
+}
+
+/* The sum of this for the paths of the chains, and of a file in each: so many octets, and so many times its own. */
+static size_t sum_of_chains(char top, size_t each, size_t times) {
+    size_t octets = 0;
+    for (unsigned chain = 0; chain < CHAINS; chain++) {
+        for (unsigned directories = 1; directories <= CHAIN; directories++)
+            octets += each + times * chained(top, chain, directories, "").length;
+        octets += each + times * chained(top, chain, CHAIN, "/y").length;
+    }
+    return octets;
+}
+
+/* Adds the requests, and returns the octets of their names. */
+static size_t put_swap(void) {
+    struct cfdp_path a = chained('a', 0, 0, ""), b = chained('b', 0, 0, "");
+    struct cfdp_path c = chained('c', 0, 0, ""), d = chained('d', 0, 0, "");
+    size_t names = 3 * a.length + b.length + c.length + d.length;
+    put_rename(&a, &c);
+    put_rename(&b, &a);
+    for (unsigned chain = 0; chain < CHAINS; chain += 2) {
+        struct cfdp_path from = chained('a', chain, CHAIN, "/y"), to = chained('a', chain + 1, CHAIN, "/y");
+        names += from.length + to.length;
+        put_rename(&from, &to);
+    }
+    put_rename(&a, &d);
+    return names;
+}
+
+static bool run_swap(void) {
+    struct cfdp_reply reply = {0};
+    bool right = make_engine(65536, 0) && put_above('b') && put_above('c') && put_above('d');
+    right &= put_chains('a') && put_chains('b');
+    size_t before = in_use, blocks_before = blocks_in_use;
+    begin_list();
+    size_t names = put_swap();
+    end_list();
+    size_t tops = 3 * (LONG_NAME + 2 * LONG_NAME + 1) + 1; /* the octets of the other paths, of which there are 7 */
+    size_t kept = 2000 + 150 * LIST + 2 * names + 7 * 300 + 2 * tops + sum_of_chains('a', 300, 2);
+    size_t judged = 2 * sum_of_chains('d', 480, 4) + 7 * 480 + 4 * tops;
+    most = in_use;
+    right &= cfdp_receive(&engine, pdu, length, &reply) == CFDP_ANSWER_DONE && reply.kind == CFDP_REPLY_ADMITTED;
+    right &= most - before <= kept + judged && in_use - before <= kept;
+    printf("64 renames of and in two directories with the same chains, in a PDU of %zu octets: it takes %zu octets"
+        " (at most %zu), and keeps %zu (at most %zu)\n", length, most - before, kept + judged, in_use - before, kept);
     right &= end(&engine, 1) && in_use == before && blocks_in_use == blocks_before;
     return cfdp_free(&engine) == CFDP_ANSWER_DONE && in_use == 0 && blocks_in_use == 0 && right;
 }
@@ -259,16 +371,13 @@ enum { MOST_REQUESTS = 16381, MOST_REFUSED = 40 * MOST_REQUESTS };
 
 /* A list of as many requests as a PDU has room for comes, and is refused. */
 static bool refuse(void) {
-    static const uint8_t head[] = {0x24, 0, 0, 0x00, 0x01, 1, 0x02, 0x07, 0x40, 0, 0, 0, 0, 0, 0};
     static const uint8_t denial[] = {0x00, 2, 0x70, 0};
     struct cfdp_reply reply = {0};
     bool right = make_engine(64, 0);
     size_t before = in_use, blocks_before = blocks_in_use;
-    length = 0;
-    put(head, sizeof head);
+    begin_list();
     for (unsigned request = 0; request < MOST_REQUESTS; request++) put(denial, sizeof denial);
-    pdu[1] = (uint8_t)((length - 7) >> 8);
-    pdu[2] = (uint8_t)(length - 7);
+    end_list();
     most = in_use;
     right &= cfdp_receive(&engine, pdu, length, &reply) == CFDP_ANSWER_DONE && reply.kind == CFDP_REPLY_REFUSED;
     right &= most - before <= MOST_REFUSED && in_use == before && blocks_in_use == blocks_before;
@@ -293,6 +402,7 @@ int main(void) {
     for (size_t i = 0; i < sizeof filestores / sizeof *filestores; i++) right &= measure(filestores[i]);
     for (size_t i = 0; i < sizeof shapes / sizeof *shapes; i++) right &= run(&shapes[i]);
     right &= run_nested();
+    right &= run_swap();
     right &= refuse();
     puts(right ? "nothing is kept after the last take" : "wrong");
     return !right;

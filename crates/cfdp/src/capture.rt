@@ -18,17 +18,17 @@ const PORT: u16 = 4_560;
 
 /// Whether a PDU came to the receiving entity, or was sent by it.
 #[derive(Clone, Copy, Debug, PartialEq, Eq)]
-pub enum Direction {
+pub enum CaptureDirection {
     Came,
     Sent,
 }
 
-impl Direction {
+impl CaptureDirection {
     /// The last octet of the address that a PDU comes from, and of the one that it goes to. Both are in 192.0.2.0/24.
     fn ends(self) -> (u8, u8) {
         match self {
-            Direction::Came => (1, 2),
-            Direction::Sent => (2, 1),
+            CaptureDirection::Came => (1, 2),
+            CaptureDirection::Sent => (2, 1),
         }
     }
 }
@@ -46,7 +46,7 @@ fn checksum(header: &[u8; 20]) -> u16 {
 }
 
 /// The header of a datagram of `len` octets.
-fn datagram(direction: Direction, len: u16) -> [u8; 20] {
+fn datagram(direction: CaptureDirection, len: u16) -> [u8; 20] {
     let [high, low] = len.to_be_bytes();
     let (source, destination) = direction.ends();
     let mut header = [
@@ -84,7 +84,7 @@ fn datagram_len(pdu: &[u8]) -> Option<u16> {
 
 /// Appends the frame of a PDU at a time, in seconds, whose datagram has `len` octets.
 fn push_frame(
-    direction: Direction,
+    direction: CaptureDirection,
     now: u64,
     pdu: &[u8],
     len: u16,
@@ -137,7 +137,7 @@ impl<'a, F: Write + Drop> Capture<'a, F> {
     pub fn pdu(
         &mut self,
         alloc: Global,
-        direction: Direction,
+        direction: CaptureDirection,
         now: u64,
         pdu: &[u8],
     ) -> Result<(), End> {

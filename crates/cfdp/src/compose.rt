@@ -17,7 +17,7 @@ use std::time::Instant;
 
 /// The command that a script is written for.
 #[derive(Clone, Copy)]
-pub enum ScriptCommand {
+pub enum ScriptPlayer {
     /// `cfdpsim replay`.
     Replay,
     /// `cfdp run`: PDUs come one second after the other.
@@ -27,13 +27,13 @@ pub enum ScriptCommand {
 /// Appends the line of a protected path.
 fn push_protected(
     alloc: Global,
-    player: ScriptCommand,
+    player: ScriptPlayer,
     path: &[u8],
     text: &mut Vec<u8>,
 ) -> Result<(), End> {
     match player {
-        ScriptCommand::Replay => push_protect(path, text)?,
-        ScriptCommand::Run => {
+        ScriptPlayer::Replay => push_protect(path, text)?,
+        ScriptPlayer::Run => {
             let mut line = String::from_str(alloc, "protect ")?;
             push_path(alloc, path, &mut line)?;
             line.push('\n')?;
@@ -46,7 +46,7 @@ fn push_protected(
 /// Writes the first lines of a script.
 fn write_head<R: AllocGlobal + Print>(
     rt: &R,
-    player: ScriptCommand,
+    player: ScriptPlayer,
     entity: &EntitySection,
 ) -> Result<(), End> {
     let mut text = Vec::new(rt.alloc());
@@ -115,7 +115,7 @@ fn write_timed<R: AllocGlobal + Print>(rt: &R, upload: &Upload<'_>, now: u64) ->
 /// Writes the uploads of the plan with a name. Where that takes long, it says on standard error how far it is.
 fn write_uploads<R: AllocGlobal + Clock + Eprint + Print>(
     rt: &R,
-    player: ScriptCommand,
+    player: ScriptPlayer,
     name: &str,
     uploads: &[Upload<'_>],
 ) -> Result<(), End> {
@@ -124,8 +124,8 @@ fn write_uploads<R: AllocGlobal + Clock + Eprint + Print>(
     for (index, upload) in uploads.iter().enumerate() {
         let begun = Instant::now(rt);
         match player {
-            ScriptCommand::Replay => write_untimed(rt, upload)?,
-            ScriptCommand::Run => now = write_timed(rt, upload, now)?,
+            ScriptPlayer::Replay => write_untimed(rt, upload)?,
+            ScriptPlayer::Run => now = write_timed(rt, upload, now)?,
         }
         let progress = ProgressReport {
             done: index.saturating_add(1),
@@ -140,7 +140,7 @@ fn write_uploads<R: AllocGlobal + Clock + Eprint + Print>(
 /// Writes the script of the plan with a name.
 fn write<R: AllocGlobal + Clock + Eprint + Print>(
     rt: &R,
-    player: ScriptCommand,
+    player: ScriptPlayer,
     name: &str,
     entity: &EntitySection,
     uploads: &[Upload<'_>],
@@ -156,7 +156,7 @@ fn write<R: AllocGlobal + Clock + Eprint + Print>(
 /// or a file of it cannot be read.
 pub fn run<R: AllocGlobal + Clock + Eprint + Files + Input + Print>(
     rt: &R,
-    player: ScriptCommand,
+    player: ScriptPlayer,
     path: &str,
 ) -> Result<(), End> {
     let alloc = rt.alloc();

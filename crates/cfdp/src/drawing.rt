@@ -47,7 +47,7 @@ const NAMED: [&[u8]; 3] = [b"admitted", b"refused", b"faulted"];
 
 /// What a line hands to the receiving entity.
 #[derive(Drop)]
-enum Input {
+enum DrawnInput {
     /// Octets come.
     Came(Vec<u8>),
     /// The user cancels a transaction.
@@ -60,7 +60,7 @@ enum Input {
 #[derive(Drop)]
 struct Timed {
     now: u64,
-    input: Input,
+    input: DrawnInput,
 }
 
 /// What is said of a transaction at this moment.
@@ -89,15 +89,15 @@ fn input_of(alloc: Global, line: &[u8]) -> Result<Option<Timed>, Full> {
     match read_command(alloc, line, default_mib(), HeadProgress::Playing) {
         Ok(Some(RunCommand::Receive { now, octets })) => Ok(Some(Timed {
             now,
-            input: Input::Came(octets),
+            input: DrawnInput::Came(octets),
         })),
         Ok(Some(RunCommand::Cancel { now, id })) => Ok(Some(Timed {
             now,
-            input: Input::Cancel(id),
+            input: DrawnInput::Cancel(id),
         })),
         Ok(Some(RunCommand::Pass { now })) => Ok(Some(Timed {
             now,
-            input: Input::Passed,
+            input: DrawnInput::Passed,
         })),
         Ok(_) | Err(CommandFault::Wrong(_)) => Ok(None),
         Err(CommandFault::Memory) => Err(Full::Memory),
@@ -221,10 +221,10 @@ impl Drawing {
     }
 
     /// Collects an input, and the lines that it wrote.
-    fn collect(&mut self, alloc: Global, input: Input, text: &[u8]) -> Result<(), Full> {
+    fn collect(&mut self, alloc: Global, input: DrawnInput, text: &[u8]) -> Result<(), Full> {
         self.noted.clear();
         self.cause.clear();
-        let serves = matches!(input, Input::Passed);
+        let serves = matches!(input, DrawnInput::Passed);
         self.input(alloc, input, text)?;
         for line in text.split(|octet| *octet == NEWLINE) {
             self.answer(alloc, serves, read_answer(line))?;
@@ -233,11 +233,11 @@ impl Drawing {
     }
 
     /// Collects an input.
-    fn input(&mut self, alloc: Global, input: Input, text: &[u8]) -> Result<(), Full> {
+    fn input(&mut self, alloc: Global, input: DrawnInput, text: &[u8]) -> Result<(), Full> {
         match input {
-            Input::Came(octets) => self.came(alloc, octets, first_became(text)),
-            Input::Cancel(id) => self.cancel(alloc, id),
-            Input::Passed => Ok(()),
+            DrawnInput::Came(octets) => self.came(alloc, octets, first_became(text)),
+            DrawnInput::Cancel(id) => self.cancel(alloc, id),
+            DrawnInput::Passed => Ok(()),
         }
     }
 

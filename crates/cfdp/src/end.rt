@@ -32,7 +32,7 @@ pub enum End {
     Failed(Vec<u8>),
     /// A line of a script is bad: where, and why.
     Script(Vec<u8>),
-    /// A script expects a line in vain: where, and which one.
+    /// A line that a script expects did not come: where, and which one.
     Unmet(Vec<u8>),
 }
 
@@ -61,7 +61,8 @@ impl End {
         format!(in alloc; "{name}: {what}").map_or(End::Memory, End::Stream)
     }
 
-    /// What is said of a script that stops at a line which is bad or expects something in vain; `None` of another end.
+    /// What is said of a script that stops at a line which is bad or expects something that does not come; `None` of
+    /// another end.
     pub fn stop_of_script(&self) -> Option<&[u8]> {
         match self {
             End::Script(said) | End::Unmet(said) => Some(said),

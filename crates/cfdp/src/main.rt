@@ -23,7 +23,7 @@
 //! What goes wrong is said on standard error, and by the exit status: 1 for a fault of reading, writing or memory, 2
 //! for unknown words, 3 for a line that is not hexadecimal, for a capture that is cut, for something wrong in a plan or
 //! in a setup, for a bad line of a script or one that a picture has no room for, or for a stream that is no PDUs, 4 for
-//! a plan of which a transaction is refused, or for a line that a script expects in vain.
+//! a plan of which a transaction is refused, or for a line that a script expects and that does not come.
 #![tactic(auto)]
 
 mod answers;

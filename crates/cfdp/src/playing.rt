@@ -18,7 +18,7 @@ const PIECE: usize = 65_536;
 
 /// What became of octets of a script.
 #[derive(Clone, Copy)]
-enum Came {
+enum ReadSoFar {
     /// They are a part of a line.
     Part,
     /// A line ended with them, and was carried out.
@@ -149,14 +149,14 @@ impl<'a, R: AllocGlobal + Clock + Eprint + Files, I: Read + Drop> Playing<'a, R,
     }
 
     /// How the script goes on after this answer of the session.
-    fn came_of(&mut self, answer: Result<usize, ScriptStop>) -> Result<Came, End> {
+    fn came_of(&mut self, answer: Result<usize, ScriptStop>) -> Result<ReadSoFar, End> {
         let count = match answer {
             Ok(count) => count,
             Err(stop) => {
                 self.has_ended = true;
                 let number = self.session.number();
                 return match end_of(self.rt.alloc(), self.name, number, stop)? {
-                    None => Ok(Came::Ended),
+                    None => Ok(ReadSoFar::Ended),
                     Some(end) => Err(end),
                 };
             }
@@ -166,13 +166,13 @@ impl<'a, R: AllocGlobal + Clock + Eprint + Files, I: Read + Drop> Playing<'a, R,
         self.line.extend_from_slice(taken)?;
         self.start = end;
         match self.line.last() {
-            Some(&NEWLINE) => Ok(Came::Line),
-            _ => Ok(Came::Part),
+            Some(&NEWLINE) => Ok(ReadSoFar::Line),
+            _ => Ok(ReadSoFar::Part),
         }
     }
 
     /// Takes octets that were read up to the end of a line, or all of them.
-    fn take(&mut self, text: &mut Vec<u8>) -> Result<Came, End> {
+    fn take(&mut self, text: &mut Vec<u8>) -> Result<ReadSoFar, End> {
         let octets = self.buffer.get(self.start..self.end).unwrap_or(&[]);
         let mut files = Named::new(self.rt);
         let answer = hand_on(self.rt.alloc(), &mut self.session, &mut files, octets, text);
@@ -223,9 +223,9 @@ impl<'a, R: AllocGlobal + Clock + Eprint + Files, I: Read + Drop> Playing<'a, R,
                 self.tell(begun);
             }
             match came {
-                Came::Part => {}
-                Came::Line => return Ok(true),
-                Came::Ended => return Ok(false),
+                ReadSoFar::Part => {}
+                ReadSoFar::Line => return Ok(true),
+                ReadSoFar::Ended => return Ok(false),
             }
         }
         Ok(false)

@@ -29,7 +29,7 @@ pub struct LiveOptions<'a> {
 
 /// A live entity between its streams, and the folder of its filestore.
 #[derive(Drop)]
-struct Station<'a, R> {
+struct LiveStation<'a, R> {
     rt: &'a R,
     ticks: MillisecondClock,
     cutter: Cutter,
@@ -91,12 +91,12 @@ fn send<R: Print>(rt: &R, pdus: &[Vec<u8>]) -> Result<(), End> {
     Ok(())
 }
 
-impl<'a, R: AllocGlobal + Clock + Eprint + Files + Print> Station<'a, R> {
+impl<'a, R: AllocGlobal + Clock + Eprint + Files + Print> LiveStation<'a, R> {
     /// Before the first octet.
-    fn new(rt: &'a R, folder: &'a str, live: Live) -> Result<Station<'a, R>, End> {
+    fn new(rt: &'a R, folder: &'a str, live: Live) -> Result<LiveStation<'a, R>, End> {
         let alloc = rt.alloc();
         let mirror = Mirror::new(alloc, folder, live.receiver().entity())?;
-        Ok(Station {
+        Ok(LiveStation {
             rt,
             ticks: MillisecondClock::start(rt)?,
             cutter: Cutter::new(alloc),
@@ -202,7 +202,7 @@ impl<'a, R: AllocGlobal + Clock + Eprint + Files + Print> Station<'a, R> {
 fn serve<R: AllocGlobal + Clock + Eprint + Files + Print + Wait>(
     rt: &R,
     pieces: &Pieces,
-    station: &mut Station<'_, R>,
+    station: &mut LiveStation<'_, R>,
 ) -> Result<(), End> {
     for _ in rt.forever() {
         let patience = station.patience();
@@ -227,7 +227,7 @@ fn begin<R: AllocGlobal + Clone + Drop + Files + Input>(
 /// Starts to read standard input, and receives until it ends.
 fn receive_all<R: AllocGlobal + Runtime + Send + Threads + Wait + 'static>(
     rt: &R,
-    station: &mut Station<'_, R>,
+    station: &mut LiveStation<'_, R>,
 ) -> Result<(), End>
 where
     R::Reader: Send + 'static,
@@ -245,6 +245,6 @@ where
     R::Reader: Send + 'static,
 {
     let live = begin(rt, options)?;
-    let mut station = Station::new(rt, options.into, live)?;
+    let mut station = LiveStation::new(rt, options.into, live)?;
     receive_all(rt, &mut station)
 }

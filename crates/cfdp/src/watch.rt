@@ -1,6 +1,6 @@
 //! What is done beside the text of a script: its PDUs are reported in words, and captured.
 
-use crate::capture::{Capture, Direction};
+use crate::capture::{Capture, CaptureDirection};
 use crate::end::End;
 use cfdp_lines::{LineFault, NEWLINE, decode_words};
 use cfdp_run::{CommandFault, HeadProgress, RunCommand, default_mib, read_command};
@@ -68,13 +68,13 @@ pub fn push_fields(alloc: Global, octets: &mut [u8], out: &mut Vec<u8>) -> Resul
 /// Appends a line with what a PDU says.
 fn push_words(
     alloc: Global,
-    direction: Direction,
+    direction: CaptureDirection,
     octets: &mut [u8],
     out: &mut Vec<u8>,
 ) -> Result<(), AllocError> {
     out.extend_from_slice(match direction {
-        Direction::Came => b"# came: ",
-        Direction::Sent => b"# sent: ",
+        CaptureDirection::Came => b"# came: ",
+        CaptureDirection::Sent => b"# sent: ",
     })?;
     push_fields(alloc, octets, out)?;
     out.extend_from_slice(b"\n")
@@ -104,7 +104,7 @@ impl<'a, F: Write + Drop> PduLog<'a, F> {
     fn pdu(
         &mut self,
         alloc: Global,
-        direction: Direction,
+        direction: CaptureDirection,
         octets: &mut [u8],
         out: &mut Vec<u8>,
     ) -> Result<(), End> {
@@ -123,7 +123,7 @@ impl<'a, F: Write + Drop> PduLog<'a, F> {
             Ok(Some(RunCommand::Receive { now, octets })) => {
                 self.latest = self.latest.max(now);
                 let mut octets = octets;
-                self.pdu(alloc, Direction::Came, &mut octets, out)
+                self.pdu(alloc, CaptureDirection::Came, &mut octets, out)
             }
             Ok(Some(RunCommand::Cancel { now, id: _ } | RunCommand::Pass { now })) => {
                 self.latest = self.latest.max(now);
@@ -142,7 +142,7 @@ impl<'a, F: Write + Drop> PduLog<'a, F> {
             None => Ok(()),
             Some(octets) => {
                 let mut octets = octets;
-                self.pdu(alloc, Direction::Sent, &mut octets, out)
+                self.pdu(alloc, CaptureDirection::Sent, &mut octets, out)
             }
         }
     }

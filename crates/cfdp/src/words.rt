@@ -1,7 +1,7 @@
 //! The words of the command line.
 
 use crate::commands::program;
-use crate::compose::ScriptCommand;
+use crate::compose::ScriptPlayer;
 use crate::disturb::Odds;
 use crate::end::End;
 use crate::receive::LiveOptions;
@@ -21,7 +21,7 @@ pub enum AskedCommand<'a> {
     /// To show the PDUs of this file, or of standard input without one.
     Show(Style, Option<&'a str>),
     /// To write the script of the plan in this file, for this command.
-    Compose(ScriptCommand, &'a str),
+    Compose(ScriptPlayer, &'a str),
     /// To judge the plan in this file, on what this folder has, if there is one.
     Judge(&'a str, Option<&'a str>),
     /// To play the script in this file, or of standard input without one.
@@ -77,9 +77,9 @@ fn refused<'a>(alloc: Global, error: &Error) -> Result<AskedCommand<'a>, End> {
 fn compose<'a>(found: &ArgMatches<'a>) -> Option<AskedCommand<'a>> {
     let plan = found.get_str("PLAN")?;
     let player = if found.get_flag("timed") {
-        ScriptCommand::Run
+        ScriptPlayer::Run
     } else {
-        ScriptCommand::Replay
+        ScriptPlayer::Replay
     };
     Some(AskedCommand::Compose(player, plan))
 }

@@ -9,8 +9,8 @@ ghost use Rattle.cfdp_arena.specs.FreeList.{vacated};
 
 use crate::block_id::BlockId;
 use crate::region::Region;
-use crate::{Block, links};
-use std::alloc::{AllocError, Global};
+use crate::{Block, Memory, links};
+use std::alloc::Global;
 use std::marker::Model;
 
 /// A fixed number of blocks of 128 octets, each of them free or live. A clause sees a list with an entry for each
@@ -57,8 +57,8 @@ impl Arena {
     ///
     /// # Errors
     ///
-    /// [`AllocError`] when out of memory.
-    pub fn new(alloc: Global, blocks: u32) -> Result<Arena, AllocError>
+    /// [`Memory`] when out of memory.
+    pub fn new(alloc: Global, blocks: u32) -> Result<Arena, Memory>
         requires some { 0 < blocks }
         requires at_most { blocks ≤ 65536 }
         ensures all_free { IfOk result (λ arena. arena ≡ all_free blocks) }

@@ -19,6 +19,9 @@ pub use block_id::BlockId;
 #[doc(hidden)]
 pub use region::Region;
 
+/// Out of memory: the one error of `Arena::new`.
+pub type Memory = std::alloc::AllocError;
+
 /// How many octets a block has.
 pub const BLOCK_OCTETS: usize = 128;
 

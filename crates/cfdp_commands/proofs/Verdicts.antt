@@ -7,11 +7,11 @@ use Rattle.cfdp_paths.specs.Faults.{fault_of}
 use Rattle.cfdp_paths.specs.declared.fault.PathFault.{PathFault}
 use Rattle.cfdp_paths.proofs.Faulty.{fault_exactly}
 use Rattle.cfdp_transactions.specs.Config.{Config}
-use Rattle.cfdp_lines.specs.declared.script.LineFault.{LineFault}
-use Rattle.cfdp_lines.specs.declared.script.LineFault.TheVariants.{Bad, Memory}
+use Rattle.cfdp_lines.specs.declared.faults.LineFault.{LineFault}
+use Rattle.cfdp_lines.specs.declared.faults.LineFault.TheVariants.{Bad, Memory}
 use Rattle.cfdp_commands.specs.Commands.{Command, Protect, SaysPdu, protect_by}
 use Rattle.cfdp_commands.specs.Commands as command
-use Rattle.cfdp_commands.specs.Replay.{Stage, line_answered, protected, with_prefix}
+use Rattle.cfdp_commands.specs.Replay.{ReplayStage, line_answered, protected, with_prefix}
 use Rattle.cfdp_commands.specs.Stages.{stage_by}
 use Rattle.cfdp_commands.specs.declared.setup.SetupProgress.{SetupProgress}
 use Rattle.cfdp_commands.specs.declared.setup.SetupProgress.TheVariants.{First, Open, Closed}
@@ -48,7 +48,7 @@ module _ {A T U : Type 0} (answer : Option (Option Command) → Option A) (bad_i
   unread said Bad bad memory = (λ e. ap answer (bad.0 refl) ∙ bad_is, λ none. refl)
   unread said Memory bad memory = (λ e. absurd cc, λ none. absurd (pdu_is said (memory refl) none))
 
-pub pdu_answered : (stage : Stage) (said : Option (Option Command)) → SaysPdu said → line_answered stage said ≢ None
+pub pdu_answered : (stage : ReplayStage) (said : Option (Option Command)) → SaysPdu said → line_answered stage said ≢ None
 pdu_answered stage None pdu none = pdu
 pdu_answered stage (Some None) pdu none = pdu
 pdu_answered stage (Some (Some (command.Config entity blocks cap checks journal))) pdu none = pdu

@@ -1,6 +1,6 @@
 -- What `replay` does: PDUs and local events of one receiving entity, line by line.
 --
---   Stage             before the first event, the configuration so far and whether it may still be given (Preparing);
+--   ReplayStage       before the first event, the configuration so far and whether it may still be given (Preparing);
 --                     and then the world (Running)
 --   at_first          the default configuration, which a script may replace by its first line
 --   configured        the stage after a configuration is given, by its five numbers
@@ -31,31 +31,31 @@ use Rattle.cfdp_commands.specs.Commands as command
 use Rattle.cfdp_texts.specs.Replies.{told_lines, fault_line, not_ours, listing_text}
 use Rattle.cfdp_lines.specs.Report.{Report, script_report}
 
-pub data Stage : Type 0 where
-  Preparing : (is_first : Bool) → Config → Stage
-  Running : World → Stage
+pub data ReplayStage : Type 0 where
+  Preparing : (is_first : Bool) → Config → ReplayStage
+  Running : World → ReplayStage
 
 abbrev pub default_config : Config
 default_config = record { entity = 2; blocks = 64; cap = 2400; checks = 2; journal = 1000; prefixes = [] }
 
-abbrev pub at_first : Stage
+abbrev pub at_first : ReplayStage
 at_first = Preparing true default_config
 
 -- ---- the configuration
 
 -- the numbers are within their limits
-abbrev pub config_without : Option ConfigFault → Config → Option Stage
+abbrev pub config_without : Option ConfigFault → Config → Option ReplayStage
 config_without (Some fault) config = None
 config_without None config = Some (Preparing false config)
 
 -- only the first line that is not passed over may be one
-abbrev pub configured : Stage → (entity blocks cap checks journal : ℕ) → Option Stage
+abbrev pub configured : ReplayStage → (entity blocks cap checks journal : ℕ) → Option ReplayStage
 configured (Preparing true config) entity blocks cap checks journal =
     config_without (config_fault blocks cap checks journal)
     (record { entity = entity; blocks = blocks; cap = cap; checks = checks; journal = journal; prefixes = [] })
 configured stage entity blocks cap checks journal = None
 
-abbrev pub with_prefix : Config → Option Path → Option Stage
+abbrev pub with_prefix : Config → Option Path → Option ReplayStage
 with_prefix config None = None
 with_prefix config (Some path) =
     if nat_lt (length config.prefixes) 8
@@ -63,17 +63,17 @@ with_prefix config (Some path) =
     else None
 
 -- before the first event
-abbrev pub protected : Stage → List ℕ → Option Stage
+abbrev pub protected : ReplayStage → List ℕ → Option ReplayStage
 protected (Preparing is_first config) octets = with_prefix config (path_of octets)
 protected (Running W) octets = None
 
 -- ---- events
 
-abbrev pub stage_world : Stage → World
+abbrev pub stage_world : ReplayStage → World
 stage_world (Preparing is_first config) = start config
 stage_world (Running W) = W
 
-abbrev pub told_events : World → List Event → Stage × List ℕ
+abbrev pub told_events : World → List Event → ReplayStage × List ℕ
 told_events W events = (Running (run W events), told_lines events (replies W events))
 
 -- the first step, and those after it
@@ -86,7 +86,7 @@ unfoldable pub steps_from : ℕ → World → List Event
 steps_from zero W = []
 steps_from (suc more) W = steps_by (next_runnable W.table) (λ id. steps_from more (next W (events.Step id)).0)
 
-abbrev pub read_told : World → Result (Option Event) PduFault → Stage × List ℕ
+abbrev pub read_told : World → Result (Option Event) PduFault → ReplayStage × List ℕ
 read_told W (Err fault) = (Running W, fault_line fault)
 read_told W (Ok None) = (Running W, not_ours)
 read_told W (Ok (Some event)) = told_events W (event ∷ [])
@@ -94,10 +94,10 @@ read_told W (Ok (Some event)) = told_events W (event ∷ [])
 -- ---- lines
 
 -- the configuration and the paths that are protected write nothing
-abbrev pub without_text : {A : Type 0} → Option Stage → Option (Stage × List A)
+abbrev pub without_text : {A : Type 0} → Option ReplayStage → Option (ReplayStage × List A)
 without_text next = option_map (λ stage. (stage, [])) next
 
-abbrev pub obeyed : Stage → Command → Option (Stage × List ℕ)
+abbrev pub obeyed : ReplayStage → Command → Option (ReplayStage × List ℕ)
 obeyed stage (command.Config entity blocks cap checks journal) =
     without_text (configured stage entity blocks cap checks journal)
 obeyed stage (command.Protect octets) = without_text (protected stage octets)
@@ -107,12 +107,12 @@ obeyed stage command.Run = Some (told_events (stage_world stage) (steps_from mos
 obeyed stage command.ListAll = Some (Running (stage_world stage), listing_text (stage_world stage))
 
 -- a bad line, one without words, or a command
-abbrev pub line_answered : Stage → Option (Option Command) → Option (Stage × List ℕ)
+abbrev pub line_answered : ReplayStage → Option (Option Command) → Option (ReplayStage × List ℕ)
 line_answered stage None = None
 line_answered stage (Some None) = Some (stage, [])
 line_answered stage (Some (Some said)) = obeyed stage said
 
-abbrev pub replay_answer : Stage → List ℕ → Option (Stage × List ℕ)
+abbrev pub replay_answer : ReplayStage → List ℕ → Option (ReplayStage × List ℕ)
 replay_answer stage line = line_answered stage (command_in line)
 
 abbrev pub replay_report : List ℕ → Report

@@ -5,7 +5,7 @@
 use Rattle.cfdp_actions.specs.Store.{Store}
 use Rattle.cfdp_actions.specs.declared.filestore.Filestore.{Ghosts}
 use Rattle.cfdp_commands.specs.Plain.{PlainState, plain_state}
-use Rattle.cfdp_commands.specs.Replay.{Stage}
+use Rattle.cfdp_commands.specs.Replay.{ReplayStage}
 use Rattle.cfdp_commands.specs.Stages.{stage_of}
 use Rattle.cfdp_commands.specs.declared.requests.Requests.{Requests}
 use Rattle.cfdp_commands.specs.declared.transfers.Transfers.{Transfers}
@@ -13,5 +13,5 @@ use Rattle.cfdp_commands.specs.declared.transfers.Transfers.{Transfers}
 abbrev pub plain_state_of : {S : Type 0} {G : Ghosts S} → (S → Store) → Requests S G → PlainState
 plain_state_of seen requests = plain_state (seen requests.store) requests.stopped
 
-abbrev pub transfers_of : Transfers → Stage
+abbrev pub transfers_of : Transfers → ReplayStage
 transfers_of transfers = stage_of transfers.stage

@@ -11,17 +11,17 @@ use Rattle.cfdp_commands.specs.declared.setup.SetupProgress.TheVariants.{First, 
 use Rattle.cfdp_commands.specs.declared.setup.Setup.{Setup}
 use Rattle.cfdp_commands.specs.declared.stage.CommandStage.{CommandStage}
 
-abbrev pub stage_by : SetupProgress → Config → spec.Stage
+abbrev pub stage_by : SetupProgress → Config → spec.ReplayStage
 stage_by First config = spec.Preparing true config
 stage_by Open config = spec.Preparing false config
 stage_by Closed config = spec.Running (start config)
 
-abbrev pub setup_of : Setup → spec.Stage
+abbrev pub setup_of : Setup → spec.ReplayStage
 setup_of setup = stage_by setup.progress (record setup.config { prefixes = setup.protected })
 
-abbrev pub stage_by_entity : spec.Stage → Option World → spec.Stage
+abbrev pub stage_by_entity : spec.ReplayStage → Option World → spec.ReplayStage
 stage_by_entity before None = before
 stage_by_entity before (Some W) = spec.Running W
 
-abbrev pub stage_of : CommandStage → spec.Stage
+abbrev pub stage_of : CommandStage → spec.ReplayStage
 stage_of stage = stage_by_entity (setup_of stage.setup) stage.entity

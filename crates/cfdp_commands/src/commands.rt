@@ -3,7 +3,7 @@ ghost use Rattle.std.specs.Prelude.{◌≡◌, ◌↔◌, Some, None, Err, IfOk,
 ghost use Rattle.cfdp_commands.specs.Commands.{IsPdu, SaysPdu, without_words, command_by, command_in, command_of, config_by, keyword_of, local_by, local_event, pdu_by, protect_by};
 ghost use Rattle.cfdp_lines.specs.Hexadecimal.{octets_of_words};
 ghost use Rattle.cfdp_lines.specs.Words.{id_by, numbers_of, words_of};
-ghost use Rattle.cfdp_lines.specs.declared.script.LineFault.TheVariants.{Bad};
+ghost use Rattle.cfdp_lines.specs.declared.faults.LineFault.TheVariants.{Bad};
 
 use cfdp_lines::{LineFault, decode_within, decode_words, id_in, next_word, numbers_of};
 use cfdp_paths::Names;

@@ -1,7 +1,7 @@
 //! Filestore requests in lists, performed on one filestore (CCSDS 727.0-B-5, filestore procedures).
 ghost use Rattle.std.specs.Prelude.{◌≡◌, ◌≤◌, ◌++◌, ℕ, List, false, length, Some, Ok, IfOk, OnOk, OnErr, Err};
 ghost use Rattle.cfdp_commands.specs.Plain.{plain_blocks, performed_on, plain_answer};
-ghost use Rattle.cfdp_lines.specs.declared.script.LineFault.TheVariants.{Bad};
+ghost use Rattle.cfdp_lines.specs.declared.faults.LineFault.TheVariants.{Bad};
 
 use crate::request_lines::{NoRequest, read_line, write_answer};
 use cfdp_actions::{Filestore, Protected, perform};

@@ -4,7 +4,7 @@ ghost use Rattle.cfdp_transactions.specs.Config.{config_fault};
 ghost use Rattle.cfdp_transactions.specs.World.{start};
 ghost use Rattle.cfdp_commands.specs.Replay.{Running, at_first, configured, default_config, protected, stage_world};
 ghost use Rattle.cfdp_commands.specs.Stages.{setup_of};
-ghost use Rattle.cfdp_lines.specs.declared.script.LineFault.TheVariants.{Bad};
+ghost use Rattle.cfdp_lines.specs.declared.faults.LineFault.TheVariants.{Bad};
 
 use cfdp_actions::Protected;
 use cfdp_lines::LineFault;

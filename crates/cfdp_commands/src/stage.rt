@@ -3,7 +3,7 @@ ghost use Rattle.std.specs.Prelude.{◌≡◌, ◌↔◌, [], None, Some, OnOk, 
 ghost use Rattle.cfdp_commands.specs.Commands.{command_of};
 ghost use Rattle.cfdp_commands.specs.Replay.{Running as IsRunning, at_first, obeyed, stage_world};
 ghost use Rattle.cfdp_commands.specs.Stages.{setup_of, stage_of};
-ghost use Rattle.cfdp_lines.specs.declared.script.LineFault.TheVariants.{Bad};
+ghost use Rattle.cfdp_lines.specs.declared.faults.LineFault.TheVariants.{Bad};
 
 use crate::commands::Command;
 use crate::setup::Setup;

@@ -33,10 +33,10 @@ impl Transfers {
 }
 
 impl Script for Transfers {
-    ghost use Rattle.cfdp_commands.specs.Replay.{Stage, replay_answer};
+    ghost use Rattle.cfdp_commands.specs.Replay.{ReplayStage, replay_answer};
     ghost use Rattle.cfdp_commands.specs.Scripts.{transfers_of};
 
-    ghost State = { Stage };
+    ghost State = { ReplayStage };
 
     ghost state = { λ s. transfers_of s };
 

@@ -30,7 +30,7 @@ use std::rt::Env;
 
 /// What PDUs are handed to, and what else is asked for.
 #[derive(Clone, Copy, PartialEq, Eq)]
-enum Way {
+enum Route {
     Entity(Whose),
     Receiver(NakMode, Whose),
     /// The deadline of a receiver is asked for, too.
@@ -46,7 +46,11 @@ fn main(rt: HostRuntime) -> ExitCode {
         );
         return ExitCode::from(2);
     };
-    let wanted = if way == Way::Stranger { 0 } else { plan.count };
+    let wanted = if way == Route::Stranger {
+        0
+    } else {
+        plan.count
+    };
     match run(rt.alloc(), way, plan) {
         Ok(tally) => {
             let _ = println!(rt; "{} transactions: {tally}", plan.sessions);
@@ -64,22 +68,22 @@ fn main(rt: HostRuntime) -> ExitCode {
 }
 
 /// Hands all PDUs in, this way.
-fn run(alloc: Global, way: Way, plan: Workload) -> Result<CallTally, CostFault> {
+fn run(alloc: Global, way: Route, plan: Workload) -> Result<CallTally, CostFault> {
     let mut entity = hearing::entity(alloc)?;
     let nak_mode = match way {
-        Way::Entity(_) => return count::<Entity>(alloc, &mut entity, plan),
-        Way::Receiver(nak_mode, _) => nak_mode,
-        Way::Deadline | Way::Stranger => NakMode::Deferred,
+        Route::Entity(_) => return count::<Entity>(alloc, &mut entity, plan),
+        Route::Receiver(nak_mode, _) => nak_mode,
+        Route::Deadline | Route::Stranger => NakMode::Deferred,
     };
     let mut receiver = hearing::receiver(alloc, entity, nak_mode)?;
-    if way == Way::Stranger {
+    if way == Route::Stranger {
         hearing::close_names(alloc, &mut receiver)?;
     }
     count::<Receiver>(alloc, &mut receiver, plan)
 }
 
 /// What the command line asks for.
-fn read_words<R: AllocGlobal + Env>(rt: &R) -> Option<(Way, Workload)> {
+fn read_words<R: AllocGlobal + Env>(rt: &R) -> Option<(Route, Workload)> {
     let words: Vec<String> = env::args(rt).ok()?.collect(rt.alloc()).ok()?;
     let (way, sessions, count) = match words.as_slice() {
         [_, way, sessions, count] => (way_of(way.as_str(), "")?, sessions, count),
@@ -90,24 +94,24 @@ fn read_words<R: AllocGlobal + Env>(rt: &R) -> Option<(Way, Workload)> {
         sessions: number_of(sessions.as_str(), 64)?,
         count: number_of(count.as_str(), 7_800)?,
         whose: match way {
-            Way::Entity(whose) | Way::Receiver(_, whose) => whose,
-            Way::Deadline => Whose::Last,
-            Way::Stranger => Whose::Stranger,
+            Route::Entity(whose) | Route::Receiver(_, whose) => whose,
+            Route::Deadline => Whose::Last,
+            Route::Stranger => Whose::Stranger,
         },
-        asks_deadline: way == Way::Deadline,
+        asks_deadline: way == Route::Deadline,
     };
     Some((way, plan))
 }
 
-fn way_of(word: &str, mode: &str) -> Option<Way> {
+fn way_of(word: &str, mode: &str) -> Option<Route> {
     match (word, mode) {
-        ("entity", "") => Some(Way::Entity(Whose::Last)),
-        ("entity", "each") => Some(Way::Entity(Whose::Each)),
-        ("receiver", "") => Some(Way::Receiver(NakMode::Deferred, Whose::Last)),
-        ("receiver", "each") => Some(Way::Receiver(NakMode::Deferred, Whose::Each)),
-        ("receiver", "immediate") => Some(Way::Receiver(NakMode::Immediate, Whose::Last)),
-        ("receiver", "deadline") => Some(Way::Deadline),
-        ("receiver", "stranger") => Some(Way::Stranger),
+        ("entity", "") => Some(Route::Entity(Whose::Last)),
+        ("entity", "each") => Some(Route::Entity(Whose::Each)),
+        ("receiver", "") => Some(Route::Receiver(NakMode::Deferred, Whose::Last)),
+        ("receiver", "each") => Some(Route::Receiver(NakMode::Deferred, Whose::Each)),
+        ("receiver", "immediate") => Some(Route::Receiver(NakMode::Immediate, Whose::Last)),
+        ("receiver", "deadline") => Some(Route::Deadline),
+        ("receiver", "stranger") => Some(Route::Stranger),
         _ => None,
     }
 }

@@ -18,7 +18,7 @@ pub const MOST_MARKS: u32 = 20_000;
 pub const MOST_NOTES: usize = 99;
 
 /// Octets of a file: where they begin, and where they end.
-pub type Range = (u64, u64);
+pub type OctetRange = (u64, u64);
 
 /// A mark in a lane: a PDU, a timer, or a cancel.
 #[derive(Debug, Drop)]
@@ -46,7 +46,7 @@ pub struct Received {
     /// The end of the last octet, as an offset.
     pub end: u64,
     /// What is missing, in order.
-    pub gaps: Vec<Range>,
+    pub gaps: Vec<OctetRange>,
 }
 
 /// This much of a file is there from here on. `None`: none of it is kept.

@@ -4,7 +4,7 @@ ghost use Rattle.std.specs.Prelude.{◌≡◌, ◌≤◌, ◌^◌, ◌++◌, OnO
 ghost use Rattle.cfdp_draw.specs.Lanes.{end_text, file_text, files_text, gap_text, id_text, lane_opening, lane_text, lane_name_text, phase_label, phase_shape, phases_text, received_text, span_of, title_text, top_of, until_file, until_phase};
 
 use crate::axis::{AxisPosition, level_of, right_of, x_of};
-use crate::chart::{FileChange, Lane, PhaseChange, Range, Received};
+use crate::chart::{FileChange, Lane, OctetRange, PhaseChange, Received};
 use crate::kinds::DrawnPhase;
 use crate::marks::push_marks;
 use crate::shapes::{
@@ -124,7 +124,7 @@ fn push_gap(
     size: u64,
     end: u64,
     span: Span,
-    gap: Range,
+    gap: OctetRange,
     text: &mut Vec<u8>,
 ) -> Result<(), AllocError>
     ensures { OnOk result (text.new.items ≡ text.old.items ++ gap_text size end span gap) }
@@ -148,7 +148,7 @@ fn push_gaps(
     size: u64,
     end: u64,
     span: Span,
-    gaps: &[Range],
+    gaps: &[OctetRange],
     text: &mut Vec<u8>,
 ) -> Result<(), AllocError>
     ensures { OnOk result (text.new.items ≡ text.old.items ++ flat_map (gap_text size end span) gaps.now) }

@@ -24,7 +24,7 @@ mod words;
 pub use axis::AxisPosition;
 pub use chart::{
     Blocks, Chart, FileChange, Full, Lane, MOST_LANES, MOST_MARKS, MOST_MOMENTS, MOST_NOTES, Mark,
-    Moment, Note, PhaseChange, Range, Received,
+    Moment, Note, OctetRange, PhaseChange, Received,
 };
 pub use collecting::Seen;
 pub use kinds::{Direction, DrawnPhase, MarkKind};

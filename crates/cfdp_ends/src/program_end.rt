@@ -13,7 +13,7 @@ use thiserror::Error;
 pub enum ProgramEnd {
     /// The whole input was run.
     Fine,
-    /// The words of the command line are none that the program knows.
+    /// The command line has words that the program does not know.
     Usage,
     /// The run stopped before its end.
     Run(RunFault),

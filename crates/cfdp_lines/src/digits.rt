@@ -4,9 +4,9 @@ ghost use Rattle.hex.specs.Hex.{decode_of, is_hex_digit};
 ghost use Rattle.std.specs.List.{list_all};
 ghost use Rattle.cfdp_lines.specs.code.Digits.{AreSixteenOctets, ArePairs, AreNibbles, AreValues, value_of};
 ghost use Rattle.cfdp_lines.specs.code.Hexadecimal.{octets_or_none};
-ghost use Rattle.cfdp_lines.specs.declared.script.LineFault.TheVariants.{Bad};
+ghost use Rattle.cfdp_lines.specs.declared.faults.LineFault.TheVariants.{Bad};
 
-use crate::script::LineFault;
+use crate::faults::LineFault;
 use std::simd::prelude::*;
 
 /// For each octet the value of the digit that it is, or 255 where it is none.

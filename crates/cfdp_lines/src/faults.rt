@@ -1,8 +1,28 @@
-//! Why a run of a script can stop before its end.
+//! Why a line has no answer, and why a run of a script can stop before its end.
 
 use crate::fault_lines::{LinkLine, RunLine};
 use std::alloc::AllocError;
 use thiserror::Error;
+
+/// Why a line has no answer.
+#[derive(Clone, Copy, Debug, PartialEq, Eq)]
+pub enum LineFault {
+    /// It is a bad line.
+    Bad,
+    /// Memory was refused.
+    Memory,
+}
+
+impl From<AllocError> for LineFault {
+    ghost use Rattle.std.specs.Prelude.{◌≡◌};
+    ghost use Rattle.cfdp_lines.specs.declared.faults.LineFault.TheVariants.{Memory};
+
+    ghost from_gives = { λ _ e. e ≡ Memory };
+
+    fn from(_e: AllocError) -> LineFault {
+        LineFault::Memory
+    }
+}
 
 /// Why a run of a script stopped before its end. Its text is that of [`RunLine`].
 #[derive(Clone, Copy, Debug, PartialEq, Eq, Drop, Error)]

@@ -4,10 +4,10 @@ ghost use Rattle.hex.specs.Hex.{decode_of};
 ghost use Rattle.cfdp_lines.specs.Hexadecimal.{hex_octets, octets_of_words};
 ghost use Rattle.cfdp_lines.specs.code.Hexadecimal.{octets_or_none};
 ghost use Rattle.cfdp_lines.specs.Words.{words_of};
-ghost use Rattle.cfdp_lines.specs.declared.script.LineFault.TheVariants.{Bad};
+ghost use Rattle.cfdp_lines.specs.declared.faults.LineFault.TheVariants.{Bad};
 
 use crate::digits::{decode_into, is_decodable};
-use crate::script::LineFault;
+use crate::faults::LineFault;
 use crate::words::skip_spaces;
 use memchr::memchr;
 

@@ -1,29 +1,10 @@
 //! What a kind of script is: how one line of it is answered.
 ghost use Rattle.std.specs.Prelude.{◌≡◌, ◌↔◌, ℕ, List, Option, None, OnOk, OnErr, Err};
 ghost use Rattle.cfdp_lines.specs.Answers.{AnswersLine};
-ghost use Rattle.cfdp_lines.specs.declared.script.LineFault.TheVariants.{Bad};
+ghost use Rattle.cfdp_lines.specs.declared.faults.LineFault.TheVariants.{Bad};
 
-use std::alloc::{AllocError, Global};
-
-/// Why a line has no answer.
-#[derive(Clone, Copy, Debug, PartialEq, Eq)]
-pub enum LineFault {
-    /// It is a bad line.
-    Bad,
-    /// Memory was refused.
-    Memory,
-}
-
-impl From<AllocError> for LineFault {
-    ghost use Rattle.std.specs.Prelude.{◌≡◌};
-    ghost use Rattle.cfdp_lines.specs.declared.script.LineFault.TheVariants.{Memory};
-
-    ghost from_gives = { λ _ e. e ≡ Memory };
-
-    fn from(_e: AllocError) -> LineFault {
-        LineFault::Memory
-    }
-}
+use crate::faults::LineFault;
+use std::alloc::Global;
 
 /// A kind of script: a state, and an answer to each line.
 pub trait Script {

@@ -9,25 +9,17 @@ ghost use Rattle.cfdp_lines.specs.code.Session.{RefusesMemory, Runs, RunsBad, Ru
 ghost use Rattle.cfdp_streams.specs.Streams.{LostWithin};
 ghost use Rattle.cfdp_streams.specs.code.Streams.{Spills};
 ghost use Rattle.cfdp_lines.specs.declared.faults.RunFault.TheVariants.{Read, Write, Memory, BadLine};
-ghost use Rattle.cfdp_lines.specs.declared.script.LineFault.TheVariants.{Bad};
+ghost use Rattle.cfdp_lines.specs.declared.faults.LineFault.TheVariants.{Bad};
 
-use crate::faults::RunFault;
-use crate::script::{LineFault, Script};
+use crate::faults::{LineFault, RunFault};
+use crate::limits::{COMMENT, LINE_LIMIT, NEWLINE};
+use crate::script::Script;
 use cfdp_streams::{ScriptOut, write_all};
 use memchr::memchr;
 use std::alloc::Global;
 
-/// The longest line, in octets.
-pub const LINE_LIMIT: usize = 200_000;
-
 /// How much text is held back at most before it is written, in octets, the answer to the last line apart.
 const FULL: usize = 65_536;
-
-/// The octet that ends a line.
-pub const NEWLINE: u8 = b'\n';
-
-/// The octet that a line begins with which is passed over.
-pub const COMMENT: u8 = b'#';
 
 /// A script that is being run: what it does, the octets so far of the line that is being read, and the text that is not
 /// written yet.

@@ -6,13 +6,11 @@ ghost use Rattle.cfdp_lines.specs.Outcome.{WholeRun, BadRun, LongRun, PartRun, L
 ghost use Rattle.cfdp_lines.specs.declared.faults.RunFault.TheVariants.{Read, Write, Memory, BadLine};
 
 use crate::faults::RunFault;
+use crate::limits::INPUT_LIMIT;
 use crate::script::Script;
 use crate::session::LineSession;
 use cfdp_streams::{ScriptIn, ScriptOut, read_piece};
 use std::alloc::Global;
-
-/// The longest script, in octets.
-pub const INPUT_LIMIT: usize = 268_435_456;
 
 /// How much is read at once, in octets.
 const PIECE: usize = 65_536;

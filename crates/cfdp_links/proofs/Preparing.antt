@@ -9,23 +9,23 @@ use Rattle.cfdp_lines.specs.Lines.{is_overlong, is_comment, lines_of}
 use Rattle.cfdp_lines.specs.declared.faults.LinkFault.{LinkFault}
 use Rattle.cfdp_links.specs.Linked.{IsBadFile, IsHeard}
 use Rattle.cfdp_links.specs.Links.{Said, Reading, Files, said_by, link_said, link_answer, read_then, read_from, file_said, files_then, files_from, link_files, running}
-use Rattle.cfdp_commands.specs.Replay.{Stage, configured, protected, without_text}
+use Rattle.cfdp_commands.specs.Replay.{ReplayStage, configured, protected, without_text}
 use Rattle.cfdp_lines.specs.Report.{line_answer}
 use Rattle.cfdp_commands.proofs.Handing.{local_readable}
 
 -- ---- lines
 
 -- what a line says, if it is not bad
-AreHeard : Option (Stage × List Said) → Type 0
+AreHeard : Option (ReplayStage × List Said) → Type 0
 AreHeard None = ⊤
 AreHeard (Some answered) = AllByRecursion IsHeard answered.1
 
-without_text-heard : (next : Option Stage) → AreHeard (without_text next)
+without_text-heard : (next : Option ReplayStage) → AreHeard (without_text next)
 unfolding AreHeard
 without_text-heard None = tt
 without_text-heard (Some stage) = tt
 
-said_by-heard : (stage : Stage) (said : Command) → AreHeard (said_by stage said)
+said_by-heard : (stage : ReplayStage) (said : Command) → AreHeard (said_by stage said)
 unfolding AreHeard
 said_by-heard stage (command.Config entity blocks cap checks journal) = without_text-heard (configured stage entity blocks cap checks journal)
 said_by-heard stage (command.Protect octets) = without_text-heard (protected stage octets)
@@ -34,13 +34,13 @@ said_by-heard stage (command.Local which id) = (local_readable which id, tt)
 said_by-heard stage command.Run = (tt, tt)
 said_by-heard stage command.ListAll = tt
 
-link_said-heard : (stage : Stage) (said : Option (Option Command)) → AreHeard (link_said stage said)
+link_said-heard : (stage : ReplayStage) (said : Option (Option Command)) → AreHeard (link_said stage said)
 unfolding AreHeard
 link_said-heard stage None = tt
 link_said-heard stage (Some None) = tt
 link_said-heard stage (Some (Some said)) = said_by-heard stage said
 
-line_answer-heard : (stage : Stage) (line : List ℕ) → AreHeard (line_answer link_answer stage line)
+line_answer-heard : (stage : ReplayStage) (line : List ℕ) → AreHeard (line_answer link_answer stage line)
 unfolding AreHeard
 line_answer-heard stage line =
     elim (is_overlong line) as (λ long. AreHeard (if long then None else if is_comment line then Some (stage, []) else link_answer stage line)) [
@@ -52,7 +52,7 @@ line_answer-heard stage line =
     ]
 
 -- a PDU that came is never bad
-pub pdu_said : (stage : Stage) (said : Option (Option Command)) → SaysPdu said → link_said stage said ≢ None
+pub pdu_said : (stage : ReplayStage) (said : Option (Option Command)) → SaysPdu said → link_said stage said ≢ None
 pdu_said stage None pdu none = pdu
 pdu_said stage (Some None) pdu none = pdu
 pdu_said stage (Some (Some (command.Config entity blocks cap checks journal))) pdu none = pdu
@@ -73,7 +73,7 @@ abbrev pub IsHeardOf : Result Reading ℕ → Type 0
 IsHeardOf (Ok reading) = AllByRecursion IsHeard reading.said
 IsHeardOf (Err line) = ⊤
 
-read_then-heard : (number : ℕ) (said : List Said) (answered : Option (Stage × List Said)) (later : Reading → Result Reading ℕ)
+read_then-heard : (number : ℕ) (said : List Said) (answered : Option (ReplayStage × List Said)) (later : Reading → Result Reading ℕ)
     → AllByRecursion IsHeard said → AreHeard answered
     → ((after : Reading) → AllByRecursion IsHeard after.said → IsHeardOf (later after)) → IsHeardOf (read_then number said answered later)
 unfolding AreHeard
@@ -88,25 +88,25 @@ read_from-heard number reading (line ∷ lines) heard =
     read_then-heard number reading.said (line_answer link_answer reading.stage line) (λ after. read_from (number + 1) after lines) heard
     (line_answer-heard reading.stage line) (λ after h. read_from-heard (number + 1) after lines h)
 
-pub file_heard : (stage : Stage) (script : List ℕ) (reading : Reading) → file_said stage script ≡ Ok reading → AllByRecursion IsHeard reading.said
+pub file_heard : (stage : ReplayStage) (script : List ℕ) (reading : Reading) → file_said stage script ≡ Ok reading → AllByRecursion IsHeard reading.said
 file_heard stage script reading read =
     subst IsHeardOf read (read_from-heard 1 (record { stage = stage; said = [] }) (lines_of script) tt)
 
 -- a file without a bad line, and those after it
-pub files_from-more : (file : ℕ) (stage : Stage) (said : List (List Said)) (script : List ℕ) (scripts : List (List ℕ)) (reading : Reading)
+pub files_from-more : (file : ℕ) (stage : ReplayStage) (said : List (List Said)) (script : List ℕ) (scripts : List (List ℕ)) (reading : Reading)
     → file_said stage script ≡ Ok reading
     → files_from file stage said (script ∷ scripts) ≡ files_from (file + 1) (running reading.stage) (said ++ reading.said ∷ []) scripts
 files_from-more file stage said script scripts reading read =
     ap (λ (r : Result Reading ℕ). files_then file said r (λ after more. files_from (file + 1) after more scripts)) read
 
 -- the first one that has a bad line
-pub files_from-bad : (file : ℕ) (stage : Stage) (said : List (List Said)) (script : List ℕ) (scripts : List (List ℕ)) (line : ℕ)
+pub files_from-bad : (file : ℕ) (stage : ReplayStage) (said : List (List Said)) (script : List ℕ) (scripts : List (List ℕ)) (line : ℕ)
     → file_said stage script ≡ Err line → files_from file stage said (script ∷ scripts) ≡ Err (file, line)
 files_from-bad file stage said script scripts line read =
     ap (λ (r : Result Reading ℕ). files_then file said r (λ after more. files_from (file + 1) after more scripts)) read
 
 -- a bad line in the file that comes next is the first one
-pub bad_behind : {X : Type 0} (octets : X → List ℕ) (file : ℕ) (stage : Stage) (said : List (List Said)) (all : List X) (one : X)
+pub bad_behind : {X : Type 0} (octets : X → List ℕ) (file : ℕ) (stage : ReplayStage) (said : List (List Said)) (all : List X) (one : X)
     (script : List ℕ) (fault : LinkFault) → file < length all → one ≡ get_or all file one → script ≡ octets one
     → files_from file stage said (map octets (drop file all)) ≡ link_files (map octets all)
     → ((more : List (List ℕ)) → IsBadFile (files_from file stage said (script ∷ more)) fault) → IsBadFile (link_files (map octets all)) fault

@@ -22,7 +22,7 @@ use Rattle.cfdp_engine.specs.declared.message.Message.TheVariants as messages
 use Rattle.cfdp_commands.specs.Commands.{Command, command_in, local_event}
 use Rattle.cfdp_commands.specs.Commands as command
 use Rattle.cfdp_lines.specs.Lines.{lines_of}
-use Rattle.cfdp_commands.specs.Replay.{Stage, Running, at_first, configured, protected, without_text, stage_world}
+use Rattle.cfdp_commands.specs.Replay.{ReplayStage, Running, at_first, configured, protected, without_text, stage_world}
 use Rattle.cfdp_lines.specs.Report.{line_answer}
 
 pub data Said : Type 0 where
@@ -37,14 +37,14 @@ said_of messages.Run = Steps
 
 -- ---- lines
 
-abbrev pub running : Stage → Stage
+abbrev pub running : ReplayStage → ReplayStage
 running stage = Running (stage_world stage)
 
-abbrev pub says_one : Stage → Said → Option (Stage × List Said)
+abbrev pub says_one : ReplayStage → Said → Option (ReplayStage × List Said)
 says_one stage said = Some (running stage, said ∷ [])
 
 -- a line that prepares the entity says nothing to a worker
-abbrev pub said_by : Stage → Command → Option (Stage × List Said)
+abbrev pub said_by : ReplayStage → Command → Option (ReplayStage × List Said)
 said_by stage (command.Config entity blocks cap checks journal) =
     without_text (configured stage entity blocks cap checks journal)
 said_by stage (command.Protect octets) = without_text (protected stage octets)
@@ -54,22 +54,23 @@ said_by stage command.Run = says_one stage Steps
 said_by stage command.ListAll = None
 
 -- a bad line, one without words, or a command
-abbrev pub link_said : Stage → Option (Option Command) → Option (Stage × List Said)
+abbrev pub link_said : ReplayStage → Option (Option Command) → Option (ReplayStage × List Said)
 link_said stage None = None
 link_said stage (Some None) = Some (stage, [])
 link_said stage (Some (Some said)) = said_by stage said
 
-abbrev pub link_answer : Stage → List ℕ → Option (Stage × List Said)
+abbrev pub link_answer : ReplayStage → List ℕ → Option (ReplayStage × List Said)
 link_answer stage line = link_said stage (command_in line)
 
 -- ---- files
 
 pub record Reading : Type 0 where
-  pub stage : Stage
+  pub stage : ReplayStage
   pub said : List Said
 
 -- what the line of this number says comes after what those before it said
-abbrev pub read_then : ℕ → List Said → Option (Stage × List Said) → (Reading → Result Reading ℕ) → Result Reading ℕ
+abbrev pub read_then : ℕ → List Said → Option (ReplayStage × List Said) → (Reading → Result Reading ℕ) →
+    Result Reading ℕ
 read_then number said None later = Err number
 read_then number said (Some answered) later = later (record { stage = answered.0; said = said ++ answered.1 })
 
@@ -80,7 +81,7 @@ read_from number reading (line ∷ lines) =
     (λ after. read_from (number + 1) after lines)
 
 -- a file, from its first line on
-abbrev pub file_said : Stage → List ℕ → Result Reading ℕ
+abbrev pub file_said : ReplayStage → List ℕ → Result Reading ℕ
 file_said stage script = read_from 1 (record { stage = stage; said = [] }) (lines_of script)
 
 pub record Files : Type 0 where
@@ -88,12 +89,13 @@ pub record Files : Type 0 where
   pub said : List (List Said)
 
 -- what a file says comes after what those before it say
-abbrev pub files_then : ℕ → List (List Said) → Result Reading ℕ → (Stage → List (List Said) → Result Files (ℕ × ℕ)) →
+abbrev pub files_then : ℕ → List (List Said) → Result Reading ℕ →
+    (ReplayStage → List (List Said) → Result Files (ℕ × ℕ)) →
     Result Files (ℕ × ℕ)
 files_then file said (Err line) later = Err (file, line)
 files_then file said (Ok reading) later = later (running reading.stage) (said ++ reading.said ∷ [])
 
-abbrev pub files_from : ℕ → Stage → List (List Said) → List (List ℕ) → Result Files (ℕ × ℕ)
+abbrev pub files_from : ℕ → ReplayStage → List (List Said) → List (List ℕ) → Result Files (ℕ × ℕ)
 files_from file stage said [] = Ok (record { config = (stage_world stage).config; said = said })
 files_from file stage said (script ∷ scripts) =
     files_then file said (file_said stage script) (λ after more. files_from (file + 1) after more scripts)

@@ -7,7 +7,7 @@ ghost use Rattle.cfdp_links.specs.Links.{Happened, file_said, link_answer, said_
 ghost use Rattle.cfdp_links.specs.code.Links.{said_in};
 ghost use Rattle.cfdp_lines.specs.Report.{line_answer};
 ghost use Rattle.cfdp_commands.specs.Stages.{setup_of};
-ghost use Rattle.cfdp_lines.specs.declared.script.LineFault.TheVariants.{Bad};
+ghost use Rattle.cfdp_lines.specs.declared.faults.LineFault.TheVariants.{Bad};
 
 use cfdp_commands::{Command, Room, Setup, read_command};
 use cfdp_engine::Message;

@@ -1,7 +1,7 @@
 //! A channel between a sender and a receiver, which loses, repeats and reorders PDUs.
 
 use crate::fault::LossyFault;
-use crate::random::Random;
+use crate::random::LossyRandom;
 use crate::tally::{Tally, count};
 
 /// What a channel does to PDUs.
@@ -32,7 +32,7 @@ pub enum Loss {
 
 /// A PDU under way.
 #[derive(Drop)]
-struct Pdu {
+struct PduInFlight {
     toward: Toward,
     /// When it is there.
     due: u64,
@@ -50,7 +50,7 @@ pub struct Channel {
     pub lost: u64,
     /// How many PDUs it was given toward the receiver.
     given: u64,
-    under_way: Vec<Pdu>,
+    under_way: Vec<PduInFlight>,
 }
 
 impl Channel {
@@ -72,7 +72,7 @@ impl Channel {
     }
 
     /// Whether the next PDU is lost.
-    fn loses(&mut self, random: &mut Random, toward: Toward) -> bool {
+    fn loses(&mut self, random: &mut LossyRandom, toward: Toward) -> bool {
         let is_picked = match self.loss {
             Loss::OneIn(one) => random.is_one_in(one.max(1)),
             Loss::Comb => {
@@ -87,7 +87,7 @@ impl Channel {
     }
 
     /// How long a PDU is under way.
-    fn delay(&self, random: &mut Random) -> u64 {
+    fn delay(&self, random: &mut LossyRandom) -> u64 {
         match self.mode {
             Mode::Lossy => 1,
             Mode::Wild => random.below(30).saturating_add(1),
@@ -97,13 +97,13 @@ impl Channel {
     /// Puts a PDU under way.
     fn put(
         &mut self,
-        random: &mut Random,
+        random: &mut LossyRandom,
         now: u64,
         toward: Toward,
         octets: Vec<u8>,
     ) -> Result<(), LossyFault> {
         let due = now.saturating_add(self.delay(random));
-        self.under_way.push(Pdu {
+        self.under_way.push(PduInFlight {
             toward,
             due,
             octets,
@@ -114,7 +114,7 @@ impl Channel {
     /// Takes a PDU, and loses it, or delivers it once, or twice.
     pub fn send(
         &mut self,
-        random: &mut Random,
+        random: &mut LossyRandom,
         tally: &mut Tally,
         now: u64,
         toward: Toward,

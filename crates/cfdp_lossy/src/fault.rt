@@ -6,7 +6,7 @@ use thiserror::Error;
 
 /// What is not as it has to be.
 #[derive(Clone, Copy, Debug, Error)]
-pub enum LossyFailure {
+pub enum LossyFinding {
     #[error("the receiver was not made")]
     NotMade,
     #[error("a PDU is longer than it may be")]
@@ -45,7 +45,7 @@ pub enum LossyFailure {
 #[derive(Drop)]
 pub enum LossyFault {
     /// Something is wrong.
-    Wrong(LossyFailure),
+    Wrong(LossyFinding),
     /// There was no memory, or nothing could be printed.
     Memory,
 }
@@ -62,8 +62,8 @@ impl<T: Drop> From<AllocFailed<T>> for LossyFault {
     }
 }
 
-impl From<LossyFailure> for LossyFault {
-    fn from(wrong: LossyFailure) -> LossyFault {
+impl From<LossyFinding> for LossyFault {
+    fn from(wrong: LossyFinding) -> LossyFault {
         LossyFault::Wrong(wrong)
     }
 }
@@ -71,7 +71,7 @@ impl From<LossyFailure> for LossyFault {
 impl From<WriteFault> for LossyFault {
     fn from(fault: WriteFault) -> LossyFault {
         match fault {
-            WriteFault::TooLong => LossyFault::Wrong(LossyFailure::TooLong),
+            WriteFault::TooLong => LossyFault::Wrong(LossyFinding::TooLong),
             WriteFault::Memory => LossyFault::Memory,
         }
     }

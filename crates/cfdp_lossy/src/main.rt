@@ -28,7 +28,7 @@ use transfers::LossyTransfers;
 
 /// What the program is asked for.
 #[derive(Clone, Copy)]
-struct Asked {
+struct LossyOptions {
     transfers: u32,
     seed: u64,
     /// `None`: both.
@@ -49,7 +49,7 @@ fn main(rt: HostRuntime) -> ExitCode {
 }
 
 /// Runs the transfers in a mode, and says how that ended: whether all went well.
-fn goes_well<R: AllocGlobal + Print + Eprint>(rt: &R, asked: Asked, mode: Mode) -> bool {
+fn goes_well<R: AllocGlobal + Print + Eprint>(rt: &R, asked: LossyOptions, mode: Mode) -> bool {
     let name = match mode {
         Mode::Lossy => "lossy",
         Mode::Wild => "wild",
@@ -70,7 +70,7 @@ fn goes_well<R: AllocGlobal + Print + Eprint>(rt: &R, asked: Asked, mode: Mode) 
 }
 
 /// Runs the transfers in a mode: how that ended, and what was counted.
-fn run(alloc: Global, asked: Asked, mode: Mode) -> (Result<(), LossyFault>, Tally) {
+fn run(alloc: Global, asked: LossyOptions, mode: Mode) -> (Result<(), LossyFault>, Tally) {
     match LossyTransfers::new(alloc, mode, asked.seed) {
         Ok(mut transfers) => {
             let ran = transfers.run(alloc, asked.transfers);
@@ -81,14 +81,14 @@ fn run(alloc: Global, asked: Asked, mode: Mode) -> (Result<(), LossyFault>, Tall
 }
 
 /// What the command line asks for.
-fn read_words<R: AllocGlobal + Env>(rt: &R) -> Option<Asked> {
+fn read_words<R: AllocGlobal + Env>(rt: &R) -> Option<LossyOptions> {
     let words: Vec<String> = env::args(rt).ok()?.collect(rt.alloc()).ok()?;
     let (transfers, seed, mode) = match words.as_slice() {
         [_, transfers, seed] => (transfers, seed, None),
         [_, transfers, seed, mode] => (transfers, seed, Some(mode_of(mode.as_str())?)),
         _ => return None,
     };
-    Some(Asked {
+    Some(LossyOptions {
         transfers: transfers.as_str().parse::<u32>().ok()?,
         seed: seed.as_str().parse::<u64>().ok()?,
         mode,

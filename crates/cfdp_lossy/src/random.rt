@@ -3,14 +3,14 @@ ghost use Rattle.std.specs.Prelude.{◌<◌};
 
 /// The high bits of a linear congruential generator.
 #[derive(Drop)]
-pub struct Random {
+pub struct LossyRandom {
     state: u64,
 }
 
-impl Random {
+impl LossyRandom {
     /// Those of a seed.
-    pub fn new(seed: u64) -> Random {
-        Random { state: seed }
+    pub fn new(seed: u64) -> LossyRandom {
+        LossyRandom { state: seed }
     }
 
     /// The next number below `end`.

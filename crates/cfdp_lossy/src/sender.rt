@@ -5,8 +5,8 @@ ghost use Rattle.std.specs.Prelude.{◌≡◌, ◌<◌, ◌^◌, IfOk};
 ghost use Rattle.cfdp_pdus.specs.Canonical.{IsHeader};
 ghost use Rattle.cfdp_pdus.specs.Codes.{modular_checksum_type};
 
-use crate::fault::{LossyFailure, LossyFault};
-use crate::random::Random;
+use crate::fault::{LossyFault, LossyFinding};
+use crate::random::LossyRandom;
 use cfdp_crc::{seal, unseal};
 use cfdp_directives::{
     Ack, Directive, Range, TransactionStatus, read_directive, read_nak, write_ack,
@@ -56,7 +56,7 @@ pub struct SenderPlan {
 
 impl SenderPlan {
     /// One by a seed.
-    pub fn new(random: &mut Random, number: u32, begins_log: bool) -> SenderPlan {
+    pub fn new(random: &mut LossyRandom, number: u32, begins_log: bool) -> SenderPlan {
         let piece = (random.below(60) as u32).saturating_add(8);
         SenderPlan {
             number,
@@ -212,7 +212,7 @@ impl LossySender {
             let len = octets.len();
             octets.resize(len.saturating_add(2), 0)?;
             if seal(&mut octets, len).is_err() {
-                return Err(LossyFault::Wrong(LossyFailure::TooLong));
+                return Err(LossyFault::Wrong(LossyFinding::TooLong));
             }
         }
         out.push(octets)?;
@@ -240,7 +240,7 @@ impl LossySender {
     ) -> Result<u32, LossyFault> {
         let end = to.min(from.saturating_add(self.plan.piece));
         let Some(piece) = self.file.get(from as usize..end as usize) else {
-            return Err(LossyFault::Wrong(LossyFailure::AsksBeyond));
+            return Err(LossyFault::Wrong(LossyFinding::AsksBeyond));
         };
         let data = FileData {
             offset: u64::from(from),
@@ -255,10 +255,10 @@ impl LossySender {
     /// Sends a part of the file, in its pieces.
     fn send_part(&self, alloc: Global, range: Range, out: &mut Pdus) -> Result<(), LossyFault> {
         let (Ok(from), Ok(to)) = (u32::try_from(range.0), u32::try_from(range.1)) else {
-            return Err(LossyFault::Wrong(LossyFailure::AsksBeyond));
+            return Err(LossyFault::Wrong(LossyFinding::AsksBeyond));
         };
         if to <= from || self.plan.size < to {
-            return Err(LossyFault::Wrong(LossyFailure::AsksBeyond));
+            return Err(LossyFault::Wrong(LossyFinding::AsksBeyond));
         }
         let mut at = from;
         for _ in from..to {
@@ -351,7 +351,7 @@ impl LossySender {
     fn answer(&self, alloc: Global, octets: &[u8], out: &mut Pdus) -> Result<(), LossyFault> {
         let mut requests = [(0, 0); 34];
         let Ok(nak) = read_nak(octets, &mut requests) else {
-            return Err(LossyFault::Wrong(LossyFailure::Unreadable));
+            return Err(LossyFault::Wrong(LossyFinding::Unreadable));
         };
         for request in requests.iter().take(nak.count) {
             if *request == (0, 0) {
@@ -372,7 +372,7 @@ impl LossySender {
     ) -> Result<(), LossyFault> {
         let condition = match read_pdu(alloc, octets) {
             Ok(Pdu::Finished(_, finished)) => finished.condition,
-            _ => return Err(LossyFault::Wrong(LossyFailure::Unreadable)),
+            _ => return Err(LossyFault::Wrong(LossyFinding::Unreadable)),
         };
         let ack = Ack {
             directive: directive::FINISHED,
@@ -395,16 +395,16 @@ impl LossySender {
         out: &mut Pdus,
     ) -> Result<(), LossyFault> {
         let Ok(len) = unseal(octets) else {
-            return Err(LossyFault::Wrong(LossyFailure::Unreadable));
+            return Err(LossyFault::Wrong(LossyFinding::Unreadable));
         };
         let octets = octets.get(..len).unwrap_or(&[]);
         let Ok(start) = read_start(octets) else {
-            return Err(LossyFault::Wrong(LossyFailure::Unreadable));
+            return Err(LossyFault::Wrong(LossyFinding::Unreadable));
         };
         let mut due = self.plan.header();
         due.toward_sender = true;
         if start.header != due || start.file_data {
-            return Err(LossyFault::Wrong(LossyFailure::Unreadable));
+            return Err(LossyFault::Wrong(LossyFinding::Unreadable));
         }
         self.heard_at = now;
         match start.field.first().copied() {
@@ -417,9 +417,9 @@ impl LossySender {
                     Ok(())
                 }
                 Ok(_) => Ok(()),
-                Err(_) => Err(LossyFault::Wrong(LossyFailure::Unreadable)),
+                Err(_) => Err(LossyFault::Wrong(LossyFinding::Unreadable)),
             },
-            _ => Err(LossyFault::Wrong(LossyFailure::Unreadable)),
+            _ => Err(LossyFault::Wrong(LossyFinding::Unreadable)),
         }
     }
 }

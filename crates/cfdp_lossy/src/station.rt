@@ -1,8 +1,8 @@
 //! A receiving entity, and the rules that hold of what it answers.
 
 use crate::channel::Mode;
-use crate::fault::{LossyFailure, LossyFault};
-use crate::random::Random;
+use crate::fault::{LossyFault, LossyFinding};
+use crate::random::LossyRandom;
 use crate::sender::{FILE, LOG, Pdus, SenderPlan};
 use crate::tally::{Tally, count};
 use cfdp_actions::Protected;
@@ -26,7 +26,7 @@ const MOST_PIECES: usize = 32;
 
 /// What came.
 #[derive(Clone, Copy, PartialEq, Eq)]
-enum Came {
+enum ReceivedKind {
     FileData,
     Eof,
     /// Another PDU.
@@ -61,7 +61,7 @@ impl Sent {
     /// Whether they are no more than the input may be answered by: an EOF PDU by exactly one ACK PDU, each PDU and
     /// each expiry by one sequence of NAK PDUs or one Keep Alive PDU, an expiry or an outcome by one Finished PDU,
     /// and an item by none.
-    fn are_few(&self, came: Came, most_naks: u64) -> bool {
+    fn are_few(&self, came: ReceivedKind, most_naks: u64) -> bool {
         let Sent {
             acks,
             naks,
@@ -71,11 +71,13 @@ impl Sent {
         let others = keep_alives.saturating_add(finished);
         let is_one_kind = naks <= most_naks && others <= 1 && (naks == 0 || others == 0);
         match came {
-            Came::Eof => acks == 1 && is_one_kind && others == 0,
-            Came::FileData | Came::Other => acks == 0 && is_one_kind && finished == 0,
-            Came::Expiry => acks == 0 && is_one_kind,
-            Came::Outcome => acks == 0 && naks == 0 && keep_alives == 0 && finished <= 1,
-            Came::Item => acks == 0 && naks == 0 && others == 0,
+            ReceivedKind::Eof => acks == 1 && is_one_kind && others == 0,
+            ReceivedKind::FileData | ReceivedKind::Other => acks == 0
+                && is_one_kind
+                && finished == 0,
+            ReceivedKind::Expiry => acks == 0 && is_one_kind,
+            ReceivedKind::Outcome => acks == 0 && naks == 0 && keep_alives == 0 && finished <= 1,
+            ReceivedKind::Item => acks == 0 && naks == 0 && others == 0,
         }
     }
 }
@@ -118,7 +120,7 @@ pub struct Station {
 }
 
 /// What is cancelled at its limit, or abandoned in a wild channel.
-fn handler(random: &mut Random, mode: Mode) -> Handler {
+fn handler(random: &mut LossyRandom, mode: Mode) -> Handler {
     if mode == Mode::Wild && random.is_one_in(4) {
         Handler::Abandon
     } else {
@@ -127,7 +129,7 @@ fn handler(random: &mut Random, mode: Mode) -> Handler {
 }
 
 /// A timer of 10 ticks, whose limit a lossy channel does not reach.
-fn retries(random: &mut Random, mode: Mode) -> Retries {
+fn retries(random: &mut LossyRandom, mode: Mode) -> Retries {
     Retries {
         interval: 10,
         limit: match mode {
@@ -142,7 +144,7 @@ fn retries(random: &mut Random, mode: Mode) -> Retries {
 static LENGTHS: [u16; 6] = [72, 79, 100, 200, 480, 65_535];
 
 /// What the management of a receiver sets.
-fn mib(random: &mut Random, mode: Mode) -> Mib {
+fn mib(random: &mut LossyRandom, mode: Mode) -> Mib {
     let watch = Watch {
         interval: if mode == Mode::Lossy { 1_000 } else { 100 },
         at_limit: handler(random, mode),
@@ -168,7 +170,7 @@ fn mib(random: &mut Random, mode: Mode) -> Mib {
 fn entity(alloc: Global) -> Result<Entity, LossyFault> {
     match Config::new(2, 1_024, 2_400, 2, 16, Protected::new()) {
         Ok(config) => Ok(Entity::new(alloc, config)?),
-        Err(_) => Err(LossyFault::Wrong(LossyFailure::NotMade)),
+        Err(_) => Err(LossyFault::Wrong(LossyFinding::NotMade)),
     }
 }
 
@@ -193,12 +195,12 @@ fn nothing_seen() -> SeenTransfer {
 
 impl Station {
     /// A receiver by a seed.
-    pub fn new(alloc: Global, random: &mut Random, mode: Mode) -> Result<Station, LossyFault> {
+    pub fn new(alloc: Global, random: &mut LossyRandom, mode: Mode) -> Result<Station, LossyFault> {
         let mib = mib(random, mode);
         let receiver = match Receiver::new(alloc, mib, entity(alloc)?) {
             Ok(receiver) => receiver,
             Err(NotMade::Memory) => return Err(LossyFault::Memory),
-            Err(_) => return Err(LossyFault::Wrong(LossyFailure::NotMade)),
+            Err(_) => return Err(LossyFault::Wrong(LossyFinding::NotMade)),
         };
         let room = vec![in alloc; 0u8; receiver.longest()]?;
         let most_naks = 34usize.div_ceil(mib.most_requests().max(1));
@@ -243,14 +245,14 @@ impl Station {
     }
 
     /// What comes with these octets.
-    fn came_with(&self, octets: &[u8]) -> Came {
+    fn came_with(&self, octets: &[u8]) -> ReceivedKind {
         let is_file_data = octets.first().is_some_and(|first| first / 16 % 2 == 1);
         if is_file_data {
-            return Came::FileData;
+            return ReceivedKind::FileData;
         }
         match octets.get(self.seen.header_len).copied() {
-            Some(directive::EOF) => Came::Eof,
-            _ => Came::Other,
+            Some(directive::EOF) => ReceivedKind::Eof,
+            _ => ReceivedKind::Other,
         }
     }
 
@@ -258,7 +260,7 @@ impl Station {
     fn send(
         &mut self,
         tally: &mut Tally,
-        came: Came,
+        came: ReceivedKind,
         answer: &Answer,
         alloc: Global,
         out: &mut Pdus,
@@ -273,11 +275,11 @@ impl Station {
             let len = match self.receiver.write(answer, number, &mut self.room) {
                 Ok(len) => len,
                 Err(NotWritten::NoMore) => break,
-                Err(NotWritten::TooShort) => return Err(LossyFault::Wrong(LossyFailure::TooLong)),
+                Err(NotWritten::TooShort) => return Err(LossyFault::Wrong(LossyFinding::TooLong)),
             };
             let octets = self.room.get(..len).unwrap_or(&[]);
             if !sent.count(octets.get(self.seen.header_len).copied()) {
-                return Err(LossyFault::Wrong(LossyFailure::TooMuch));
+                return Err(LossyFault::Wrong(LossyFinding::TooMuch));
             }
             tally.digest(octets);
             out.push(Vec::from_slice(alloc, octets)?)?;
@@ -285,7 +287,7 @@ impl Station {
         if sent.are_few(came, self.most_naks) {
             Ok(sent)
         } else {
-            Err(LossyFault::Wrong(LossyFailure::TooMuch))
+            Err(LossyFault::Wrong(LossyFinding::TooMuch))
         }
     }
 
@@ -331,7 +333,7 @@ impl Station {
     fn hear(&mut self, told: Indication) -> Result<(), LossyFault> {
         if let Indication::TransactionFinished(_, end) = told {
             if self.seen.end.is_some() {
-                return Err(LossyFault::Wrong(LossyFailure::EndedTwice));
+                return Err(LossyFault::Wrong(LossyFinding::EndedTwice));
             }
             self.seen.end = Some(end);
         }
@@ -345,12 +347,12 @@ impl Station {
         };
         match reply {
             Reply::Complete if mode == Mode::Lossy && !self.is_in_time(lost) => {
-                Err(LossyFault::Wrong(LossyFailure::TooManyRounds))
+                Err(LossyFault::Wrong(LossyFinding::TooManyRounds))
             }
             Reply::Installed | Reply::Performed(_) => {
                 count(&mut self.seen.performed);
                 if self.seen.performed > self.seen.items {
-                    return Err(LossyFault::Wrong(LossyFailure::PerformedAgain));
+                    return Err(LossyFault::Wrong(LossyFinding::PerformedAgain));
                 }
                 Ok(())
             }
@@ -362,14 +364,14 @@ impl Station {
     fn note(
         &mut self,
         context: &mut Context<'_>,
-        came: Came,
+        came: ReceivedKind,
         answer: &Answer,
     ) -> Result<(), LossyFault> {
         let sent = self.send(context.tally, came, answer, context.alloc, context.out)?;
         self.seen.finished = self.seen.finished.saturating_add(sent.finished);
-        if sent.naks > 0 && came != Came::FileData {
+        if sent.naks > 0 && came != ReceivedKind::FileData {
             self.begin_round(context.tally, context.lost);
-            self.seen.was_held = self.seen.was_held || came == Came::Other;
+            self.seen.was_held = self.seen.was_held || came == ReceivedKind::Other;
         }
         if let Some(told) = answer.indication() {
             self.hear(told)?;
@@ -382,15 +384,15 @@ impl Station {
         for _ in 0..MANY {
             if self.receiver.has_work() {
                 let answer = self.receiver.work(context.now);
-                self.note(context, Came::Item, &answer)?;
+                self.note(context, ReceivedKind::Item, &answer)?;
             } else if self.receiver.has_outcome() {
                 let answer = self.receiver.finish(context.alloc, context.now)?;
-                self.note(context, Came::Outcome, &answer)?;
+                self.note(context, ReceivedKind::Outcome, &answer)?;
             } else {
                 return Ok(());
             }
         }
-        Err(LossyFault::Wrong(LossyFailure::Restless))
+        Err(LossyFault::Wrong(LossyFinding::Restless))
     }
 
     /// A PDU comes.
@@ -406,7 +408,7 @@ impl Station {
         {
             Ok(answer) => self.note(context, came, &answer)?,
             Err(Dropped::Pdu(PduFault::Memory)) => return Err(LossyFault::Memory),
-            Err(_) => return Err(LossyFault::Wrong(LossyFailure::Dropped)),
+            Err(_) => return Err(LossyFault::Wrong(LossyFinding::Dropped)),
         }
         self.settle(context)
     }
@@ -419,15 +421,15 @@ impl Station {
             let answer = self.receiver.expire(context.now);
             let is_nothing = matches!(answer.became(), Became::Nothing);
             if is_due == is_nothing {
-                return Err(LossyFault::Wrong(LossyFailure::Deadline));
+                return Err(LossyFault::Wrong(LossyFinding::Deadline));
             }
             if is_nothing {
                 return Ok(());
             }
-            self.note(context, Came::Expiry, &answer)?;
+            self.note(context, ReceivedKind::Expiry, &answer)?;
             self.settle(context)?;
         }
-        Err(LossyFault::Wrong(LossyFailure::Restless))
+        Err(LossyFault::Wrong(LossyFinding::Restless))
     }
 
     /// Whether a file of the filestore has these octets, and no more.
@@ -453,7 +455,7 @@ impl Station {
         let is_complete = self.seen.end.is_some_and(|end| !end.incomplete);
         if is_complete {
             if !self.has(alloc, FILE, file)? {
-                return Err(LossyFault::Wrong(LossyFailure::OtherFile));
+                return Err(LossyFault::Wrong(LossyFinding::OtherFile));
             }
             if plan.begins_log {
                 self.log.clear();
@@ -462,7 +464,7 @@ impl Station {
             self.has_log = true;
         }
         if self.has_log && !self.has(alloc, LOG, &self.log)? {
-            return Err(LossyFault::Wrong(LossyFailure::OtherLog));
+            return Err(LossyFault::Wrong(LossyFinding::OtherLog));
         }
         Ok(is_complete)
     }

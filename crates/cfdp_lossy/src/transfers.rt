@@ -1,8 +1,8 @@
 //! Transfers, one after the other.
 
 use crate::channel::{Channel, Loss, Mode, Toward};
-use crate::fault::{LossyFailure, LossyFault};
-use crate::random::Random;
+use crate::fault::{LossyFault, LossyFinding};
+use crate::random::LossyRandom;
 use crate::sender::{LossySender, Pdus, SenderPlan};
 use crate::station::{Context, Station};
 use crate::tally::{Tally, count};
@@ -23,7 +23,7 @@ const MANY_PDUS: u32 = 20_000;
 #[derive(Drop)]
 pub struct LossyTransfers {
     mode: Mode,
-    random: Random,
+    random: LossyRandom,
     now: u64,
     station: Station,
     /// What was counted.
@@ -33,7 +33,7 @@ pub struct LossyTransfers {
 impl LossyTransfers {
     /// Before the first transfer of this seed.
     pub fn new(alloc: Global, mode: Mode, seed: u64) -> Result<LossyTransfers, LossyFault> {
-        let mut random = Random::new(seed);
+        let mut random = LossyRandom::new(seed);
         let station = Station::new(alloc, &mut random, mode)?;
         Ok(LossyTransfers {
             mode,
@@ -91,7 +91,7 @@ impl LossyTransfers {
         if self.station.compare(alloc, &plan, sender.file())? {
             count(&mut self.tally.complete);
         } else if self.mode == Mode::Lossy {
-            return Err(LossyFault::Wrong(LossyFailure::Incomplete));
+            return Err(LossyFault::Wrong(LossyFinding::Incomplete));
         }
         Ok(())
     }
@@ -110,9 +110,9 @@ impl LossyTransfers {
         let is_well = seen.end.is_some_and(|end| end.condition == NO_ERROR
             && end.file_status == RETAINED);
         if rounds > most {
-            Err(LossyFault::Wrong(LossyFailure::TooManyInAll))
+            Err(LossyFault::Wrong(LossyFinding::TooManyInAll))
         } else if !is_well {
-            Err(LossyFault::Wrong(LossyFailure::Incomplete))
+            Err(LossyFault::Wrong(LossyFinding::Incomplete))
         } else {
             Ok(())
         }
@@ -149,7 +149,7 @@ impl LossyTransfers {
         if sender.is_closed && self.station.is_closed() && channel.deadline().is_none() {
             Ok(())
         } else {
-            Err(LossyFault::Wrong(LossyFailure::NotClosed))
+            Err(LossyFault::Wrong(LossyFinding::NotClosed))
         }
     }
 
@@ -210,7 +210,7 @@ impl LossyTransfers {
             self.station.receive(&mut context, octets)?;
             self.send(channel, Toward::Sender, pdus)?;
         }
-        Err(LossyFault::Wrong(LossyFailure::Restless))
+        Err(LossyFault::Wrong(LossyFinding::Restless))
     }
 
     /// What comes to the sender.
@@ -228,7 +228,7 @@ impl LossyTransfers {
             sender.hear(alloc, self.now, &mut octets, &mut pdus)?;
             self.send(channel, Toward::Receiver, pdus)?;
         }
-        Err(LossyFault::Wrong(LossyFailure::Restless))
+        Err(LossyFault::Wrong(LossyFinding::Restless))
     }
 
     /// The channel takes PDUs.

@@ -233,7 +233,7 @@ concludes_waiting M index a s o at abandoned sent acked said =
 abbrev pub closed_with : StateMachineFields → TransactionId → List ℕ → StateMachineFields
 closed_with M id octets = record {
   state = record M.state { sessions = without_session M.state.sessions id; closed = with_name M.state.closed id };
-  concluded =
+  last_finished =
       octets;
 }
 

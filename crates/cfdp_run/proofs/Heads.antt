@@ -8,7 +8,7 @@ use Rattle.cfdp_transactions.specs.World.{World}
 use Rattle.cfdp_receiver.specs.declared.mib.Mib.{Mib}
 use Rattle.cfdp_run.specs.Putting.{as_directory, missing, with_put, room_wrong}
 use Rattle.cfdp_run.specs.Scripts.{Head, put_node, unless}
-use Rattle.cfdp_run.specs.Stops.{Stop}
+use Rattle.cfdp_run.specs.Stops.{ScriptEnd}
 use Rattle.cfdp_run.specs.declared.wrong.Wrong.{Wrong}
 use Rattle.cfdp_run.proofs.Puts.{put_all-same, put_all-table, put_all-staged, with_put-config}
 
@@ -29,7 +29,7 @@ put_in_head mib W V prefixes begun p node put room =
     let X : World = with_put W p node in
     let same : X.config ≡ W.config = put_all-same W (map as_directory (missing W.filestore p)) in
     let head_with : World → Head = λ U. record { mib = mib; world = U; has_begun = true } in
-    let made : Result Head Stop = Ok (head_with (with_put (record W { config = c }) p node)) in
+    let made : Result Head ScriptEnd = Ok (head_with (with_put (record W { config = c }) p node)) in
     ap (λ (o : Option Wrong). unless o made) room
     ∙ ap (λ (U : World). Ok (head_with U))
     (with_put-config W c p node ∙ ap (λ (d : Config). record X { config = record d { prefixes = prefixes } }) (sym same)

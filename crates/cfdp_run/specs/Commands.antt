@@ -48,17 +48,17 @@ use Rattle.cfdp_run.specs.declared.commands.CommandFault.{CommandFault}
 use Rattle.cfdp_run.specs.declared.commands.CommandFault.TheVariants as fault
 
 -- nothing, octets, or those of the file with a name
-pub data Content : Type 0 where
-  Nothing : Content
-  Octets : (octets : List ℕ) → Content
-  File : (name : List ℕ) → Content
+pub data PutContent : Type 0 where
+  Nothing : PutContent
+  Octets : (octets : List ℕ) → PutContent
+  File : (name : List ℕ) → PutContent
 
 pub data LineMeaning : Type 0 where
   Settings : Mib → LineMeaning
   Configure : Config → LineMeaning
   Protect : Path → LineMeaning
   PutDirectory : Path → LineMeaning
-  PutFile : Path → Content → LineMeaning
+  PutFile : Path → PutContent → LineMeaning
   Receive : (now : ℕ) → (octets : List ℕ) → LineMeaning
   Cancel : (now : ℕ) → TransactionId → LineMeaning
   Pass : (now : ℕ) → LineMeaning
@@ -69,7 +69,7 @@ pub data LineMeaning : Type 0 where
   Expect : (line : List ℕ) → LineMeaning
   End : LineMeaning
 
-abbrev pub content_of : ContentValue → Content
+abbrev pub content_of : ContentValue → PutContent
 content_of content.None = Nothing
 content_of (content.Octets octets) = Octets octets.items
 content_of (content.File name) = File name.now
@@ -178,21 +178,21 @@ directory_or_file octets None = saying (λ path. PutFile path Nothing) (path_or_
 abbrev pub put_alone : Option (List ℕ) → Result LineMeaning Wrong
 put_alone name = first_then (ok_or name wrong.NoPath) (λ octets. directory_or_file octets (before_slash octets))
 
-abbrev pub only_file : List ℕ → List (List ℕ) → Option Content
+abbrev pub only_file : List ℕ → List (List ℕ) → Option PutContent
 only_file name [] = Some (File name)
 only_file name (text ∷ texts) = None
 
-abbrev pub hexadecimal_in : List (List ℕ) → Option Content
+abbrev pub hexadecimal_in : List (List ℕ) → Option PutContent
 hexadecimal_in texts = option_map Octets (octets_spelled texts)
 
 -- `@` with the name of a file, and nothing else; or hexadecimal
-abbrev pub content_in : List (List ℕ) → Option Content
+abbrev pub content_in : List (List ℕ) → Option PutContent
 content_in [] = None
 content_in ([] ∷ texts) = hexadecimal_in ([] ∷ texts)
 content_in ((octet ∷ name) ∷ texts) = if octet == 64 then only_file name texts
     else hexadecimal_in ((octet ∷ name) ∷ texts)
 
-abbrev pub put_with : List ℕ → Option Content → Result LineMeaning Wrong
+abbrev pub put_with : List ℕ → Option PutContent → Result LineMeaning Wrong
 put_with text content =
     first_then (ok_or content (wrong.Expected word.Put))
     (λ holds. saying (λ path. PutFile path holds) (path_or_wrong (path_spelled text)))

@@ -27,13 +27,13 @@ use Rattle.cfdp_receiver.specs.Heard.{heard}
 use Rattle.cfdp_receiver.specs.State.{State, Input, CancelAsked, begin}
 use Rattle.cfdp_receiver.specs.Turning.{after_all}
 use Rattle.cfdp_receiver.specs.declared.mib.Mib.{Mib}
-use Rattle.cfdp_run.specs.Commands.{Content, Nothing, Octets, File as FileNamed, LineMeaning, Settings, Configure, Protect, PutDirectory, PutFile, Receive, Cancel, Pass, Get, Gaps, Phase, ListAll, Expect, End, meaning_in}
+use Rattle.cfdp_run.specs.Commands.{PutContent, Nothing, Octets, File as FileNamed, LineMeaning, Settings, Configure, Protect, PutDirectory, PutFile, Receive, Cancel, Pass, Get, Gaps, Phase, ListAll, Expect, End, meaning_in}
 use Rattle.cfdp_run.specs.Contents.{get_line}
 use Rattle.cfdp_run.specs.Playing.{heard_inputs, heard_text, most_timers, passing, played, settled_after}
 use Rattle.cfdp_run.specs.Putting.{path_wrong, room_wrong, with_put}
 use Rattle.cfdp_run.specs.Questions.{gaps_line, phase_line}
 use Rattle.cfdp_run.specs.Settings.{default_mib}
-use Rattle.cfdp_run.specs.Stops.{Stop, Ended, IsWrong, Unmet, Unread}
+use Rattle.cfdp_run.specs.Stops.{ScriptEnd, Ended, IsWrong, Unmet, Unread}
 use Rattle.cfdp_run.specs.declared.commands.HeadProgress.{HeadProgress}
 use Rattle.cfdp_run.specs.declared.commands.HeadProgress.TheVariants as progress
 use Rattle.cfdp_run.specs.declared.words.FirstWord.{FirstWord}
@@ -89,16 +89,16 @@ progress_of (Preparing head) = progress_by head.has_begun
 progress_of (Playing play) = progress.Playing
 
 abbrev pub Step : Type 0
-Step = Result (ScriptStage × List ℕ) Stop
+Step = Result (ScriptStage × List ℕ) ScriptEnd
 
-abbrev pub head_changed : Result Head Stop → Step
+abbrev pub head_changed : Result Head ScriptEnd → Step
 head_changed (Ok head) = Ok (Preparing head, [])
 head_changed (Err why) = Err why
 
 abbrev pub written : Play → Step
 written play = Ok (Playing play, play.lines)
 
-abbrev pub unless : {A : Type 0} → Option Wrong → Result A Stop → Result A Stop
+abbrev pub unless : {A : Type 0} → Option Wrong → Result A ScriptEnd → Result A ScriptEnd
 unless None later = later
 unless (Some wrong) later = Err (IsWrong wrong)
 
@@ -118,33 +118,33 @@ abbrev pub world_with_prefix : World → Path → World
 world_with_prefix W p = record W { config = record W.config { prefixes = W.config.prefixes ++ p ∷ [] } }
 
 -- at most 8
-unfoldable pub head_protected : Head → Path → Result Head Stop
+unfoldable pub head_protected : Head → Path → Result Head ScriptEnd
 head_protected head p =
     if nat_lt (length head.world.config.prefixes) 8 then Ok
     (record head { world = world_with_prefix head.world p; has_begun = true })
     else Err (IsWrong TooManyProtected)
 
-unfoldable pub put_node : Head → Path → Node → Result Head Stop
+unfoldable pub put_node : Head → Path → Node → Result Head ScriptEnd
 put_node head p node = unless (room_wrong head.world p node)
     (Ok (record head { world = with_put head.world p node; has_begun = true }))
 
-unfoldable pub put : Head → Path → Node → Result Head Stop
+unfoldable pub put : Head → Path → Node → Result Head ScriptEnd
 put head p node = unless (path_wrong head.world.filestore p) (put_node head p node)
 
-abbrev pub put_read : Head → Path → (name : List ℕ) → Option (List ℕ) → Result Head Stop
+abbrev pub put_read : Head → Path → (name : List ℕ) → Option (List ℕ) → Result Head ScriptEnd
 put_read head p name None = Err (Unread name)
 put_read head p name (Some octets) = put_node head p (File octets)
 
-abbrev pub put_content : (List ℕ → Option (List ℕ)) → Head → Path → Content → Result Head Stop
+abbrev pub put_content : (List ℕ → Option (List ℕ)) → Head → Path → PutContent → Result Head ScriptEnd
 put_content files head p Nothing = put_node head p (File [])
 put_content files head p (Octets octets) = put_node head p (File octets)
 put_content files head p (FileNamed name) = put_read head p name (files name)
 
 -- a file is read only where something can be put at the path
-abbrev pub put_file : (List ℕ → Option (List ℕ)) → Head → Path → Content → Result Head Stop
+abbrev pub put_file : (List ℕ → Option (List ℕ)) → Head → Path → PutContent → Result Head ScriptEnd
 put_file files head p content = unless (path_wrong head.world.filestore p) (put_content files head p content)
 
-abbrev pub in_head : FirstWord → ScriptStage → (Head → Result Head Stop) → Step
+abbrev pub in_head : FirstWord → ScriptStage → (Head → Result Head ScriptEnd) → Step
 in_head word (Preparing head) change = head_changed (change head)
 in_head word (Playing play) change = Err (IsWrong (TooLate word))
 
@@ -216,10 +216,10 @@ ok_in (Err why) = None
 abbrev pub answer : (List ℕ → Option (List ℕ)) → ScriptStage → List ℕ → Option (ScriptStage × List ℕ)
 answer files stage line = ok_in (line_step files stage line)
 
-abbrev pub why_by : Step → (ScriptStage → Option Stop) → Option Stop
+abbrev pub why_by : Step → (ScriptStage → Option ScriptEnd) → Option ScriptEnd
 why_by (Ok done) later = later done.0
 why_by (Err why) later = Some why
 
-abbrev pub why_from : (List ℕ → Option (List ℕ)) → ScriptStage → List (List ℕ) → Option Stop
+abbrev pub why_from : (List ℕ → Option (List ℕ)) → ScriptStage → List (List ℕ) → Option ScriptEnd
 why_from files stage [] = None
 why_from files stage (line ∷ lines) = why_by (line_step files stage line) (λ next. why_from files next lines)

@@ -1,5 +1,5 @@
 -- Why a script stops before its end.
---     Stop            at `end`; at a bad line; at a line that it expects in vain; at a file that cannot be read; out of
+--     ScriptEnd       at `end`; at a bad line; at a line that it expects in vain; at a file that cannot be read; out of
 --                     memory
 --     stop_of         that of a value of the program
 --     stop_by         that of a line that is not read
@@ -10,14 +10,14 @@ use Rattle.cfdp_run.specs.declared.stop.ScriptStop.{ScriptStop as StopValue}
 use Rattle.cfdp_run.specs.declared.stop.ScriptStop.TheVariants as stop
 use Rattle.cfdp_run.specs.declared.wrong.Wrong.{Wrong}
 
-pub data Stop : Type 0 where
-  Ended : Stop
-  IsWrong : Wrong → Stop
-  Unmet : (line : List ℕ) → Stop
-  Unread : (name : List ℕ) → Stop
-  NoMemory : Stop
+pub data ScriptEnd : Type 0 where
+  Ended : ScriptEnd
+  IsWrong : Wrong → ScriptEnd
+  Unmet : (line : List ℕ) → ScriptEnd
+  Unread : (name : List ℕ) → ScriptEnd
+  NoMemory : ScriptEnd
 
-abbrev pub stop_of : StopValue → Stop
+abbrev pub stop_of : StopValue → ScriptEnd
 stop_of stop.Ended = Ended
 stop_of (stop.Wrong wrong) = IsWrong wrong
 stop_of (stop.Unmet line) = Unmet line.items

@@ -13,7 +13,7 @@ use Rattle.cfdp_lines.proofs.LineLemmas.{lines_by-newline, lines_by-begun, lines
 use Rattle.cfdp_lines.proofs.Moving.{report_at-last}
 use Rattle.cfdp_run.specs.Commands.{texts_say}
 use Rattle.cfdp_run.specs.Scripts.{ScriptStage, Step, ok_in, answer, line_step, said_step, mib_of, progress_of, why_by, why_from}
-use Rattle.cfdp_run.specs.Stops.{Stop, IsWrong, NoMemory, stop_of}
+use Rattle.cfdp_run.specs.Stops.{ScriptEnd, IsWrong, NoMemory, stop_of}
 use Rattle.cfdp_run.specs.declared.stop.ScriptStop.{ScriptStop as StopValue}
 use Rattle.cfdp_run.specs.declared.wrong.Wrong.TheVariants.{TooLong}
 use Rattle.cfdp_run_script.specs.Sessions.{EndsScript, ScriptGoesOn, StopsFor, why_at}
@@ -83,7 +83,7 @@ module _ (files : List ℕ → Option (List ℕ)) where
 
   -- ---- the script stops
 
-  why_first : (s : ScriptStage) (line : List ℕ) (lines : List (List ℕ)) (why : Stop) → line_step files s line ≡ Err why → why_from files s (line ∷ lines)
+  why_first : (s : ScriptStage) (line : List ℕ) (lines : List (List ℕ)) (why : ScriptEnd) → line_step files s line ≡ Err why → why_from files s (line ∷ lines)
       ≡ Some why
   why_first s line lines why e = ap (λ (step : Step). why_by step (λ next. why_from files next lines)) e
 

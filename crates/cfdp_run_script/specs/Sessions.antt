@@ -12,7 +12,7 @@ use Rattle.std.specs.Prelude.{◌≡◌, ◌≢◌, ℕ, Bool, true, List, [], �
 use Rattle.cfdp_lines.specs.Report.{empty_report, wrote}
 use Rattle.cfdp_lines.specs.Session.{LineReading, line_reading, lines_by, report_at}
 use Rattle.cfdp_run.specs.Scripts.{ScriptStage, answer, why_from}
-use Rattle.cfdp_run.specs.Stops.{Stop, NoMemory, stop_of}
+use Rattle.cfdp_run.specs.Stops.{ScriptEnd, NoMemory, stop_of}
 use Rattle.cfdp_run.specs.declared.stop.ScriptStop.{ScriptStop as StopValue}
 use Rattle.cfdp_run_script.specs.Steps.{script_of}
 use Rattle.cfdp_run_script.specs.declared.session.ScriptSession.{ScriptSession as SessionValue}
@@ -20,7 +20,7 @@ use Rattle.cfdp_run_script.specs.declared.session.ScriptSession.{ScriptSession a
 abbrev pub script_reading : SessionValue → LineReading ScriptStage
 script_reading session = line_reading session.number (script_of session.script) session.line.items
 
-abbrev pub why_at : (List ℕ → Option (List ℕ)) → Bool → LineReading ScriptStage → List ℕ → Option Stop
+abbrev pub why_at : (List ℕ → Option (List ℕ)) → Bool → LineReading ScriptStage → List ℕ → Option ScriptEnd
 why_at files ends from octets = why_from files from.state (lines_by ends (from.line ++ octets))
 
 pub record ScriptGoesOn (files : List ℕ → Option (List ℕ)) (from to : LineReading ScriptStage)

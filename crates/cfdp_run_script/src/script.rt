@@ -10,7 +10,7 @@ ghost use Rattle.cfdp_run.specs.Questions.{gaps_line, phase_line};
 ghost use Rattle.cfdp_run.specs.Scripts.{Head as SaidInHead, asked, script_at_first, begun, cancelled_at, expected, stage_filestore, heard_at, in_head, line_step, mib_of, command_obeyed, passed_at, play_of, progress_of, head_protected, put, put_file, time_of, with_config, with_mib, written};
 ghost use Rattle.cfdp_run.specs.Stages.{head_of, play_from};
 ghost use Rattle.cfdp_run.specs.code.Stages.{IsFit};
-ghost use Rattle.cfdp_run.specs.Stops.{NoMemory, Stop as Why, stop_of};
+ghost use Rattle.cfdp_run.specs.Stops.{NoMemory, ScriptEnd as Why, stop_of};
 ghost use Rattle.cfdp_run.specs.declared.commands.HeadProgress.TheVariants as progress;
 ghost use Rattle.cfdp_run.specs.declared.words.FirstWord.TheVariants as word;
 ghost use Rattle.cfdp_run_script.specs.Steps.{Leads, StopsScript, script_of};

@@ -58,14 +58,14 @@ fn first_stop(workers: &[Worked]) -> Option<Stop>
 /// # Errors
 ///
 /// [`LinkFault::ReceiptsDiffer`] exactly where it took something else.
-fn settle(worked: Worked, messages: &[Message]) -> Result<(Seat, u64), LinkFault>
+fn check_worker(worked: Worked, messages: &[Message]) -> Result<(Seat, u64), LinkFault>
     requires brought { BringAll worked.taken.items (receipt_events worked.seat.receipts) }
     requires dropped { worked.dropped ≡ passed_over worked.taken.items }
     requires heard { AllByRecursion IsHeard (map said_of messages.now) }
-    ensures seat { IfOk result (λ settled. settled.0 ≡ worked.seat) }
-    ensures handed { IfOk result (λ settled. Handed (map said_of messages.now)
-        (receipt_events settled.0.receipts) settled.1) }
-    ensures readable { IfOk result (λ settled. HasReadable settled.0) }
+    ensures seat { IfOk result (λ checked. checked.0 ≡ worked.seat) }
+    ensures handed { IfOk result (λ checked. Handed (map said_of messages.now)
+        (receipt_events checked.0.receipts) checked.1) }
+    ensures readable { IfOk result (λ checked. HasReadable checked.0) }
     ensures exactly { IsOk result ↔ (map said_of worked.taken.items ≡ map said_of messages.now) }
     ensures differs { OnErr result (result ≡ Err ReceiptsDiffer) }
 {
@@ -87,7 +87,7 @@ fn settle(worked: Worked, messages: &[Message]) -> Result<(Seat, u64), LinkFault
 /// # Errors
 ///
 /// [`LinkFault::ReceiptsDiffer`] only where one took something else than its file says; out of memory.
-fn settle_all(
+fn check_workers(
     alloc: Global,
     workers: Vec<Worked>,
     files: &[Vec<Message>],
@@ -96,10 +96,10 @@ fn settle_all(
     requires works { AllNumbered IsWork 0 workers.items }
     requires finished { AllByRecursion (λ worked. worked.stopped ≡ None) workers.items }
     requires heard { AllByRecursion (λ file. AllByRecursion IsHeard (map said_of file.items)) files.now }
-    ensures handed { IfOk result (λ settled. AreHanded (λ seat. receipt_events seat.receipts) 0
-        (map (λ file. map said_of file.items) files.now) settled.0.items settled.1.items) }
-    ensures readable { IfOk result (λ settled. AllByRecursion HasReadable settled.0.items) }
-    ensures seats { IfOk result (λ settled. settled.0.items ≡ map (λ worked. worked.seat) workers.items) }
+    ensures handed { IfOk result (λ checked. AreHanded (λ seat. receipt_events seat.receipts) 0
+        (map (λ file. map said_of file.items) files.now) checked.0.items checked.1.items) }
+    ensures readable { IfOk result (λ checked. AllByRecursion HasReadable checked.0.items) }
+    ensures seats { IfOk result (λ checked. checked.0.items ≡ map (λ worked. worked.seat) workers.items) }
     ensures took { OnOk result (took_of workers.items ≡ map (λ file. map said_of file.items) files.now) }
     ensures fault { IfErr result (IsWorkFault None (took_of workers.items
         ≡ map (λ file. map said_of file.items) files.now)) }
@@ -110,8 +110,8 @@ fn settle_all(
         let Some(file) = files.get(seats.len()) else {
             return Err(LinkFault::ReceiptsDiffer);
         };
-        let (seat, passed_over) = match settle(worked, file) {
-            Ok(settled) => settled,
+        let (seat, passed_over) = match check_worker(worked, file) {
+            Ok(checked) => checked,
             Err(fault) => return Err(fault),
         };
         let (Ok(()), Ok(())) = (seats.push(seat), dropped.push(passed_over)) else {
@@ -149,8 +149,8 @@ fn text_of_work(
     if let Some(stop) = first_stop(&workers) {
         return Err(fault_of(stop));
     }
-    let (seats, dropped) = match settle_all(alloc, workers, files) {
-        Ok(settled) => settled,
+    let (seats, dropped) = match check_workers(alloc, workers, files) {
+        Ok(checked) => checked,
         Err(fault) => return Err(fault),
     };
     match reconcile(config, journaled, seats) {

@@ -7,7 +7,7 @@ use thiserror::Error;
 
 /// What is not as it has to be.
 #[derive(Clone, Copy, Debug, Error)]
-pub enum SoakFailure {
+pub enum SoakFinding {
     #[error("the configuration is refused")]
     Config,
     #[error("the entities reply differently")]
@@ -40,7 +40,7 @@ pub enum SoakFailure {
 #[derive(Drop)]
 pub enum SoakFault {
     /// Something is wrong.
-    Wrong(SoakFailure),
+    Wrong(SoakFinding),
     /// There was no memory, or nothing could be printed.
     Memory,
 }
@@ -49,7 +49,7 @@ impl From<WriteFault> for SoakFault {
     fn from(fault: WriteFault) -> SoakFault {
         match fault {
             WriteFault::Memory => SoakFault::Memory,
-            WriteFault::TooLong => SoakFault::Wrong(SoakFailure::Unwritten),
+            WriteFault::TooLong => SoakFault::Wrong(SoakFinding::Unwritten),
         }
     }
 }

@@ -26,7 +26,7 @@ mod words;
 
 use counts::Counts;
 use events::TransferFiles;
-use fault::{SoakFailure, SoakFault};
+use fault::{SoakFault, SoakFinding};
 use pair::Pair;
 use random::Random;
 use settings::{SETTINGS, Setting};
@@ -166,7 +166,7 @@ impl Soak {
         if self.counts.are_all_met() {
             Ok(())
         } else {
-            Err(SoakFault::Wrong(SoakFailure::Tame))
+            Err(SoakFault::Wrong(SoakFinding::Tame))
         }
     }
 

@@ -1,6 +1,6 @@
 //! Two entities side by side, alike but for their filestores.
 use crate::events::{TRANSACTIONS, id, path_of};
-use crate::fault::{SoakFailure, SoakFault};
+use crate::fault::{SoakFault, SoakFinding};
 use crate::settings::Setting;
 use cfdp_actions::{Filestore, Kind, ListStore, Protected};
 use cfdp_paths::{Memory, Path};
@@ -29,7 +29,7 @@ pub fn config(alloc: Global, setting: Setting) -> Result<Config, SoakFault> {
     let longest = setting.files().longest();
     let protected = protected(alloc)?;
     let config = Config::new(2, setting.blocks(), longest, 2, 16, protected);
-    config.map_err(|_| SoakFault::Wrong(SoakFailure::Config))
+    config.map_err(|_| SoakFault::Wrong(SoakFinding::Config))
 }
 
 /// The blocks that are granted to live transactions and not yet taken.
@@ -83,13 +83,13 @@ impl Pair {
     pub fn apply(&mut self, event: &Event) -> Result<Reply, SoakFault> {
         let reply = self.tree.apply(event);
         if !self.list.apply(event).same(&reply) {
-            return Err(SoakFault::Wrong(SoakFailure::Replies));
+            return Err(SoakFault::Wrong(SoakFinding::Replies));
         }
         if !went_well(event, &reply) {
-            return Err(SoakFault::Wrong(SoakFailure::Step));
+            return Err(SoakFault::Wrong(SoakFinding::Step));
         }
         if !is_balanced(&self.tree) || !is_balanced(&self.list) {
-            return Err(SoakFault::Wrong(SoakFailure::Spare));
+            return Err(SoakFault::Wrong(SoakFinding::Spare));
         }
         Ok(reply)
     }
@@ -104,11 +104,11 @@ impl Pair {
 pub fn compare_stores(alloc: Global, tree: &TreeStore, list: &ListStore) -> Result<(), SoakFault> {
     let listed = list.listing(alloc)?;
     if tree.listing(alloc)? != listed {
-        return Err(SoakFault::Wrong(SoakFailure::Listings));
+        return Err(SoakFault::Wrong(SoakFinding::Listings));
     }
     for entry in &listed {
         if octets_at(alloc, tree, &entry.path)? != octets_at(alloc, list, &entry.path)? {
-            return Err(SoakFault::Wrong(SoakFailure::Octets));
+            return Err(SoakFault::Wrong(SoakFinding::Octets));
         }
     }
     Ok(())

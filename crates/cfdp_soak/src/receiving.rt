@@ -1,7 +1,7 @@
 //! Inputs at random to a receiver.
 
 use crate::counts::Counts;
-use crate::fault::{SoakFailure, SoakFault};
+use crate::fault::{SoakFault, SoakFinding};
 use crate::inputs::Lines;
 use crate::random::Random;
 use crate::settings::Setting;
@@ -43,8 +43,8 @@ fn feed(
     }
     twin.compare_stores(alloc)?;
     match twin.words.missing() {
-        Some(word) => Err(SoakFault::Wrong(SoakFailure::Word(word))),
+        Some(word) => Err(SoakFault::Wrong(SoakFinding::Word(word))),
         None if twin.counts.are_all_met() => Ok(()),
-        None => Err(SoakFault::Wrong(SoakFailure::Tame)),
+        None => Err(SoakFault::Wrong(SoakFinding::Tame)),
     }
 }

@@ -6,7 +6,7 @@ ghost use Rattle.cfdp_pdus.specs.Canonical.{IsHeader};
 
 use crate::counts::Counts;
 use crate::events::{TRANSACTIONS, id, is_acknowledged};
-use crate::fault::{SoakFailure, SoakFault};
+use crate::fault::{SoakFault, SoakFinding};
 use crate::inputs::{Input, Lines, OtherPdu};
 use crate::pair::{compare_stores, config, list};
 use crate::random::Random;
@@ -120,7 +120,7 @@ fn put_metadata(header: &Header, metadata: &Metadata, octets: &mut Vec<u8>) -> R
     requires small { header.now.large ≡ false }
 {
     if metadata.checksum_type > 15 || !is_small(metadata.size) {
-        return Err(SoakFault::Wrong(SoakFailure::Unwritten));
+        return Err(SoakFault::Wrong(SoakFinding::Unwritten));
     }
     Ok(write_metadata(header, metadata, octets)?)
 }
@@ -131,7 +131,7 @@ fn put_data(header: &Header, data: &FileData, octets: &mut Vec<u8>) -> Result<()
     requires small { header.now.large ≡ false }
 {
     if !is_small(data.offset) {
-        return Err(SoakFault::Wrong(SoakFailure::Unwritten));
+        return Err(SoakFault::Wrong(SoakFinding::Unwritten));
     }
     Ok(write_file_data(header, data, octets)?)
 }
@@ -142,7 +142,7 @@ fn put_eof(header: &Header, eof: &Eof, octets: &mut Vec<u8>) -> Result<(), SoakF
     requires small { header.now.large ≡ false }
 {
     if eof.condition > 15 || !is_small(eof.size) {
-        return Err(SoakFault::Wrong(SoakFailure::Unwritten));
+        return Err(SoakFault::Wrong(SoakFinding::Unwritten));
     }
     Ok(write_eof(header, eof, octets)?)
 }
@@ -201,7 +201,7 @@ impl Twin {
         let receiver = match Receiver::new(alloc, mib(), entity) {
             Ok(receiver) => receiver,
             Err(NotMade::Memory) => return Err(SoakFault::Memory),
-            Err(_) => return Err(SoakFault::Wrong(SoakFailure::Receiver)),
+            Err(_) => return Err(SoakFault::Wrong(SoakFinding::Receiver)),
         };
         let room = vec![in alloc; 0u8; receiver.longest()]?;
         Ok(Twin {
@@ -272,7 +272,7 @@ impl Twin {
     fn receive(&mut self, alloc: Global, octets: &mut [u8]) -> Result<Answer, SoakFault> {
         match self.receiver.receive(alloc, self.now, octets) {
             Ok(answer) => Ok(answer),
-            Err(_) => Err(SoakFault::Wrong(SoakFailure::Dropped)),
+            Err(_) => Err(SoakFault::Wrong(SoakFinding::Dropped)),
         }
     }
 
@@ -318,7 +318,7 @@ impl Twin {
         let mut octets = octets_of(alloc, event)?;
         let answer = self.receive(alloc, &mut octets)?;
         if was_handed_on(&answer) != is_handed_on {
-            return Err(SoakFault::Wrong(SoakFailure::HandedOn));
+            return Err(SoakFault::Wrong(SoakFinding::HandedOn));
         }
         if let Became::Replied(_, reply) = answer.became() {
             self.follow(event, reply)?;
@@ -334,7 +334,7 @@ impl Twin {
         if self.list.apply(event).same(reply) {
             Ok(())
         } else {
-            Err(SoakFault::Wrong(SoakFailure::Replies))
+            Err(SoakFault::Wrong(SoakFinding::Replies))
         }
     }
 
@@ -362,7 +362,7 @@ impl Twin {
         let has_work = self.list.next_runnable().is_some();
         let answer = self.receiver.work(self.now);
         if was_handed_on(&answer) != has_work {
-            return Err(SoakFault::Wrong(SoakFailure::HandedOn));
+            return Err(SoakFault::Wrong(SoakFinding::HandedOn));
         }
         if let Became::Replied(id, reply) = answer.became() {
             self.follow(&Event::Step(*id), reply)?;
@@ -387,7 +387,7 @@ impl Twin {
         let is_known = self.list.phase(id).is_some();
         let answer = self.receiver.cancel(self.now, id);
         if was_handed_on(&answer) != is_known {
-            return Err(SoakFault::Wrong(SoakFailure::HandedOn));
+            return Err(SoakFault::Wrong(SoakFinding::HandedOn));
         }
         if let Became::Replied(_, reply) = answer.became() {
             self.follow(&Event::Cancel(id), reply)?;
@@ -404,17 +404,17 @@ impl Twin {
                 Err(NotWritten::TooShort) => break,
             }
         }
-        Err(SoakFault::Wrong(SoakFailure::Unwritten))
+        Err(SoakFault::Wrong(SoakFinding::Unwritten))
     }
 
     /// A transaction is equally far in both cores, and both have as many spare blocks.
     fn compare(&self, id: TransactionId) -> Result<(), SoakFault> {
         let core = self.receiver.entity().core();
         if core.phase(id) != self.list.phase(id) {
-            return Err(SoakFault::Wrong(SoakFailure::Phases));
+            return Err(SoakFault::Wrong(SoakFinding::Phases));
         }
         if core.spare() != self.list.spare() {
-            return Err(SoakFault::Wrong(SoakFailure::Spare));
+            return Err(SoakFault::Wrong(SoakFinding::Spare));
         }
         Ok(())
     }

@@ -25,7 +25,7 @@ pub(crate) struct Others<'a> {
     pub(crate) paths: &'a [Path],
 }
 
-/// The most entries that [`deepest_beside`] seeks in vain before it walks below them.
+/// The most entries that [`deepest_beside`] seeks without finding them left out, before it walks below each.
 const MOST_MISSES: usize = 16;
 
 /// How far entries were sought among the paths of [`Others`]. It changes what a search costs, and not what it says.
@@ -34,7 +34,7 @@ pub(crate) struct Search {
     /// The index after the path that was found last, at which the next search begins: so entries that are sought in
     /// the order of the paths are found at once.
     next: usize,
-    /// How many entries were sought in vain, so are not left out. Each of them was compared with all paths.
+    /// How many entries were sought and are not left out. Each of them was compared with all paths.
     misses: usize,
 }
 
@@ -111,7 +111,7 @@ pub(crate) fn any_beside(
 /// The number of names of the longest path at and below an entry of the directory, of which this is the number of the
 /// node; or `before`, if that is more or the entry is left out. Takes no memory. A file or an empty directory is sought
 /// among the paths only where it would change the result. A directory with entries is sought before what is below it is
-/// walked over; after 16 that were sought in vain only if that would change the result.
+/// walked over; after 16 that were sought and are not left out only if that would change the result.
 fn deepest_at(
     arena: &Arena,
     orders: &Orders,

@@ -51,10 +51,10 @@ use std::marker::Model;
 /// came and are read. `deepest` and `standing` go through what is at and below the path, and `listing` through
 /// everything but the octets, in time linear in it; they sort nothing. `has_beside` looks at the entries of the
 /// directory that are among the others and at one more. `deepest_beside` goes through what is below the path. It goes
-/// below an entry that is left out only after it sought 16 in vain. Where the others are in path order, they compare
-/// each of them at most 2 and 25 times; else both may compare each entry that is left out with each of them. `deepest`
-/// and `deepest_beside` end at a path of 8 names. `next_entry` compares at most 45 names in each directory on the way,
-/// and looks its names up in the orders, not in the index.
+/// below an entry that is left out only after it sought 16 that are not. Where the others are in path order, they
+/// compare each of them at most 2 and 25 times; else both may compare each entry that is left out with each of them.
+/// `deepest` and `deepest_beside` end at a path of 8 names. `next_entry` compares at most 45 names in each directory on
+/// the way, and looks its names up in the orders, not in the index.
 #[derive(Drop)]
 pub struct TreeStore {
     pub(crate) arena: Arena,

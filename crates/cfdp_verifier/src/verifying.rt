@@ -31,8 +31,8 @@ use std::alloc::{AllocError, Global};
 /// Out of memory, which a list of more than 64 requests does not take. Cost: that of reading the names, of `footprint`,
 /// `Leases::conflict` and `View::of` on what they name, and of one `View::install` and a `View::apply` for each
 /// request. A list with an exclusive path that is a directory with entries takes a `SparseView` instead, so that what
-/// it costs does not grow with the entries of a directory that the list does not move, but may grow with the square of
-/// the list; it takes the `View` only if that can't say. Each list takes one `has_entries` for each exclusive path.
+/// it costs does not grow with the entries of a directory that the list does not move. It takes the `View` only if the
+/// `SparseView` can't say. Each list takes one `has_entries` for each exclusive path.
 pub fn verify<S: Filestore>(
     alloc: Global,
     store: &S,

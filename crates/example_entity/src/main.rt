@@ -27,7 +27,7 @@ const MOST_TRANSACTIONS: usize = 64;
 
 /// Why the example ends before the end of its input.
 #[derive(Debug, Drop)]
-enum Fault {
+enum ExampleFault {
     /// The input cannot be read.
     Read,
     /// The output cannot be written.
@@ -40,33 +40,33 @@ enum Fault {
     Refused,
 }
 
-impl fmt::Display for Fault {
+impl fmt::Display for ExampleFault {
     fn fmt<W: fmt::Write>(&self, f: &mut fmt::Formatter<W>) -> fmt::Result {
         f.write_str(match self {
-            Fault::Read => "the input cannot be read",
-            Fault::Write => "the output cannot be written",
-            Fault::Line => "a line is not hexadecimal",
-            Fault::Memory => "out of memory",
-            Fault::Refused => "the filestore cannot be made",
+            ExampleFault::Read => "the input cannot be read",
+            ExampleFault::Write => "the output cannot be written",
+            ExampleFault::Line => "a line is not hexadecimal",
+            ExampleFault::Memory => "out of memory",
+            ExampleFault::Refused => "the filestore cannot be made",
         })
     }
 }
 
-impl From<std::io::Error> for Fault {
-    fn from(_failed: std::io::Error) -> Fault {
-        Fault::Write
+impl From<std::io::Error> for ExampleFault {
+    fn from(_failed: std::io::Error) -> ExampleFault {
+        ExampleFault::Write
     }
 }
 
-impl From<AllocError> for Fault {
-    fn from(_refused: AllocError) -> Fault {
-        Fault::Memory
+impl From<AllocError> for ExampleFault {
+    fn from(_refused: AllocError) -> ExampleFault {
+        ExampleFault::Memory
     }
 }
 
-impl<T: Drop> From<AllocFailed<T>> for Fault {
-    fn from(_refused: AllocFailed<T>) -> Fault {
-        Fault::Memory
+impl<T: Drop> From<AllocFailed<T>> for ExampleFault {
+    fn from(_refused: AllocFailed<T>) -> ExampleFault {
+        ExampleFault::Memory
     }
 }
 
@@ -81,11 +81,11 @@ fn main(rt: HostRuntime) -> ExitCode {
 }
 
 /// Hands in each line of standard input.
-fn run<R: AllocGlobal + Input + Print>(rt: &R) -> Result<(), Fault> {
+fn run<R: AllocGlobal + Input + Print>(rt: &R) -> Result<(), ExampleFault> {
     let alloc = rt.alloc();
     let mut text = Vec::new(alloc);
     if rt.reader().read_to_end(&mut text).is_err() {
-        return Err(Fault::Read);
+        return Err(ExampleFault::Read);
     }
     let mut entity = begin(rt)?;
     for line in text.split(|octet| *octet == b'\n') {
@@ -93,7 +93,7 @@ fn run<R: AllocGlobal + Input + Print>(rt: &R) -> Result<(), Fault> {
             continue;
         }
         let Ok(octets) = hex::decode(alloc, line) else {
-            return Err(Fault::Line);
+            return Err(ExampleFault::Line);
         };
         receive(rt, &mut entity, &octets)?;
         perform(rt, &mut entity)?;
@@ -103,17 +103,17 @@ fn run<R: AllocGlobal + Input + Print>(rt: &R) -> Result<(), Fault> {
 }
 
 /// The entity, with what its filestore has before the first PDU: directories first, in path order.
-fn begin<R: AllocGlobal>(rt: &R) -> Result<Entity, Fault> {
+fn begin<R: AllocGlobal>(rt: &R) -> Result<Entity, ExampleFault> {
     let alloc = rt.alloc();
     let Ok(config) = Config::new(2, 64, 2_400, 2, 1_000, Protected::new()) else {
-        return Err(Fault::Refused);
+        return Err(ExampleFault::Refused);
     };
     let mut entity = Entity::new(alloc, config)?;
     let (Ok(app), Ok(prog)) = (Path::parse(alloc, b"app"), Path::parse(alloc, b"app/prog")) else {
-        return Err(Fault::Refused);
+        return Err(ExampleFault::Refused);
     };
     if entity.put_directory(&app).is_err() || entity.put_file(&prog, b"the old image").is_err() {
-        return Err(Fault::Refused);
+        return Err(ExampleFault::Refused);
     }
     Ok(entity)
 }
@@ -123,7 +123,7 @@ fn receive<R: AllocGlobal + Print>(
     rt: &R,
     entity: &mut Entity,
     octets: &[u8],
-) -> Result<(), Fault> {
+) -> Result<(), ExampleFault> {
     match entity.receive(rt.alloc(), octets) {
         Ok((id, reply)) => say(rt, id, &reply),
         Err(NotHeard::NotOurs) => Ok(println!(rt; "a PDU that is not for a receiver")?),
@@ -132,7 +132,7 @@ fn receive<R: AllocGlobal + Print>(
 }
 
 /// Performs all items that can be performed now.
-fn perform<R: Print>(rt: &R, entity: &mut Entity) -> Result<(), Fault> {
+fn perform<R: Print>(rt: &R, entity: &mut Entity) -> Result<(), ExampleFault> {
     for _ in 0..MOST_ITEMS {
         let Some(id) = entity.core().next_runnable() else {
             break;
@@ -144,14 +144,14 @@ fn perform<R: Print>(rt: &R, entity: &mut Entity) -> Result<(), Fault> {
 }
 
 /// Takes the outcome of each transaction that is over, and prints its Finished PDU.
-fn finish<R: AllocGlobal + Print>(rt: &R, entity: &mut Entity) -> Result<(), Fault> {
+fn finish<R: AllocGlobal + Print>(rt: &R, entity: &mut Entity) -> Result<(), ExampleFault> {
     let mut buffer = vec![in rt.alloc(); 0_u8; LONGEST_FINISHED]?;
     for _ in 0..MOST_TRANSACTIONS {
         let Some(id) = entity.core().next_outcome() else {
             break;
         };
         let Ok((_, count)) = entity.take(rt.alloc(), id, &mut buffer) else {
-            return Err(Fault::Memory);
+            return Err(ExampleFault::Memory);
         };
         let pdu = hex::encode(rt.alloc(), buffer.get(..count).unwrap_or(&[]))?;
         println!(rt; "{id}: over, Finished PDU {pdu}")?;
@@ -160,7 +160,7 @@ fn finish<R: AllocGlobal + Print>(rt: &R, entity: &mut Entity) -> Result<(), Fau
 }
 
 /// Prints a reply about a transaction.
-fn say<R: Print>(rt: &R, id: TransactionId, reply: &Reply) -> Result<(), Fault> {
+fn say<R: Print>(rt: &R, id: TransactionId, reply: &Reply) -> Result<(), ExampleFault> {
     Ok(match reply {
         Reply::Admitted(blocks, steps) => {
             println!(rt; "{id}: admitted, with {blocks} blocks and {steps} steps")

@@ -16,13 +16,13 @@ use Rattle.cfdp_engine.specs.declared.stop.Stop.{Stop}
 use Rattle.cfdp_engine.specs.declared.stop.Stop.TheVariants as stops
 use Rattle.cfdp_engine.specs.declared.working.Worked.{Worked}
 use Rattle.cfdp_links.specs.Links.{Said, said_of, Reading, link_answer}
-use Rattle.cfdp_commands.specs.Replay.{Stage}
+use Rattle.cfdp_commands.specs.Replay.{ReplayStage}
 use Rattle.cfdp_lines.specs.Report.{line_answer}
 use Rattle.cfdp_lines.specs.declared.faults.LinkFault.{LinkFault}
 use Rattle.cfdp_lines.specs.declared.faults.LinkFault.TheVariants.{Memory, BadLine, JournalFull, ReceiptsDiffer}
 
 -- a line moved the stage on, and what it says came after what was there
-pub record AddsLine (from to : Stage) (line : List ℕ) (before after : List Said) : Type 0 where
+pub record AddsLine (from to : ReplayStage) (line : List ℕ) (before after : List Said) : Type 0 where
   pub said : List Said
   pub answered : line_answer link_answer from line ≡ Some (to, said)
   pub appended : after ≡ before ++ said

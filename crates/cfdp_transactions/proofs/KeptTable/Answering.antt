@@ -1,6 +1,6 @@
 -- The replies to events of a transaction that is there, by what the program did.
 use Rattle.std.proofs.Common.{◌≡◌, ℕ, ◌+◌, ◌-◌, ◌≤◌, ◌<◌, refl, arith}
-use Rattle.std.specs.Prelude.{true, false, ◌||◌, nat_le, Some, slice_get, IsTrue}
+use Rattle.std.specs.Prelude.{true, false, nat_le, Some, slice_get, IsTrue}
 use Rattle.std.proofs.lemmas.Bool.Decides.{nat_tests}
 use Rattle.cfdp_actions.specs.Store.{Store}
 use Rattle.cfdp_transactions.specs.Entry.{Phase, Awaiting, Executing, is_live, Entry}

@@ -3,7 +3,7 @@
 --     done_from                 of each entry in each world of a run, whatever the filestore at its start
 --     done_is_installed         and from the empty one
 use Rattle.std.proofs.Common.{◌≡◌, refl, sym, ◌∙◌}
-use Rattle.std.specs.Prelude.{Bool, true, false, not, ◌||◌, if◌then◌else◌, ℕ}
+use Rattle.std.specs.Prelude.{Bool, true, false, not, if◌then◌else◌, ℕ}
 use Rattle.cfdp_actions.specs.Filestore.{empty_filestore}
 use Rattle.cfdp_transactions.specs.Entry.{Done, Entry, has_file}
 use Rattle.cfdp_transactions.specs.Outcome.{is_refused}

@@ -3,7 +3,7 @@ use Rattle.std.proofs.lemmas.Result.{err_from_is_err_and}
 use Rattle.std.proofs.lemmas.Iterator.Splits.{YieldsList-from_slice_split}
 use Rattle.std.specs.Slice.Iter.{split_rest, split_done, split_callee}
 use Rattle.cfdp_lines.specs.Hexadecimal.{is_space}
-use Rattle.cfdp_lines.specs.declared.script.LineFault.TheVariants.{Bad, Memory}
+use Rattle.cfdp_lines.specs.declared.faults.LineFault.TheVariants.{Bad, Memory}
 use Rattle.cfdp_lines.proofs.Decoding.{decode_start, decode_on, decode_some, decode_bad, decode_end, ok_octets}
 use Rattle.cfdp_lines.proofs.hexadecimal.decode_spaced.Goals as goal
 

@@ -7,12 +7,12 @@ use Rattle.cfdp_sim.proofs.link_scripts.text_of_work.Goals as goal
 pub returns-in-Ok-reconcile-clause-ok : goal.returns-in-Ok-reconcile-clause-ok
 returns-in-Ok-reconcile-clause-ok c =
     let closed = c.in-Ok-reconcile.closed in
-    let counts : c.deref-in-Ok-reconcile.result.now ≡ c.in-Ok.settled.1.items = search rules in
+    let counts : c.deref-in-Ok-reconcile.result.now ≡ c.in-Ok.checked.1.items = search rules in
     if_ok c.text_of_closed.result
     (λ text writes. record {
       journal = closed.journal.items;
       seats = closed.seats.items;
-      dropped = c.in-Ok.settled.1.items;
+      dropped = c.in-Ok.checked.1.items;
       world = closed.core.world;
       history = c.in-Ok-reconcile.ensures.history;
       config = c.in-Ok-reconcile.ensures.config;

@@ -6,7 +6,7 @@ use Rattle.cfdp_entity.proofs.entity.Entity.TheSendSync.{the_send}
 use Rattle.std_alloc.proofs.SendSync.{quiet, lies}
 use Rattle.std.proofs.Crossing.{frees}
 use Rattle.cfdp_c.specs.code.Ownership.{slot_owns, heap_handle}
-use Rattle.cfdp_c.specs.contracts.slot.Slot as C
+use Rattle.cfdp_c.specs.contracts.slot.EngineSlot as C
 use base.Shift.{Keyless}
 use denote.Memory.{lone}
 use denote.Param.Send.{IsSend, AllSend, owning_send, struct_send, sendable}

@@ -17,7 +17,7 @@ use Rattle.core.proofs.alloc.Calls.{Goes-blank}
 use Rattle.std.proofs.raw_atomic.Walks.{proved_at, leaves}
 use Rattle.std.specs.Prelude.{IsNone}
 use Rattle.cfdp_c.proofs.Values.{slot_val, slot_told, slot_typed}
-use Rattle.cfdp_c.specs.contracts.slot.Slot as slot
+use Rattle.cfdp_c.specs.contracts.slot.EngineSlot as slot
 use Rattle.cfdp_c.specs.contracts.slot.EngineSlot.discard as f
 use Rattle.cfdp_c.proofs.slot.EngineSlot.discard.Statement.{statement}
 use Rattle.cfdp_c.proofs.slot.EngineSlot.discard.Code as code

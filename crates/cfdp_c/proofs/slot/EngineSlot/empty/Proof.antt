@@ -16,7 +16,7 @@ use denote.Triple.Entry.{alive}
 use denote.Triple.Walked.{walk_of}
 use Rattle.std.proofs.raw_atomic.Walks.{proved_at, leaves}
 use Rattle.cfdp_c.proofs.Values.{slot_val, field_own, slot_made, slot_typed}
-use Rattle.cfdp_c.specs.contracts.slot.Slot as slot
+use Rattle.cfdp_c.specs.contracts.slot.EngineSlot as slot
 use Rattle.cfdp_c.specs.contracts.slot.EngineSlot.empty as f
 use Rattle.cfdp_c.proofs.slot.EngineSlot.empty.Statement.{statement}
 use Rattle.cfdp_c.proofs.slot.EngineSlot.empty.Code as code

@@ -31,7 +31,7 @@ use Rattle.cfdp_c.proofs.Boxes.{both, RawBox, raw_box_good, raw_box_in}
 use Rattle.cfdp_entity.specs.contracts.entity.Entity as T
 use Rattle.cfdp_c.specs.code.Ownership.{box_freeing, slot_owns}
 use Rattle.cfdp_c.proofs.Values.{slot_val, slot_told, slot_typed, content_of, content_is}
-use Rattle.cfdp_c.specs.contracts.slot.Slot as slot
+use Rattle.cfdp_c.specs.contracts.slot.EngineSlot as slot
 use Rattle.cfdp_c.specs.contracts.slot.EngineSlot.into_raw_box as f
 use Rattle.cfdp_c.proofs.slot.EngineSlot.into_raw_box.Statement.{statement}
 use Rattle.cfdp_c.proofs.slot.EngineSlot.into_raw_box.Code as code

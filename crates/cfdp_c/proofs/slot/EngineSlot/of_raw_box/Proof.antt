@@ -26,7 +26,7 @@ use Rattle.std_heap.proofs.Global.TheLaws as GL
 use Rattle.cfdp_c.proofs.Boxes.{both, RawBox, raw_box_good, raw_box_out}
 use Rattle.cfdp_entity.specs.contracts.entity.Entity as T
 use Rattle.cfdp_c.proofs.Values.{slot_val, field_own, slot_made, slot_typed}
-use Rattle.cfdp_c.specs.contracts.slot.Slot as slot
+use Rattle.cfdp_c.specs.contracts.slot.EngineSlot as slot
 use Rattle.cfdp_c.specs.contracts.slot.EngineSlot.of_raw_box as f
 use Rattle.cfdp_c.proofs.slot.EngineSlot.of_raw_box.Statement.{statement}
 use Rattle.cfdp_c.proofs.slot.EngineSlot.of_raw_box.Code as code

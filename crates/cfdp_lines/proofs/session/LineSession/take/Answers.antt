@@ -2,7 +2,7 @@ use Rattle.std.proofs.Common.{◌≡◌, ◌≤◌, true, Err, [], ◌++◌, len
 use Rattle.std.proofs.lemmas.Bool.{cases_lt}
 use Rattle.std.proofs.lemmas.List.{nil_from_length}
 use Rattle.std.proofs.lemmas.Result.{err_from_is_err_and}
-use Rattle.cfdp_lines.specs.declared.script.LineFault.TheVariants.{Bad, Memory}
+use Rattle.cfdp_lines.specs.declared.faults.LineFault.TheVariants.{Bad, Memory}
 use Rattle.cfdp_lines.specs.Lines.{is_newline, line_limit, IsOneLine}
 use Rattle.cfdp_lines.proofs.Feeding.{one_line-before, one_line-whole, Adds-line, Stops-overlong, Stops-line, Stops-good_line}
 use Rattle.cfdp_lines.proofs.Moving.{StopsBad-overlong, StopsBad-open}

@@ -1,6 +1,6 @@
 use Rattle.std.proofs.Common.{rules, ◌≡◌, length}
 use Rattle.cfdp_links.proofs.Numbering.{handed_all}
-use Rattle.cfdp_sim.proofs.link_scripts.settle_all.Goals as goal
+use Rattle.cfdp_sim.proofs.link_scripts.check_workers.Goals as goal
 
 pub returns-clause-handed : goal.returns-clause-handed
 returns-clause-handed c =

@@ -6,7 +6,7 @@ use Rattle.cfdp_engine.specs.Sharing.{receipt_events}
 use Rattle.cfdp_links.specs.Linked.{AllNumbered, AreHanded, HasReadable, IsHeard, IsWork}
 use Rattle.cfdp_links.specs.code.Linked.{took_of}
 use Rattle.cfdp_links.specs.Links.{said_of}
-use Rattle.cfdp_sim.proofs.link_scripts.settle_all.Given as goal
+use Rattle.cfdp_sim.proofs.link_scripts.check_workers.Given as goal
 
 abbrev pub invariant-loop-worked : goal.invariant-loop-worked
 invariant-loop-worked l = record {
