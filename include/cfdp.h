@@ -28,19 +28,20 @@
  * While cfdp_receive judges a Metadata PDU with more than 64 filestore requests it also takes, and gives back, 40
  * octets for each of them. Until a list is judged that changes directories with entries and names what is in them it
  * also takes up to 480 octets for each path that it sees, and four times the octets of these, as docs/C.md says: so a
- * Metadata PDU takes at most 5200000 octets, and the most that is known is @SWAPR@.
+ * Metadata PDU takes at most 5200000 octets, and the most that is known is 1380061.
  * After the last cfdp_take nothing is kept but what cfdp_new took, and a table that grows once, by 57032 octets,
  * where many transactions come and go with more than 32 known at once. examples/c/memory.c counts it.
  *
- * THE LONGEST CALLS that we know on a full filestore of 65536 blocks take, in millions of instructions: cfdp_receive
- * 324 (Metadata: 64 renames of and in two directories that hold the same 124 chains of directories), 18 (Metadata: a
- * rename of the first of seven directories, each in the one before it, with 60000 files in the last one, and a request
- * that names one of these), 7.0 (Metadata: 63 renames of a directory of 60000 entries, and a request that names
- * something in it), 6.4 (Metadata: 64 renames of long paths, beside 63 such lists) and 3.0 (File Data at the end of a
- * file of 7.8 MB of which nothing came); cfdp_free 27 (64 lists of such renames are live), cfdp_step 10.5 (an append of
- * 3.9 MB), cfdp_put 8.1 (a file of 7.8 MB), cfdp_read 2.7 (7.8 MB), cfdp_cancel 1.6 (a list of such renames), and as
- * much each call by which such a list ends, cfdp_new 1.6, and cfdp_reply_text 0.24 (the longest Finished PDU). Each
- * other call takes less than 0.1. docs/C.md has the longest case of each.
+ * THE LONGEST CALLS that we know on a full filestore of 65536 blocks take, in millions of instructions: cfdp_receive 45
+ * (Metadata: 64 renames of and in two directories that hold the same 124 chains of directories), 23 (Metadata: 63 files
+ * beside 30000 directories with a file each, and a rename of the directory that has them), 6.4 (Metadata: 64 renames of
+ * long paths, beside 63 such lists), 3.0 (File Data at the end of a file of 7.8 MB of which nothing came), 2.9
+ * (Metadata: 64 renames of a directory of 65000 entries) and 2.6 (Metadata: a file for each of six directories, each in
+ * the one before it, and a rename of the first, with 60000 files in the last one); cfdp_free 27 (64 lists of such
+ * renames are live), cfdp_step 11 (an append of 3.9 MB), cfdp_put 8.1 (a file of 7.8 MB), cfdp_read 2.7 (7.8 MB),
+ * cfdp_cancel 1.6 (a list of such renames), and as much each call by which such a list ends, cfdp_new 1.6, and
+ * cfdp_reply_text 0.24 (the longest Finished PDU). Each other call takes less than 0.1. docs/C.md has the longest case
+ * of each.
  *
  * NAMES begin with cfdp_ or CFDP_, and those of an enumeration say which one. Other CFDP packages use some of the
  * short names that came before, such as CFDP_DONE. They are macros at the end of this header until version 0.2.0;
@@ -211,8 +212,8 @@ enum cfdp_answer cfdp_free(struct cfdp_engine *engine);
  * CFDP_ANSWER_REQUEST_TOO_LONG); CFDP_ANSWER_NO_MEMORY for a Metadata PDU alone. The octets are not kept. Cost: one
  * pass over them, and that of the event: of File Data and of an EOF PDU as docs/CONFORMANCE.md says; of a Metadata
  * PDU the paths of its requests, a few searches among the leased paths for each, and for a directory with entries that
- * its list changes a comparison with each path that it names, and walks over what is there if a request renames it (see
- * THE LONGEST CALLS). */
+ * its list changes some searches among the paths that it names, and one walk over what is there if a request renames
+ * it (see THE LONGEST CALLS). */
 enum cfdp_answer cfdp_receive(struct cfdp_engine *engine, const uint8_t *octets, size_t length,
                               struct cfdp_reply *reply);
 

@@ -649,6 +649,7 @@ static const struct workload workloads[] = {
     {"moves-admitted", 70, 30000, 65000, RANDOM, prepare_moves, admit, check_moves},
     {"inside-admitted", 70, 30000, 65000, RANDOM, prepare_inside, admit, check_nothing},
     {"nested-walk", 70, 30000, 60000, RISING, prepare_nested_walk, admit, check_nothing},
+    {"subdirectories", 70, 15000, 30000, RISING, prepare_subdirectories, admit, check_nothing},
     {"move-step", 70, 30000, 65000, RANDOM, prepare_move_step, step_list, check_moved},
     {"move-deeper", 70, 30000, 65000, RANDOM, prepare_deeper, step_list, check_deeper},
     /* the size: blocks of the filestore */

@@ -189,8 +189,8 @@ static void prepare_chains(uint32_t requests) {
     }
 }
 
-/* Directories, each in the one before it: in each is this many other directories with a file, and the last has this
- * many files. A list creates a file in each, and then renames the first one. */
+/* Directories, each in the one before it: each but the last also has this many other directories with a file, and the
+ * last has this many files. A list creates a file in each, and then renames the first one. */
 enum { WALKED = 6, WALKED_FILES = 4096, NEIGHBOURS = 16 };
 
 static void put_level(const char *path, uint32_t others) {
@@ -205,11 +205,11 @@ static void put_level(const char *path, uint32_t others) {
 }
 
 static void prepare_walk(uint32_t others, uint32_t files) {
-    char path[TEXT] = "d", text[TEXT];
+    char path[TEXT / 2] = "d", text[TEXT];
     make_engine(BLOCKS);
     make_metadata(LIST_NUMBER, 0, "");
     for (int level = 1; level <= WALKED; level++) {
-        put_level(path, others);
+        put_level(path, level < WALKED ? others : 0);
         sprintf(text, "%s/z", path);
         add_request(CREATE_FILE, text, NULL);
         if (level < WALKED) sprintf(path + strlen(path), "/m%d", level);
@@ -224,5 +224,25 @@ static void prepare_walk(uint32_t others, uint32_t files) {
 static void prepare_nested_walk(uint32_t files) { prepare_walk(NEIGHBOURS, files); }
 
 static void prepare_other_directories(uint32_t others) { prepare_walk(others, WALKED_FILES); }
+
+/* A directory with directories, each of which has a file. A list creates 63 files beside them, and renames the first
+ * directory. */
+static void prepare_subdirectories(uint32_t count) {
+    char text[TEXT];
+    make_engine(BLOCKS);
+    put_text("d", CFDP_ENTRY_DIRECTORY);
+    for (uint32_t i = 0; i < count; i++) {
+        sprintf(text, "d/%05u", (unsigned)i);
+        put_text(text, CFDP_ENTRY_DIRECTORY);
+        strcat(text, "/x");
+        put_text(text, CFDP_ENTRY_FILE);
+    }
+    make_metadata(LIST_NUMBER, 0, "");
+    for (uint32_t i = 1; i < LIST; i++) {
+        sprintf(text, "d/!%02u", (unsigned)i);
+        add_request(CREATE_FILE, text, NULL);
+    }
+    add_request(RENAME, "d", "e");
+}
 
 #endif

@@ -1,9 +1,9 @@
 //! What is below a directory, but for some of its entries and what is below these.
-ghost use Rattle.std.specs.Prelude.{◌≡◌, ◌+◌, ◌≤◌, ◌++◌, [], ◌∷◌, not, max, length};
-ghost use Rattle.std.specs.List.{list_any, position};
+ghost use Rattle.std.specs.Prelude.{◌≡◌, ◌+◌, ◌≤◌, ◌++◌, [], ◌∷◌, not, max, is_ok, length, IsTrue};
+ghost use Rattle.std.specs.List.{list_any};
 ghost use Rattle.cfdp_order.specs.Orders.{nodes, IsOrder};
 ghost use Rattle.cfdp_paths.specs.Paths.{same_path};
-ghost use Rattle.cfdp_tree.specs.code.Beside.{is_entry_beside, entries_beside};
+ghost use Rattle.cfdp_tree.specs.code.Beside.{AreChildrenInOrder, is_entry_beside, entries_beside};
 ghost use Rattle.cfdp_tree.specs.code.Nodes.{nodes_in};
 ghost use Rattle.cfdp_tree.specs.code.Tree.{IsTree};
 ghost use Rattle.cfdp_tree.specs.code.Orders.{IsInOrders, IsKnown};
@@ -23,19 +23,32 @@ pub(crate) struct Others<'a> {
     pub(crate) directory: &'a Path,
     /// The paths. Those that are no children of the directory leave nothing out.
     pub(crate) paths: &'a [Path],
+    /// If this is true, all paths are children of the directory and are in path order: then an entry is sought by
+    /// halves. If not, it is compared with each path in turn.
+    are_ordered: bool,
+    ghost in_order: { IsTrue are_ordered → AreChildrenInOrder directory.now paths.now },
 }
 
-/// The most entries that [`deepest_beside`] seeks without finding them left out, before it walks below each.
-const MOST_MISSES: usize = 16;
+/// Whether all paths are children of the directory and are in path order. Cost: two comparisons for each path.
+fn are_children_in_order(directory: &Path, paths: &[Path]) -> bool
+    ensures { IsTrue result → AreChildrenInOrder directory.now paths.now }
+{
+    paths.is_sorted() && paths.iter().all(|path| path.is_child_of(directory))
+}
 
-/// How far entries were sought among the paths of [`Others`]. It changes what a search costs, and not what it says.
-#[derive(Default, Drop)]
-pub(crate) struct Search {
-    /// The index after the path that was found last, at which the next search begins: so entries that are sought in
-    /// the order of the paths are found at once.
-    next: usize,
-    /// How many entries were sought and are not left out. Each of them was compared with all paths.
-    misses: usize,
+impl<'a> Others<'a> {
+    /// The entries of the directory that have these paths. Takes no memory. Cost: two comparisons for each path.
+    pub(crate) fn new(directory: &'a Path, paths: &'a [Path]) -> Others<'a>
+        ensures directory { result.directory.now ≡ directory.now }
+        ensures paths { result.paths.now ≡ paths.now }
+    {
+        let are_ordered = are_children_in_order(directory, paths);
+        Others {
+            directory,
+            paths,
+            are_ordered,
+        }
+    }
 }
 
 impl Others<'_> {
@@ -46,49 +59,41 @@ impl Others<'_> {
         path.is_child_of(self.directory) && path.name(self.directory.depth()) == name
     }
 
-    /// The index of the path of the entry of this name among some paths.
-    fn find(&self, paths: &[Path], name: &[u8]) -> Option<usize>
-        ensures { result ≡ position (same_path (self.now.directory.now ++ name.now ∷ [])) paths.now }
-    {
-        paths.iter().position(|path| self.is_entry(path, name))
-    }
-
-    /// Whether the entry of this name is left out.
-    fn has(&self, name: &[u8], search: &mut Search) -> bool
+    /// Whether the entry of this name is left out. Where the paths are in path order, the name is compared with the
+    /// logarithm of their number; else with each path.
+    fn has(&self, name: &[u8]) -> bool
         ensures { result ≡ list_any (same_path (self.now.directory.now ++ name.now ∷ [])) self.now.paths.now }
     {
-        let start = search.next.min(self.paths.len());
-        let (before, after) = self.paths.split_at(start);
-        match self.find(after, name) {
-            Some(count) => {
-                search.next = start + count + 1;
-                true
-            }
-            None => self.find(before, name).is_some(),
+        if self.are_ordered {
+            find_child(self.directory, self.paths, name).is_ok()
+        } else {
+            self.paths.iter().any(|path| self.is_entry(path, name))
         }
     }
 
     /// Whether an entry of the directory, of which this is the number of the node, is not left out.
-    fn leaves(&self, arena: &Arena, node: u16, search: &mut Search) -> bool
+    fn leaves(&self, arena: &Arena, node: u16) -> bool
         requires { IsKnown (nodes_in arena.now) node }
         ensures { result ≡ is_entry_beside self.now.directory.now self.now.paths.now (nodes_in arena.now) node }
     {
         let block = arena.bytes(BlockId::of_number(u32::from(node)));
-        let leaves = !self.has(name_in(block), search);
-        search.misses = search.misses.saturating_add(usize::from(leaves));
-        leaves
+        !self.has(name_in(block))
     }
+}
+
+/// `Ok`: the index of the path of the directory's entry of this name, among children of the directory in path order.
+/// `Err`: there is none. Takes no memory. The name is compared with the logarithm of their number.
+fn find_child(directory: &Path, children: &[Path], name: &[u8]) -> Result<usize, usize>
+    requires { AreChildrenInOrder directory.now children.now }
+    ensures { is_ok result ≡ list_any (same_path (directory.now ++ name.now ∷ [])) children.now }
+{
+    let depth = directory.depth();
+    children.binary_search_by(|child| child.name(depth).cmp(name))
 }
 
 /// Whether an order, which is of entries of the directory, has one that is not left out. Takes no memory. It looks at
 /// no more entries than are left out, and one more, by at most 22 calls within one another.
-pub(crate) fn any_beside(
-    arena: &Arena,
-    orders: &Orders,
-    order: Order,
-    others: &Others<'_>,
-    search: &mut Search,
-) -> bool
+pub(crate) fn any_beside(arena: &Arena, orders: &Orders, order: Order, others: &Others<'_>) -> bool
     requires tree { IsTree (nodes_in arena.now) }
     requires ordered { IsInOrders (nodes_in arena.now) orders.now None }
     requires order { IsOrder orders.now.links.items order }
@@ -103,21 +108,20 @@ pub(crate) fn any_beside(
         return false;
     }
     let around = orders.links[usize::from(order.root)];
-    any_beside(arena, orders, around.left(), others, search)
-        || others.leaves(arena, order.root, search)
-        || any_beside(arena, orders, around.right(), others, search)
+    any_beside(arena, orders, around.left(), others)
+        || others.leaves(arena, order.root)
+        || any_beside(arena, orders, around.right(), others)
 }
 
 /// The number of names of the longest path at and below an entry of the directory, of which this is the number of the
 /// node; or `before`, if that is more or the entry is left out. Takes no memory. A file or an empty directory is sought
-/// among the paths only where it would change the result. A directory with entries is sought before what is below it is
-/// walked over; after 16 that were sought and are not left out only if that would change the result.
+/// among the paths only where it would change the result, and a directory with entries before what is below it is
+/// walked over: what is below an entry that is left out is not walked over.
 fn deepest_at(
     arena: &Arena,
     orders: &Orders,
     node: u16,
     others: &Others<'_>,
-    search: &mut Search,
     before: usize,
 ) -> usize
     requires tree { IsTree (nodes_in arena.now) }
@@ -134,16 +138,11 @@ fn deepest_at(
     if entries.is_empty() && depth <= before {
         return before;
     }
-    let comes_first = search.misses < MOST_MISSES;
-    if comes_first && !others.leaves(arena, node, search) {
+    if !others.leaves(arena, node) {
         return before;
     }
     let here = depth.max(deepest_in(arena, orders, entries, depth + 1));
-    if before < here && (comes_first || others.leaves(arena, node, search)) {
-        here
-    } else {
-        before
-    }
+    before.max(here)
 }
 
 /// The number of names of the longest path at and below the entries in an order, which is of entries of the directory,
@@ -154,7 +153,6 @@ pub(crate) fn deepest_beside(
     orders: &Orders,
     order: Order,
     others: &Others<'_>,
-    search: &mut Search,
     most: usize,
 ) -> usize
     requires tree { IsTree (nodes_in arena.now) }
@@ -179,15 +177,15 @@ pub(crate) fn deepest_beside(
     let before = if left.is_empty() {
         most
     } else {
-        deepest_beside(arena, orders, left, others, search, most)
+        deepest_beside(arena, orders, left, others, most)
     };
     if before == MOST_NAMES {
         return before;
     }
-    let sofar = deepest_at(arena, orders, order.root, others, search, before);
+    let sofar = deepest_at(arena, orders, order.root, others, before);
     let right = around.right();
     if right.is_empty() {
         return sofar;
     }
-    deepest_beside(arena, orders, right, others, search, sofar)
+    deepest_beside(arena, orders, right, others, sofar)
 }

@@ -5,7 +5,7 @@ ghost use Rattle.cfdp_actions.specs.Filestore.{Becomes, node_at, parent_is_good}
 ghost use Rattle.cfdp_actions.specs.Store.{empty_store, free_blocks, with_changes};
 ghost use Rattle.cfdp_tree.specs.code.Changes.{empty_node};
 
-use crate::beside::{Others, Search, any_beside, deepest_beside};
+use crate::beside::{Others, any_beside, deepest_beside};
 use crate::contents::{Contents, contents_of, held_by};
 use crate::files::{find_file, set_contents};
 use crate::index;
@@ -50,11 +50,13 @@ use std::marker::Model;
 /// steps for each binary digit of the number of blocks, so 48 in a file of 65,536 blocks, in whatever order its octets
 /// came and are read. `deepest` and `standing` go through what is at and below the path, and `listing` through
 /// everything but the octets, in time linear in it; they sort nothing. `has_beside` looks at the entries of the
-/// directory that are among the others and at one more. `deepest_beside` goes through what is below the path. It goes
-/// below an entry that is left out only after it sought 16 that are not. Where the others are in path order, they
-/// compare each of them at most 2 and 25 times; else both may compare each entry that is left out with each of them.
-/// `deepest` and `deepest_beside` end at a path of 8 names. `next_entry` compares at most 45 names in each directory on
-/// the way, and looks its names up in the orders, not in the index.
+/// directory that are among the others and at one more. `deepest_beside` goes through what is below the path, and never
+/// below an entry that is among the others. Both first compare each of the others twice, at most. Where these are
+/// children of the directory in path order, an entry is then compared with the logarithm of their number, else with
+/// each of them: in `has_beside` each entry that it looks at, in `deepest_beside` each directory with entries, and of
+/// the other entries those up to the first that is not among the others. `deepest` and `deepest_beside` end at a path
+/// of 8 names. `next_entry` compares at most 45 names in each directory on the way, and looks its names up in the
+/// orders, not in the index.
 #[derive(Drop)]
 pub struct TreeStore {
     pub(crate) arena: Arena,
@@ -162,12 +164,8 @@ impl Filestore for TreeStore {
         match find_path(&self.arena, &self.heads, &self.orders, path) {
             Some(node) => {
                 let entries = self.orders.of(&Some(node));
-                let left_out = Others {
-                    directory: path,
-                    paths: others,
-                };
-                let mut search = Search::default();
-                any_beside(&self.arena, &self.orders, entries, &left_out, &mut search)
+                let left_out = Others::new(path, others);
+                any_beside(&self.arena, &self.orders, entries, &left_out)
             }
             None => false,
         }
@@ -204,19 +202,8 @@ impl Filestore for TreeStore {
                 if others.is_empty() {
                     return deepest_in(&self.arena, &self.orders, entries, path.depth() + 1) as u8;
                 }
-                let left_out = Others {
-                    directory: path,
-                    paths: others,
-                };
-                let mut search = Search::default();
-                deepest_beside(
-                    &self.arena,
-                    &self.orders,
-                    entries,
-                    &left_out,
-                    &mut search,
-                    0,
-                ) as u8
+                let left_out = Others::new(path, others);
+                deepest_beside(&self.arena, &self.orders, entries, &left_out, 0) as u8
             }
             None => 0,
         }

@@ -19,4 +19,4 @@ returns c =
     let arena = c.args.arena.now in let p = c.args.self.now.directory.now in
     let same = node_octets arena c.args.node c.requires.node c.bytes-block.result.now
     (subst (λ k. octets_at arena k ≡ Some c.bytes-block.result.now) (c.of_number.ensures.same_number ∙ c.from.ensures) c.bytes-block.ensures.octets) in
-    ap not c.has-leaves.ensures ∙ ap (λ n. not (list_any (same_path (p ++ n ∷ [])) c.args.self.now.paths.now)) (c.name_in.ensures ∙ ap node_name same)
+    ap not c.has.ensures ∙ ap (λ n. not (list_any (same_path (p ++ n ∷ [])) c.args.self.now.paths.now)) (c.name_in.ensures ∙ ap node_name same)

@@ -23,9 +23,10 @@ deepest_beside-requires-clause-order c =
 pub deepest_beside-requires-clause-deep : goal.deepest_beside-requires-clause-deep
 deepest_beside-requires-clause-deep c =
     let nodes = nodes_in c.self.inside.arena in let orders = c.self.inside.orders in let path = c.args.path.now in
-    subst (λ (o : Order). StandAt nodes (length path + 1) (trees.nodes orders.links.items o)) (sym c.of-entries.ensures)
+    subst (λ p. StandAt nodes (length p + 1) (trees.nodes orders.links.items c.of-entries.result)) (sym c.new-left_out.ensures.directory)
+    (subst (λ (o : Order). StandAt nodes (length path + 1) (trees.nodes orders.links.items o)) (sym c.of-entries.ensures)
     (directory_deep nodes c.self.invariant.store.kept.tree orders c.self.invariant.ordered (Some c.in-Some.node) (length path)
-    (ap length c.in-Some.ensures.path))
+    (ap length c.in-Some.ensures.path)))
 
 pub deepest_in-requires-clause-order : goal.deepest_in-requires-clause-order
 deepest_in-requires-clause-order c =
@@ -68,6 +69,8 @@ returns-else-is_empty-clause-value c =
     c.self.invariant.store.kept.tree in let path = c.args.path.now in let others = c.args.others.now in
     let seen = shows _ _ _ c.self.invariant.store _ c.self.view_is in let found = c.in-Some.ensures in
     c.deepest_beside.ensures.value
+    ∙ (λ k. max 0 (most_names_in nodes (walks_at orders (length (c.new-left_out.ensures.directory k) + 1)
+    (entries_beside (c.new-left_out.ensures.directory k) (c.new-left_out.ensures.paths k) nodes (trees.nodes orders.links.items c.of-entries.result)))))
     ∙ ap (λ (o : Order). max 0 (most_names_in nodes (walks_at orders (length path + 1) (entries_beside path others nodes (trees.nodes orders.links.items o)))))
     c.of-entries.ensures
     ∙ zero-max (most_names_in nodes (walks_at orders (length path + 1) (entries_beside path others nodes (in_order orders (Some b)))))

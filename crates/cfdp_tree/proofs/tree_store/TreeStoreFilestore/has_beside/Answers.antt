@@ -19,16 +19,20 @@ any_beside-requires-clause-order c =
 pub any_beside-requires-clause-deep : goal.any_beside-requires-clause-deep
 any_beside-requires-clause-deep c =
     let nodes = nodes_in c.self.inside.arena in let orders = c.self.inside.orders in let path = c.args.path.now in
-    subst (λ (o : Order). StandAt nodes (length path + 1) (trees.nodes orders.links.items o)) (sym c.of-entries.ensures)
+    subst (λ p. StandAt nodes (length p + 1) (trees.nodes orders.links.items c.of-entries.result)) (sym c.new-left_out.ensures.directory)
+    (subst (λ (o : Order). StandAt nodes (length path + 1) (trees.nodes orders.links.items o)) (sym c.of-entries.ensures)
     (directory_deep nodes c.self.invariant.store.kept.tree orders c.self.invariant.ordered (Some c.in-Some.node) (length path)
-    (ap length c.in-Some.ensures.path))
+    (ap length c.in-Some.ensures.path)))
 
 pub returns-in-Some : goal.returns-in-Some
 returns-in-Some c =
     let arena = c.self.inside.arena in let nodes = nodes_in arena in let b = c.in-Some.node in let orders = c.self.inside.orders in let tree =
     c.self.invariant.store.kept.tree in let path = c.args.path.now in let others = c.args.others.now in
     let seen = shows _ _ _ c.self.invariant.store _ c.self.view_is in let found = c.in-Some.ensures in
-    c.any_beside.ensures ∙ ap (λ (o : Order). list_any (is_entry_beside path others nodes) (trees.nodes orders.links.items o)) c.of-entries.ensures
+    c.any_beside.ensures
+    ∙ (λ k. list_any (is_entry_beside (c.new-left_out.ensures.directory k) (c.new-left_out.ensures.paths k) nodes)
+    (trees.nodes orders.links.items c.of-entries.result))
+    ∙ ap (λ (o : Order). list_any (is_entry_beside path others nodes) (trees.nodes orders.links.items o)) c.of-entries.ensures
     ∙ any_is nodes tree arena c.args.self.now.filestore seen path others b found.node found.path orders c.self.invariant.ordered
 
 pub returns-in-None : goal.returns-in-None
