@@ -50,7 +50,7 @@ def part(doc, heading):
         if line.startswith("# "):
             inside = line[2:] == heading
         elif inside:
-            words.append(line)
+            words.append(line.removeprefix("- "))
     return plain(" ".join(words))
 
 

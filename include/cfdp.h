@@ -24,24 +24,33 @@
  * filestore takes memory. cfdp_new asks for CFDP_NEW_OCTETS octets, and for those of the prefixes. The transactions
  * that are known keep together at most the sum of this, for each: 2000 octets, 150 for each request, 300 for each
  * path (those of the requests and of the destination, and each directory above one of them), twice the octets of
- * these paths, and twice those of the names in the Metadata PDU. That is at most 600000 octets for a transaction.
+ * these paths, and twice those of the names in the Metadata PDU. That is at most 600000 octets for a transaction, and
+ * 38400000 for 64 of them.
  * While cfdp_receive judges a Metadata PDU with more than 64 filestore requests it also takes, and gives back, 40
- * octets for each of them. Until a list is judged that changes directories with entries and names what is in them it
- * also takes up to 480 octets for each path that it sees, and four times the octets of these, as docs/C.md says: so a
- * Metadata PDU takes at most 5200000 octets, and the most that is known is 1380061.
- * After the last cfdp_take nothing is kept but what cfdp_new took, and a table that grows once, by 57032 octets,
- * where many transactions come and go with more than 32 known at once. examples/c/memory.c counts it.
+ * octets for each of them. A list that changes directories with entries, and names paths in them, takes more until it
+ * is judged: up to 480 octets for each path that it sees, and four times the octets of that path (docs/C.md). So a
+ * Metadata PDU takes at most 5200000 octets. The most that we know of is 1380061.
+ * After the last cfdp_take nothing is kept but what cfdp_new took. examples/c/memory.c counts it.
  *
- * THE LONGEST CALLS that we know on a full filestore of 65536 blocks take, in millions of instructions: cfdp_receive 45
- * (Metadata: 64 renames of and in two directories that hold the same 124 chains of directories), 23 (Metadata: 63 files
- * beside 30000 directories with a file each, and a rename of the directory that has them), 6.4 (Metadata: 64 renames of
- * long paths, beside 63 such lists), 3.0 (File Data at the end of a file of 7.8 MB of which nothing came), 2.9
- * (Metadata: 64 renames of a directory of 65000 entries) and 2.6 (Metadata: a file for each of six directories, each in
- * the one before it, and a rename of the first, with 60000 files in the last one); cfdp_free 27 (64 lists of such
- * renames are live), cfdp_step 11 (an append of 3.9 MB), cfdp_put 8.1 (a file of 7.8 MB), cfdp_read 2.7 (7.8 MB),
- * cfdp_cancel 1.6 (a list of such renames), and as much each call by which such a list ends, cfdp_new 1.6, and
- * cfdp_reply_text 0.24 (the longest Finished PDU). Each other call takes less than 0.1. docs/C.md has the longest case
- * of each.
+ * THE LONGEST CALLS that we know on a full filestore of 65536 blocks, in millions of instructions. docs/C.md has the
+ * longest case of each call.
+ *   cfdp_receive, Metadata:   46  (64 renames of and in two directories that hold the same 124 chains of directories)
+ *   cfdp_receive, Metadata:  6.4  (64 renames of long paths, beside 63 such lists)
+ *   cfdp_receive, Metadata:  3.5  (63 files beside 30000 directories with a file each, and a rename of the directory
+ *                                 that has them)
+ *   cfdp_receive, Metadata:  2.9  (64 renames of a directory of 65000 entries)
+ *   cfdp_receive, Metadata:  2.6  (a file for each of six directories, each in the one before it, and a rename of the
+ *                                 first; 60000 files are in the last one)
+ *   cfdp_receive, File Data: 3.0  (the end of a file of 7.8 MB of which nothing came)
+ *   cfdp_free:                27  (64 lists of 64 renames of long paths are live)
+ *   cfdp_step:                11  (an append of 3.9 MB)
+ *   cfdp_put:                8.1  (a file of 7.8 MB)
+ *   cfdp_read:               2.7  (a file of 7.8 MB)
+ *   cfdp_cancel:             1.6  (a list of 64 renames of long paths, beside 63 such lists; as much for each other
+ *                                 call by which such a list ends)
+ *   cfdp_new:                1.6
+ *   cfdp_reply_text:        0.23  (the longest Finished PDU)
+ *   any other call: less than 0.1
  *
  * NAMES begin with cfdp_ or CFDP_, and those of an enumeration say which one. Other CFDP packages use some of the
  * short names that came before, such as CFDP_DONE. They are macros at the end of this header until version 0.2.0;
@@ -69,7 +78,7 @@ struct cfdp_engine {
 #define CFDP_ENGINE_EMPTY {0, NULL}
 
 /* The octets that cfdp_new asks for, without those of the prefixes. */
-#define CFDP_NEW_OCTETS(blocks) ((size_t)69240 + (size_t)152 * (blocks))
+#define CFDP_NEW_OCTETS(blocks) ((size_t)128504 + (size_t)152 * (blocks))
 
 /* What a call returns. After any answer other than CFDP_ANSWER_DONE the engine and all that is passed are as before,
  * but for the lengths that the call's text names; and but for cfdp_receiver_new, which frees the engine at
@@ -209,11 +218,11 @@ enum cfdp_answer cfdp_free(struct cfdp_engine *engine);
 
 /* Takes the octets of one whole PDU (5.1 to 5.3). Returns CFDP_ANSWER_DONE with the reply, CFDP_ANSWER_NO_ENGINE,
  * CFDP_ANSWER_NOT_OURS, or the first fault that the octets have (CFDP_ANSWER_TRUNCATED to
- * CFDP_ANSWER_REQUEST_TOO_LONG); CFDP_ANSWER_NO_MEMORY for a Metadata PDU alone. The octets are not kept. Cost: one
- * pass over them, and that of the event: of File Data and of an EOF PDU as docs/CONFORMANCE.md says; of a Metadata
- * PDU the paths of its requests, a few searches among the leased paths for each, and for a directory with entries that
- * its list changes some searches among the paths that it names, and one walk over what is there if a request renames
- * it (see THE LONGEST CALLS). */
+ * CFDP_ANSWER_REQUEST_TOO_LONG); CFDP_ANSWER_NO_MEMORY for a Metadata PDU alone. The octets are not kept.
+ * Cost: one pass over the octets, and the cost of the event. File Data and EOF: docs/CONFORMANCE.md. Metadata: a few
+ * searches among the leased paths for each path of its requests. For each directory with entries that its list changes
+ * also some searches among the paths that it names; and, if a request renames it, one walk over what is below it (see
+ * THE LONGEST CALLS). */
 enum cfdp_answer cfdp_receive(struct cfdp_engine *engine, const uint8_t *octets, size_t length,
                               struct cfdp_reply *reply);
 
@@ -295,11 +304,17 @@ struct cfdp_entry {
     uint64_t size;          /* in octets */
 };
 
-/* These say, and change nothing of the engine: the first transaction, in order of admission, whose items are being
- * performed; the first one whose outcome can be taken; the one with this index in order of admission, from 0 (those
- * that are refused, done or ended count until their outcome is taken); how far a transaction is; what was granted to
- * it; the blocks that it took less those that it gave back; the steps that it spent; the blocks. They answer
- * CFDP_ANSWER_DONE, with what is asked for; CFDP_ANSWER_NOTHING where there is no such transaction; or
+/* None of these calls changes the engine.
+ *   cfdp_next_runnable:  the first transaction, in order of admission, whose items are being performed
+ *   cfdp_next_outcome:   the first, in this order, whose outcome can be taken
+ *   cfdp_transaction_at: the transaction with this index in order of admission, from 0; those that are refused, done or
+ *                        ended count until their outcome is taken
+ *   cfdp_phase:          how far a transaction is
+ *   cfdp_grant:          what was granted to it
+ *   cfdp_blocks_spent:   the blocks that it took, less those that it gave back
+ *   cfdp_steps_spent:    the steps that it spent
+ *   cfdp_blocks:         the blocks of the filestore
+ * They answer CFDP_ANSWER_DONE, with what is asked for; CFDP_ANSWER_NOTHING where there is no such transaction; or
  * CFDP_ANSWER_NO_ENGINE. Cost: of the first two at most a pass over the 64 transactions, of the others a look-up of
  * the transaction. */
 enum cfdp_answer cfdp_next_runnable(struct cfdp_engine *engine, struct cfdp_transaction *transaction);
@@ -318,9 +333,9 @@ enum cfdp_answer cfdp_gap(struct cfdp_engine *engine, uint64_t source, uint64_t 
                           struct cfdp_gap *gap);
 
 /* How far a transaction's file has come. cfdp_progress: the end of the last octet that is kept, 0 if none is.
- * cfdp_reach: the offset up to which cfdp_gap says what is missing, which is the same until the EOF PDU comes, and
- * then the size that it gave; 0 if no file data is taken. Returns CFDP_ANSWER_DONE, CFDP_ANSWER_NOTHING if there is
- * no such transaction, or CFDP_ANSWER_NO_ENGINE. Cost: a look-up of the transaction. */
+ * cfdp_reach: the end of what cfdp_gap reports. Before the EOF PDU it is the same as cfdp_progress, after it the size
+ * that the EOF PDU gave; 0 if the transaction takes no file data. Returns CFDP_ANSWER_DONE, CFDP_ANSWER_NOTHING if
+ * there is no such transaction, or CFDP_ANSWER_NO_ENGINE. Cost: a look-up of the transaction. */
 enum cfdp_answer cfdp_progress(struct cfdp_engine *engine, uint64_t source, uint64_t number, uint64_t *offset);
 enum cfdp_answer cfdp_reach(struct cfdp_engine *engine, uint64_t source, uint64_t number, uint64_t *offset);
 
@@ -334,7 +349,7 @@ enum cfdp_answer cfdp_metadata(struct cfdp_engine *engine, uint64_t source, uint
  * written to the beginning of `out`, with a 0 after them where there is room, and `*count` says how many they are
  * without it: at most 255, and 0 if the PDU names no file. So with 256 octets of room it is a C string. Returns
  * CFDP_ANSWER_DONE; CFDP_ANSWER_TOO_SHORT with the length needed in `*count`; CFDP_ANSWER_NOTHING if there is no
- * such transaction; or CFDP_ANSWER_NO_ENGINE. */
+ * such transaction; or CFDP_ANSWER_NO_ENGINE. Cost: a look-up of the transaction, and one copy of the name. */
 enum cfdp_answer cfdp_source_name(struct cfdp_engine *engine, uint64_t source, uint64_t number, uint8_t *out,
                                   size_t room, size_t *count);
 enum cfdp_answer cfdp_destination_name(struct cfdp_engine *engine, uint64_t source, uint64_t number, uint8_t *out,
@@ -365,17 +380,17 @@ enum cfdp_answer cfdp_next(struct cfdp_engine *engine, struct cfdp_path *path, s
  * room, and `*count` says how long it is without the 0: at most 101 octets, or 52 + 2 * `length` where that is more,
  * which is 33028 for the longest Finished PDU. Returns CFDP_ANSWER_DONE; CFDP_ANSWER_TOO_SHORT with the length
  * needed in `*count`; CFDP_ANSWER_NOTHING where no reply has these numbers; or CFDP_ANSWER_NO_MEMORY (for the line).
- * It needs no engine. */
+ * It needs no engine. Cost: a pass over `octets`; the line is made, and copied once. */
 enum cfdp_answer cfdp_reply_text(const struct cfdp_reply *reply, const uint8_t *octets, size_t length, uint8_t *out,
                                  size_t room, size_t *count);
 
 /* The line that `cfdpsim replay` writes of a PDU to which cfdp_receive answered CFDP_ANSWER_NOT_OURS, or
  * CFDP_ANSWER_TRUNCATED to CFDP_ANSWER_REQUEST_TOO_LONG: "pdu dropped truncated\n". At most 29 octets, and a 0 after
  * them where there is room. Returns CFDP_ANSWER_DONE; CFDP_ANSWER_TOO_SHORT with the length needed in `*count`; or
- * CFDP_ANSWER_NOTHING for any other answer. It needs no engine and takes no memory. */
+ * CFDP_ANSWER_NOTHING for any other answer. It needs no engine and takes no memory. Cost: one copy of the line. */
 enum cfdp_answer cfdp_answer_text(enum cfdp_answer answer, uint8_t *out, size_t room, size_t *count);
 
-/* sizeof(struct cfdp_engine), as the library has it: 16. */
+/* sizeof(struct cfdp_engine), as the library has it: 16. Cost: constant. */
 size_t cfdp_engine_octets(void);
 
 /* The three functions that the library takes memory from. The kit's liblibc_c.a defines them with malloc; a program

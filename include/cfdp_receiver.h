@@ -36,6 +36,9 @@ struct cfdp_receiver {
 };
 #define CFDP_RECEIVER_EMPTY {0, NULL}
 
+/* The octets that cfdp_receiver_new asks for, whatever the configuration. */
+#define CFDP_RECEIVER_NEW_OCTETS ((size_t)12264)
+
 /* What is done at a fault (fault handling procedures). */
 enum cfdp_handler {
     CFDP_HANDLER_CANCEL = 1,    /* the transaction is cancelled, with the condition code of the fault */
@@ -176,7 +179,7 @@ enum cfdp_answer cfdp_receiver_cancel(struct cfdp_receiver *receiver, uint64_t n
 
 /* The names of the 256 transactions that were closed last are forgotten, for a sender whose transaction sequence
  * numbers begin anew. A Metadata PDU of one of them that comes once more begins it anew then. Returns
- * CFDP_ANSWER_DONE with the report, or CFDP_ANSWER_NO_ENGINE. */
+ * CFDP_ANSWER_DONE with the report, or CFDP_ANSWER_NO_ENGINE. Cost: constant. */
 enum cfdp_answer cfdp_receiver_forget_closed(struct cfdp_receiver *receiver, struct cfdp_report *report);
 
 /* The moment from which on a timer is due, to `*moment`. Returns CFDP_ANSWER_DONE; CFDP_ANSWER_NOTHING where none
@@ -192,7 +195,7 @@ enum cfdp_answer cfdp_receiver_write(struct cfdp_receiver *receiver, size_t numb
                                      size_t *count);
 
 /* These return of the filestore and of a transaction's Metadata PDU what cfdp_look_up, cfdp_read, cfdp_next and
- * cfdp_destination_name return of those of an engine, with the same answers. The name can be asked for from
+ * cfdp_destination_name return of those of an engine, with the same answers and costs. The name can be asked for from
  * CFDP_INDICATION_METADATA_RECV on until cfdp_receiver_finish takes the transaction's outcome. */
 enum cfdp_answer cfdp_receiver_look_up(struct cfdp_receiver *receiver, const struct cfdp_path *path,
                                        struct cfdp_entry *entry);
@@ -202,7 +205,7 @@ enum cfdp_answer cfdp_receiver_next(struct cfdp_receiver *receiver, struct cfdp_
 enum cfdp_answer cfdp_receiver_destination_name(struct cfdp_receiver *receiver, uint64_t source, uint64_t number,
                                                 uint8_t *out, size_t room, size_t *count);
 
-/* sizeof(struct cfdp_receiver), as the library has it: 16. */
+/* sizeof(struct cfdp_receiver), as the library has it: 16. Cost: constant. */
 size_t cfdp_receiver_octets(void);
 
 #ifdef __cplusplus

@@ -299,7 +299,7 @@ class HeadersTest(unittest.TestCase):
         self.assertEqual(package | {"answer": answers}, headers)
 
     def test_each_name_of_the_package_is_given_out(self) -> None:
-        """Each exception and each enumeration, and type checkers are told that the package has types."""
+        """Each exception and each enumeration, and type checkers see that the package has types."""
         for kind in [*cezhutal.Refused.__subclasses__(), *self.ENUMS.values()]:
             with self.subTest(kind.__name__):
                 self.assertIn(kind.__name__, cezhutal.__all__)

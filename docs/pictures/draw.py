@@ -31,8 +31,8 @@ class Picture:
 
     def text(self, x, y, text, size=14, anchor="middle", bold=False, colour="#000000"):
         style = ' font-weight="bold"' if bold else ""
-        place = f'x="{x:g}" y="{y:g}" font-size="{size}" text-anchor="{anchor}" fill="{colour}"'
-        self.shapes.append(f"<text {place}{style}>{escape(text)}</text>")
+        attributes = f'x="{x:g}" y="{y:g}" font-size="{size}" text-anchor="{anchor}" fill="{colour}"'
+        self.shapes.append(f"<text {attributes}{style}>{escape(text)}</text>")
 
     def rect(self, x, y, width, height, fill="#ffffff", stroke="#000000", round=4, dash=False, line=1.2):
         dashes = ' stroke-dasharray="5 4"' if dash else ""
@@ -45,12 +45,12 @@ class Picture:
         self.rect(x, y, width, height, fill, dash=dash, round=round)
         step = size + 5
         first = y + height / 2 - step * (len(lines) - 1) / 2 + size * 0.36
-        for place, line in enumerate(lines):
-            is_bold = bold and place == 0
-            letters = size if place == 0 else size - 1
+        for index, line in enumerate(lines):
+            is_bold = bold and index == 0
+            letters = size if index == 0 else size - 1
             if width_of(line, letters, is_bold) > width - 6:
                 raise ValueError(f"{self.title}: '{line}' is too wide for its box")
-            self.text(x + width / 2, first + place * step, line, letters, bold=is_bold)
+            self.text(x + width / 2, first + index * step, line, letters, bold=is_bold)
 
     def line(self, points, arrow=True, colour="#000000", dash=False):
         """A line through points, with an arrow at its end."""
@@ -118,7 +118,7 @@ def layers_of(edges):
 
 
 def neighbours(chains):
-    """What each crate and each place of a line is joined with."""
+    """What each node is joined with: a crate, or the point at which a line passes a layer."""
     near = {}
     for chain in chains:
         for one, other in zip(chain, chain[1:]):
@@ -140,17 +140,17 @@ def rows_of(edges, layer):
     for user, lows in edges.items():
         for low in lows:
             between = [(user, low, level) for level in range(layer[user] - 1, layer[low], -1)]
-            for place in between:
-                rows[place[2]].append(place)
+            for node in between:
+                rows[node[2]].append(node)
             chains.append([user, *between, low])
     near = neighbours(chains)
-    at = {one: float(place) for row in rows for place, one in enumerate(row)}
+    at = {one: float(index) for row in rows for index, one in enumerate(row)}
     for turn in range(60):
         for row in rows if turn % 2 else reversed(rows):
             wanted = {one: mean([at[other] for other in near[one]]) for one in row}
             row.sort(key=lambda one: wanted[one])
             first = mean(wanted.values()) - (len(row) - 1) / 2
-            at.update({one: first + place for place, one in enumerate(row)})
+            at.update({one: first + index for index, one in enumerate(row)})
     return rows, chains
 
 
@@ -158,29 +158,29 @@ GAP = 14
 
 
 def from_left(wanted, row, sizes, low):
-    """Places for a row, each the least that is not before its wanted place and leaves room for those before it."""
-    places, edge = {}, low
+    """Positions for a row, each the least that is not before the wanted one and leaves room for those before it."""
+    positions, edge = {}, low
     for one in row:
-        places[one] = max(wanted[one], edge + sizes[one] / 2)
-        edge = places[one] + sizes[one] / 2 + GAP
-    return places
+        positions[one] = max(wanted[one], edge + sizes[one] / 2)
+        edge = positions[one] + sizes[one] / 2 + GAP
+    return positions
 
 
 def from_right(wanted, row, sizes, high):
     """The same from the right."""
     mirrored = from_left({one: -wanted[one] for one in row}, row[::-1], sizes, -high)
-    return {one: -place for one, place in mirrored.items()}
+    return {one: -position for one, position in mirrored.items()}
 
 
 def settle(wanted, row, sizes, low, high):
-    """Places for a row from left to right, near those that are wanted, with room between them."""
+    """Positions for a row from left to right, near those that are wanted, with room between them."""
     left, right = from_left(wanted, row, sizes, low), from_right(wanted, row, sizes, high)
     middle = {one: (left[one] + right[one]) / 2 for one in row}
     return from_right(from_left(middle, row, sizes, low), row, sizes, high)
 
 
-def places_in(rows, chains, sizes, low, high):
-    """Where each crate and each place of a line is from left to right: near what it is joined with."""
+def positions_in(rows, chains, sizes, low, high):
+    """Where each node is from left to right: near what it is joined with."""
     near = neighbours(chains)
     x = {one: low + (high - low) * (at + 1) / (len(row) + 1) for row in rows for at, one in enumerate(row)}
     for turn in range(80):
@@ -206,7 +206,7 @@ def draw_crates():
     step, half = 78, 17
     height = 50 + step * len(rows)
     sizes = {one: box_width(one) if isinstance(one, str) else 10 for row in rows for one in row}
-    x = places_in(rows, chains, sizes, 20, 980)
+    x = positions_in(rows, chains, sizes, 20, 980)
     width = max(1000, round(max(x[one] + sizes[one] / 2 for one in x)) + 20)
     picture = Picture(width, height, "The crates, and which of them each one uses")
     y = {one: height - 80 - step * level for level, row in enumerate(rows) for one in row}
@@ -226,8 +226,8 @@ def draw_crates():
         picture.text(at, height - 21, "used by no other crate yet", 13, "start")
     about = ("Names are without cfdp_. Blue: a program, or the C library. Dashed: only tests.",
              "An arrow goes from a crate to one that it uses, unless a longer way leads there too.")
-    for place, line in enumerate(about):
-        picture.text(980, height - 32 + 19 * place, line, 13, "end")
+    for index, line in enumerate(about):
+        picture.text(980, height - 32 + 19 * index, line, 13, "end")
     picture.write("crates.svg")
 
 
@@ -324,9 +324,9 @@ def draw_phases():
     for x in (315, 590):
         picture.line([(x, 496), (x, 548)], arrow=False)
     picture.line([(855, 496), (855, 548)], arrow=False)
-    for place, (phase, faults) in enumerate(PHASE_FAULTS):
-        picture.text(20, 612 + 24 * place, phase, 13, "start", bold=True)
-        picture.text(140, 612 + 24 * place, faults, 13, "start")
+    for index, (phase, faults) in enumerate(PHASE_FAULTS):
+        picture.text(20, 612 + 24 * index, phase, 13, "start", bold=True)
+        picture.text(140, 612 + 24 * index, faults, 13, "start")
     picture.text(20, 684, PHASE_REST, 13, "start")
     picture.write("phases.svg")
 
@@ -373,7 +373,7 @@ WAY = (
 
 
 def draw_call(picture, start, text, end, y):
-    """An arrow from a place to a place, with a text over it. One to the left is a reply."""
+    """An arrow from one lane to another, with a text over it. One to the left is a reply."""
     width, middle = width_of(text, 13), (start + end) / 2
     if width > abs(end - start) - 16:
         raise ValueError(f"'{text}' is too wide for its arrow")
@@ -390,8 +390,8 @@ def draw_way():
     for lane, x, head in LANES:
         picture.line([(x, 64), (x, 84 + row * len(WAY))], arrow=False, colour="#999999", dash=True)
         picture.box(x - 72, 16, 144, 48, head, fill="#ffffff" if lane == "caller" else BLUE)
-    for place, (start, text, end) in enumerate(WAY):
-        y = 96 + row * place
+    for index, (start, text, end) in enumerate(WAY):
+        y = 96 + row * index
         if start:
             draw_call(picture, lanes[start], text, lanes[end], y)
         else:
@@ -531,8 +531,8 @@ def draw_lock():
     draw_worker(picture, 1, 60, 132, 290, 170)
     picture.line([(20, 374), (980, 374)])
     picture.text(980, 392, "time", 13, "end")
-    for place, text in enumerate(LOCK_NOTES):
-        picture.text(20, 412 + 24 * place, text, 13, "start")
+    for index, text in enumerate(LOCK_NOTES):
+        picture.text(20, 412 + 24 * index, text, 13, "start")
     picture.write("lock.svg")
 
 

@@ -124,6 +124,15 @@ static uint32_t read_last(uint32_t count) {
     return 1;
 }
 
+/* The piece to which most steps lead back from the end of the file, whatever its size. */
+enum { FAR_PIECE = 2 };
+
+static uint32_t read_far(uint32_t count) {
+    (void)count;
+    read_piece(FAR_PIECE);
+    return 1;
+}
+
 static uint32_t look_up(uint32_t size) {
     (void)size;
     if (cfdp_look_up(&engine, &image, &seen[0].entry) != CFDP_DONE) fail("no file");
@@ -153,6 +162,11 @@ static void check_octets(uint32_t start, uint32_t stop) {
 static void check_all(uint32_t count) { check_octets(0, count * PIECE); }
 
 static void check_last(uint32_t count) { check_octets((count - 1) * PIECE, count * PIECE); }
+
+static void check_far(uint32_t count) {
+    (void)count;
+    check_octets(FAR_PIECE * PIECE, (FAR_PIECE + 1) * PIECE);
+}
 
 /* The file is the one that was sent: its entry was seen, and it is read. */
 static void check_entry(uint32_t count) {
@@ -622,6 +636,7 @@ static const struct workload workloads[] = {
     {"look-up", 30, 7800, MOST_PIECES, RISING, deliver, look_up, check_entry},
     {"next-file", 30, 7800, MOST_PIECES, RISING, deliver, go_through, check_next_entry},
     {"read-last", 30, 7800, MOST_PIECES, RISING, deliver, read_last, check_last},
+    {"read-far", 30, 7800, MOST_PIECES, RISING, deliver, read_far, check_far},
     {"read-in-order", 30, 7800, MOST_PIECES, RISING, deliver, read_all, check_all},
     {"read-backwards", 30, 7800, MOST_PIECES, FALLING, deliver, read_all, check_all},
     {"read-random", 30, 7800, MOST_PIECES, RANDOM, deliver, read_all, check_all},
@@ -666,8 +681,10 @@ static const struct workload workloads[] = {
     {"read-whole", 30, 7800, MOST_PIECES, RISING, deliver, read_whole, check_all},
     /* the size: requests of a list */
     {"take", 1, LIST, LIST, RISING, prepare_take, take_list, check_taken},
+    {"reply-text", 1, LIST, LIST, RISING, prepare_text, write_text, check_text},
     /* the size: other transactions with a list as long as the one that is admitted */
     {"long-list", 1, LIVE, LIVE, RISING, prepare_long, admit, check_nothing},
+    {"last-step", 1, LIVE, LIVE, RISING, prepare_last_step, step_list, check_done},
     {"cancel-list", 1, LIVE, LIVE, RISING, prepare_live, cancel_list, check_nothing},
     {"free-live", 1, LIVE, LIVE, RISING, prepare_live, free_engine, check_gone},
     /* the size: requests of a list */

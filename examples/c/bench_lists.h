@@ -1,4 +1,5 @@
-/* The workloads of bench.c with lists that take long to judge. bench.c includes this after what they use of it. */
+/* The workloads of bench.c with lists that take long to judge or have a long outcome. bench.c includes this file after
+ * the functions that it uses. */
 #ifndef BENCH_LISTS_H
 #define BENCH_LISTS_H
 
@@ -67,6 +68,19 @@ static void prepare_long(uint32_t others) {
 static void prepare_live(uint32_t others) {
     prepare_long(others);
     receive(CFDP_ADMITTED);
+}
+
+/* All requests of the last one were performed but for one. */
+static void prepare_last_step(uint32_t others) {
+    prepare_live(others);
+    make_eof(LIST_NUMBER, 0, 0);
+    receive(CFDP_COMPLETE);
+    for (uint32_t request = 0; request + 1 < LIST; request++) step(LIST_NUMBER, CFDP_PERFORMED);
+}
+
+static void check_done(uint32_t others) {
+    (void)others;
+    take(LIST_NUMBER, 0);
 }
 
 /* The engine is gone, and another one can be made. */
@@ -243,6 +257,65 @@ static void prepare_subdirectories(uint32_t count) {
         add_request(CREATE_FILE, text, NULL);
     }
     add_request(RENAME, "d", "e");
+}
+
+/* Octets of the longest header, of the name of a request that makes the longest response, and of the longest line. */
+enum { WIDE_HEADER = 28, WIDE_NAME = 252, LONGEST_LINE = 33028 };
+
+/* The outcome of a list of transaction WIDE/WIDE, whose numbers have the most digits, and its line. */
+static const uint64_t WIDE = UINT64_MAX;
+static struct cfdp_reply outcome;
+static uint8_t finished[16488], line[LONGEST_LINE];
+static size_t finished_length, line_length;
+
+/* The Metadata PDU of a list with the longest numbers in its header, which denies files with long paths. */
+static void make_wide_list(uint32_t requests) {
+    char name[WIDE_NAME + 1];
+    length = 0;
+    put("\x24\0\0\x77", 4);
+    put(&WIDE, sizeof WIDE);
+    put(&WIDE, sizeof WIDE);
+    put("\0\0\0\0\0\0\0\2\x07\x40\0\0\0\0\0\0", WIDE_HEADER - 20 + 8);
+    for (uint32_t request = 0; request < requests; request++) {
+        memset(name, 'x', WIDE_NAME);
+        name[96] = name[193] = '/';
+        name[WIDE_NAME - 2] = (char)('a' + request / 8);
+        name[WIDE_NAME - 1] = (char)('a' + request % 8);
+        name[WIDE_NAME] = 0;
+        add_request(DENY_FILE, name, NULL);
+    }
+    pdu[1] = (uint8_t)((length - WIDE_HEADER) >> 8);
+    pdu[2] = (uint8_t)(length - WIDE_HEADER);
+}
+
+/* The list was cancelled, so that its Finished PDU also has a fault location, and its outcome was taken. */
+static void prepare_text(uint32_t requests) {
+    make_engine(BLOCKS);
+    make_wide_list(requests);
+    receive(CFDP_ADMITTED);
+    if (cfdp_cancel(&engine, WIDE, WIDE, &outcome) != CFDP_ANSWER_DONE) fail("not cancelled");
+    if (cfdp_take(&engine, WIDE, WIDE, finished, sizeof finished, &finished_length, &outcome) != CFDP_ANSWER_DONE)
+        fail("no outcome");
+}
+
+static uint32_t write_text(uint32_t requests) {
+    (void)requests;
+    if (cfdp_reply_text(&outcome, finished, finished_length, line, sizeof line, &line_length) != CFDP_ANSWER_DONE)
+        fail("no line");
+    return 1;
+}
+
+/* The line has the digits of the Finished PDU, and is the longest one if there were 64 requests. */
+static void check_text(uint32_t requests) {
+    static const char digits[] = "0123456789abcdef", start[] = "18446744073709551615/18446744073709551615 finished ";
+    size_t at = sizeof start - 1;
+    if (line_length != at + 2 * finished_length + 1 || (requests == LIST && line_length != LONGEST_LINE))
+        fail("another length");
+    if (memcmp(line, start, at) != 0 || line[line_length - 1] != '\n') fail("another line");
+    for (size_t i = 0; i < finished_length; i++, at += 2) {
+        if (line[at] != digits[finished[i] >> 4] || line[at + 1] != digits[finished[i] & 15]) fail("another digit");
+        note(finished[i]);
+    }
 }
 
 #endif

@@ -2,23 +2,25 @@
  * the three allocation functions of its own, over malloc, and counts the octets that are asked for; what malloc adds
  * for itself is not counted.
  *
- * It fails if cfdp_new takes another number of octets than CFDP_NEW_OCTETS says, if a Metadata PDU takes more than
- * docs/C.md says, also one that is refused since it has too many requests and two whose lists rename directories that
- * have entries, or if anything is kept after the last outcome was taken. */
-#include "../../include/cfdp.h"
+ * It fails if cfdp_new or cfdp_receiver_new takes another number of octets than the headers say; if a Metadata PDU
+ * takes more than docs/C.md says, also one that is refused since it has too many requests and two whose lists rename
+ * directories that have entries; if a rename of a directory takes more where that has more entries; or if anything is
+ * kept after the last outcome was taken. */
+#include "../../include/cfdp_receiver.h"
 #include <inttypes.h>
 #include <stdbool.h>
 #include <stdio.h>
 #include <stdlib.h>
 #include <string.h>
 
-static size_t in_use, most, blocks_in_use;
+static size_t in_use, most, blocks_in_use, asked; /* how often memory was asked for */
 static char nothing;
 
 /* A block has 16 octets before it for its size. */
 static size_t *size_of(void *block) { return (size_t *)((unsigned char *)block - 16); }
 
 static void count(size_t octets) {
+    asked++;
     in_use += octets;
     if (in_use > most) most = in_use;
 }
@@ -318,7 +320,7 @@ static bool put_chains(char top) {
     return right;
 }
 
-/* The sum of this for the paths of the chains, and of a file in each: so many octets, and so many times its own. */
+/* The sum over the paths of the chains, and of a file in each: `each`, and `times` times the octets of the path. */
 static size_t sum_of_chains(char top, size_t each, size_t times) {
     size_t octets = 0;
     for (unsigned chain = 0; chain < CHAINS; chain++) {
@@ -365,6 +367,71 @@ static bool run_swap(void) {
     return cfdp_free(&engine) == CFDP_ANSWER_DONE && in_use == 0 && blocks_in_use == 0 && right;
 }
 
+/* Transactions without a file or a list come and go in no order, at most `most_known` at once. */
+enum { FEW = 32, COMINGS = 20000, NUMBERS = 256 };
+
+/* The transaction with this number comes. */
+static bool come(unsigned number) {
+    struct cfdp_reply reply = {0};
+    begin_list();
+    end_list();
+    pdu[5] = (uint8_t)number;
+    return cfdp_receive(&engine, pdu, length, &reply) == CFDP_ANSWER_DONE && reply.kind == CFDP_REPLY_ADMITTED;
+}
+
+static bool come_and_go(unsigned most_known) {
+    static bool known[NUMBERS];
+    bool right = make_engine(64, 0);
+    size_t before = in_use;
+    uint32_t random = 1;
+    unsigned count = 0;
+    for (unsigned i = 0; i < COMINGS + NUMBERS; i++) {
+        random = random * 1664525u + 1013904223u;
+        unsigned number = i < COMINGS ? random >> 24 : i - COMINGS; /* in the end all that are known go */
+        bool comes = !known[number] && count < most_known && i < COMINGS;
+        if (!comes && !known[number]) continue;
+        right &= comes ? come(number) : end(&engine, number);
+        known[number] = comes;
+        count += comes ? 1 : -1u;
+    }
+    right &= in_use == before;
+    printf("%d times a transaction comes or goes, with at most %u known: %zu octets are kept\n", COMINGS, most_known,
+        in_use - before);
+    return cfdp_free(&engine) == CFDP_ANSWER_DONE && in_use == 0 && blocks_in_use == 0 && right;
+}
+
+/* A rename of a directory takes as many blocks and octets whatever the number of its entries. */
+enum { FEW_ENTRIES = 1024, MANY_ENTRIES = 60000 };
+
+static bool run_move(uint32_t entries, size_t *blocks, size_t *octets) {
+    static const struct cfdp_path from = {.length = 1, .octets = "d"}, to = {.length = 1, .octets = "e"};
+    struct cfdp_reply reply = {0};
+    bool right = make_engine(65536, 0) && put_entry(from, CFDP_ENTRY_DIRECTORY);
+    for (uint32_t entry = 0; entry < entries; entry++) {
+        struct cfdp_path path = {0};
+        path.length = (uint32_t)sprintf((char *)path.octets, "d/%05" PRIu32, entry);
+        right &= put_entry(path, CFDP_ENTRY_FILE);
+    }
+    size_t before = in_use, asked_before = asked;
+    begin_list();
+    put_rename(&from, &to);
+    end_list();
+    most = in_use;
+    right &= cfdp_receive(&engine, pdu, length, &reply) == CFDP_ANSWER_DONE && reply.kind == CFDP_REPLY_ADMITTED;
+    *blocks = asked - asked_before;
+    *octets = most - before;
+    printf("a rename of a directory of %" PRIu32 " files: it asks for memory %zu times, and takes %zu octets\n",
+        entries, *blocks, *octets);
+    right &= end(&engine, 1) && in_use == before;
+    return cfdp_free(&engine) == CFDP_ANSWER_DONE && in_use == 0 && blocks_in_use == 0 && right;
+}
+
+static bool run_moves(void) {
+    size_t blocks[2], octets[2];
+    bool right = run_move(FEW_ENTRIES, &blocks[0], &octets[0]) && run_move(MANY_ENTRIES, &blocks[1], &octets[1]);
+    return right && blocks[0] == blocks[1] && octets[0] == octets[1];
+}
+
 /* The most that a list of too many requests takes until it is refused: 40 octets for each request, of which a PDU has
  * at most 16,381, and nothing for a name of no octets. */
 enum { MOST_REQUESTS = 16381, MOST_REFUSED = 40 * MOST_REQUESTS };
@@ -396,14 +463,32 @@ static bool measure(uint32_t blocks) {
     return cfdp_free(&engine) == CFDP_ANSWER_DONE && in_use == 0 && blocks_in_use == 0 && right;
 }
 
+/* What cfdp_receiver_new takes over an engine. */
+static bool measure_receiver(uint32_t blocks, uint32_t longest_nak) {
+    const struct cfdp_mib mib = {.ack_interval = 1, .ack_limit = 1, .ack_handler = CFDP_HANDLER_CANCEL,
+        .nak_interval = 1, .nak_limit = 1, .nak_handler = CFDP_HANDLER_CANCEL, .check_interval = 1,
+        .check_handler = CFDP_HANDLER_CANCEL, .inactivity_interval = 1, .inactivity_handler = CFDP_HANDLER_CANCEL,
+        .nak_mode = CFDP_NAK_DEFERRED, .longest_nak = longest_nak};
+    struct cfdp_receiver receiver = CFDP_RECEIVER_EMPTY;
+    bool right = make_engine(blocks, 0);
+    size_t before = in_use;
+    right &= cfdp_receiver_new(&receiver, &engine, &mib) == CFDP_ANSWER_DONE;
+    right &= in_use - before == CFDP_RECEIVER_NEW_OCTETS;
+    printf("cfdp_receiver_new over %" PRIu32 " blocks takes %zu octets\n", blocks, in_use - before);
+    return cfdp_receiver_free(&receiver) == CFDP_ANSWER_DONE && in_use == 0 && blocks_in_use == 0 && right;
+}
+
 int main(void) {
     static const uint32_t filestores[] = {16, 64, 257, 4096, 65536};
     bool right = true;
     for (size_t i = 0; i < sizeof filestores / sizeof *filestores; i++) right &= measure(filestores[i]);
+    right &= measure_receiver(16, 72) && measure_receiver(65536, 65535);
     for (size_t i = 0; i < sizeof shapes / sizeof *shapes; i++) right &= run(&shapes[i]);
     right &= run_nested();
     right &= run_swap();
     right &= refuse();
+    right &= run_moves();
+    right &= come_and_go(FEW) && come_and_go(TRANSACTIONS);
     puts(right ? "nothing is kept after the last take" : "wrong");
     return !right;
 }

@@ -15,9 +15,9 @@
  * whatever the order of the calls: blocks of one size cannot lie so that another of it has no room. A program's own
  * worst case is this sum for the most transactions, requests and names that it lets in; soak.c has it. Blocks above
  * 17424 octets are those that cfdp_new makes, which a new engine of the same configuration finds again after
- * cfdp_free; the table of transactions, which may grow once; and those in which a Metadata PDU is judged that brings
- * more than 256 paths, changes directories with entries and names many paths in them, or has more than 400 requests. A
- * sender chooses how large the latter are. All of them share the 32 sizes, so they are used again too.
+ * cfdp_free; and those in which a Metadata PDU is judged that brings more than 256 paths, changes directories with
+ * entries and names many paths in them, or has more than 400 requests. A sender chooses how large the latter are. All
+ * of them share the 32 sizes, so they are used again too.
  *
  * One call takes a few steps, and for a large block one for each size below it. A block has at most 22 million octets.
  */

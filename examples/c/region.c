@@ -7,7 +7,7 @@
 #include <stdio.h>
 #include <string.h>
 
-enum { REGION = 128 * 1024 };
+enum { REGION = 256 * 1024 };
 
 static union { unsigned char octets[REGION]; long double aligned; } region;
 static size_t used, calls, blocks_out;

@@ -16,7 +16,6 @@
  *     1104 octets: T (p / 5 + 6) + s    4368 octets: T (p / 30 + 5) + s    17424 octets: 4 T
  *     each larger size in which a list of 24576 to 96 p octets may lie: 2, with p above 256
  *     the one for 32768 octets: t more, with p above 512; the one for 65536: t more, with p above 1024
- *     the one for 114064 octets: 1 more, with t above 32: the table of transactions may grow once
  *
  * The octets of a name or a path are in a block of 64 or 288 octets, by their length. A request is kept as it came, and
  * as one or two paths; each path of a list is kept in the list's own leases and in those of the engine. The latter are
@@ -336,7 +335,6 @@ static size_t most_of(size_t index) {
         large += 2;
     if (paths > 512 && holds(index, 32768)) large += live;
     if (paths > 1024 && holds(index, 65536)) large += live;
-    if (live > 32 && holds(index, 114064)) large++;
     return large;
 }
 

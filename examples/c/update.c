@@ -82,7 +82,7 @@ static void take(uint64_t source, uint64_t number) {
 
 static void show_gaps(uint64_t source, uint64_t number) {
     struct cfdp_gap gap;
-    for (size_t place = 0; cfdp_gap(&engine, source, number, place, &gap) == CFDP_ANSWER_DONE; place++)
+    for (size_t index = 0; cfdp_gap(&engine, source, number, index, &gap) == CFDP_ANSWER_DONE; index++)
         printf("missing %" PRIu64 " to %" PRIu64 "\n", gap.start, gap.end);
 }
 
@@ -109,7 +109,7 @@ static void show_progress(uint64_t source, uint64_t number) {
     uint64_t reach = 0;
     expect(cfdp_progress(&engine, source, number, &progress), CFDP_ANSWER_DONE);
     expect(cfdp_reach(&engine, source, number, &reach), CFDP_ANSWER_DONE);
-    printf("progress %" PRIu64 ", gaps told up to %" PRIu64 "\n", progress, reach);
+    printf("progress %" PRIu64 ", gaps reported up to %" PRIu64 "\n", progress, reach);
 }
 
 /* All transactions in order of admission, and the first one whose outcome can be taken. */

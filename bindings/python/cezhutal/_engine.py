@@ -36,8 +36,8 @@ class Config:
 
     entity: its entity ID. blocks: of 128 octets, in the filestore, 16 to 65536. cap: how many octets a file of
     unbounded size may have, at most 7864320. checks: how often a check timer may expire, 1 to 1000. protected: at
-    most 8 paths; what exists at or below one of them is neither changed nor removed by a request. A str in their place
-    raises TypeError: it would be a path for each of its letters.
+    most 8 paths; what exists at or below one of them is neither changed nor removed by a request. A str instead of a
+    list raises TypeError: it would be a path for each of its letters.
     """
 
     entity: int

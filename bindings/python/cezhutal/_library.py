@@ -56,7 +56,7 @@ class EntryKind(IntEnum):
 
 
 def fitting(name: str, value: int, bits: int) -> int:
-    """The value. Raises ValueError where the library's number of so many bits has no room for it: ctypes would cut
+    """The value. Raises ValueError where it does not fit in the library's number of `bits` bits: ctypes would cut
     it."""
     most = 2**bits - 1
     if not 0 <= value <= most:

@@ -5,7 +5,7 @@ use cfdp_status::TransactionId;
 
 /// What an indication to the user says.
 #[derive(Clone, Copy)]
-pub struct Told<'a> {
+pub struct Indicated<'a> {
     /// Its kind: `metadata`, `finished` and so on.
     pub kind: &'a [u8],
     /// The transaction.
@@ -28,7 +28,7 @@ pub struct InputResult<'a> {
 pub enum AnswerLine<'a> {
     /// A PDU was sent: its octets in hexadecimal.
     Sent(&'a [u8]),
-    Told(Told<'a>),
+    Indicated(Indicated<'a>),
     Became(InputResult<'a>),
     /// It is none of these lines.
     Other,
@@ -43,11 +43,11 @@ fn id_of(word: &[u8]) -> Option<TransactionId> {
 }
 
 /// What an indication says, after its first word.
-fn read_told(line: &[u8]) -> Option<Told<'_>> {
+fn read_indication(line: &[u8]) -> Option<Indicated<'_>> {
     let mut rest = line;
     let kind = next_word(&mut rest)?;
     let id = id_of(next_word(&mut rest)?)?;
-    Some(Told {
+    Some(Indicated {
         kind,
         id,
         words: skip_spaces(rest),
@@ -75,8 +75,8 @@ pub fn read_answer(line: &[u8]) -> AnswerLine<'_> {
         return AnswerLine::Sent(digits);
     }
     if let Some(rest) = line.strip_prefix(b"tell ") {
-        return match read_told(rest) {
-            Some(told) => AnswerLine::Told(told),
+        return match read_indication(rest) {
+            Some(indicated) => AnswerLine::Indicated(indicated),
             None => AnswerLine::Other,
         };
     }

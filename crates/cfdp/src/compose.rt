@@ -120,7 +120,7 @@ fn write_uploads<R: AllocGlobal + Clock + Eprint + Print>(
     uploads: &[Upload<'_>],
 ) -> Result<(), End> {
     let mut now = 0;
-    let mut spent = Elapsed::new();
+    let mut time_taken = Elapsed::new();
     for (index, upload) in uploads.iter().enumerate() {
         let begun = Instant::now(rt);
         match player {
@@ -132,7 +132,7 @@ fn write_uploads<R: AllocGlobal + Clock + Eprint + Print>(
             count: uploads.len(),
             what: "transactions written",
         };
-        spent.tell(rt, begun, name, progress);
+        time_taken.tell(rt, begun, name, progress);
     }
     Ok(())
 }

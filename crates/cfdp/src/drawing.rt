@@ -1,12 +1,12 @@
 //! A picture of a script, collected a line at a time.
 
 use crate::answers::{
-    AnswerLine, InputResult, Told, first_became, first_word, is_among, read_answer,
+    AnswerLine, Indicated, InputResult, first_became, first_word, is_among, read_answer,
 };
 use crate::drawn_pdu::{DrawnPdu, NamedFile, look_at as look_at_pdu};
 use crate::drawn_state::{blocks_of, look_at as look_at_state};
 use crate::fitting::{TextWidth, fitted};
-use crate::notes::{is_bad_end, is_noted, push_became, push_cause, push_told};
+use crate::notes::{is_bad_end, is_noted, push_became, push_cause, push_indication_note};
 use cfdp_draw::{Blocks, Chart, Direction, Full, MOST_MOMENTS, MarkKind};
 use cfdp_lines::{NEWLINE, decode_words};
 use cfdp_receiver::Receiver;
@@ -42,7 +42,7 @@ const SERVED: [&[u8]; 4] = [b"expired", b"kept-alive", b"ignored", b"faulted"];
 /// The words of a PDU that was dropped.
 const DROPPED: [&[u8]; 4] = [b"dropped", b"not-for-us", b"table-full", b"unknown"];
 
-/// The words of a Metadata PDU whose file is that of its transaction from then on.
+/// The replies to a Metadata PDU after which the transaction's file is the one that it names.
 const NAMED: [&[u8]; 3] = [b"admitted", b"refused", b"faulted"];
 
 /// What a line hands to the receiving entity.
@@ -119,7 +119,7 @@ fn kind_of(kind: MarkKind, became: InputResult<'_>) -> MarkKind {
 }
 
 /// Which way a PDU went that came.
-fn way_of(became: InputResult<'_>) -> Direction {
+fn direction_of(became: InputResult<'_>) -> Direction {
     if is_dropped(became) {
         Direction::Dropped
     } else {
@@ -257,7 +257,7 @@ impl Drawing {
         } = look_at_pdu(alloc, &mut octets)?;
         let kind = kind_of(kind, became);
         self.chart
-            .mark(alloc, became.id, kind, way_of(became), words)?;
+            .mark(alloc, became.id, kind, direction_of(became), words)?;
         match file {
             Some(file) if is_named(became) => self.name_file(alloc, became, file),
             _ => Ok(()),
@@ -288,7 +288,7 @@ impl Drawing {
     fn answer(&mut self, alloc: Global, serves: bool, answer: AnswerLine<'_>) -> Result<(), Full> {
         match answer {
             AnswerLine::Sent(digits) => self.sent(alloc, digits),
-            AnswerLine::Told(told) => self.told(alloc, told),
+            AnswerLine::Indicated(indicated) => self.indicated(alloc, indicated),
             AnswerLine::Became(became) => {
                 if serves {
                     self.timer(alloc, became)?;
@@ -324,26 +324,26 @@ impl Drawing {
     }
 
     /// The user is notified: of a fault, which is noted, or of something else.
-    fn told(&mut self, alloc: Global, told: Told<'_>) -> Result<(), Full> {
-        self.follow(told)?;
-        if told.kind == b"fault".as_slice()
-            || told.kind == b"abandoned".as_slice()
-            || is_bad_end(told) && self.find_note(Some(told.id)).is_none()
+    fn indicated(&mut self, alloc: Global, indicated: Indicated<'_>) -> Result<(), Full> {
+        self.follow(indicated)?;
+        if indicated.kind == b"fault".as_slice()
+            || indicated.kind == b"abandoned".as_slice()
+            || is_bad_end(indicated) && self.find_note(Some(indicated.id)).is_none()
         {
             let mut words = Vec::new(alloc);
-            push_told(told, &mut words)?;
-            return self.note(alloc, Some(told.id), &words);
+            push_indication_note(indicated, &mut words)?;
+            return self.note(alloc, Some(indicated.id), &words);
         }
         Ok(())
     }
 
     /// Follows whether the file of a transaction was delivered.
-    fn follow(&mut self, told: Told<'_>) -> Result<(), Full> {
-        if told.kind == b"metadata".as_slice() {
-            self.forget(told.id);
+    fn follow(&mut self, indicated: Indicated<'_>) -> Result<(), Full> {
+        if indicated.kind == b"metadata".as_slice() {
+            self.forget(indicated.id);
         }
-        if told.kind == b"finished".as_slice() && told.words.ends_with(b" complete 2") {
-            self.delivered.push(told.id)?;
+        if indicated.kind == b"finished".as_slice() && indicated.words.ends_with(b" complete 2") {
+            self.delivered.push(indicated.id)?;
         }
         Ok(())
     }

@@ -1,6 +1,6 @@
 //! What a picture shows of a PDU.
 
-use crate::watch::push_fields;
+use crate::pdu_log::push_fields;
 use cfdp_crc::unseal;
 use cfdp_draw::MarkKind;
 use cfdp_pdus::{Metadata, Pdu, Start, read_pdu, read_start};

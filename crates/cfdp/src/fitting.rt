@@ -37,8 +37,8 @@ fn width_of(octet: u8) -> u64 {
 }
 
 /// How many octets fit, from the first one on, where there is room for this many thousandths of the font size.
-fn count_within(words: &[u8], room: u64) -> usize {
-    let mut left = room;
+fn count_within(words: &[u8], space: u64) -> usize {
+    let mut left = space;
     for (index, octet) in words.iter().enumerate() {
         match left.checked_sub(width_of(*octet)) {
             Some(rest) => left = rest,
@@ -49,8 +49,8 @@ fn count_within(words: &[u8], room: u64) -> usize {
 }
 
 /// Words, or as many octets of them as there is room for, with two dots.
-pub fn fitted(alloc: Global, words: &[u8], room: TextWidth) -> Result<Vec<u8>, AllocError> {
-    let units = room.width.saturating_mul(1_000) / room.font.max(1);
+pub fn fitted(alloc: Global, words: &[u8], space: TextWidth) -> Result<Vec<u8>, AllocError> {
+    let units = space.width.saturating_mul(1_000) / space.font.max(1);
     if count_within(words, units) == words.len() {
         return Vec::from_slice(alloc, words);
     }

@@ -14,12 +14,12 @@ use std::io::{Error, ErrorKind};
 use std::rt::Files;
 
 /// How many octets of a file a block has.
-const BLOCK_OCTETS: u64 = 120;
+const PAYLOAD_OCTETS: u64 = 120;
 
 /// The most directories that a filestore has, and the folder itself.
 const MOST_DIRECTORIES: usize = 65_537;
 
-/// Which names of a folder are read. A name that listings print is the name of which they print it.
+/// Which names of a folder are read. A name as listings print it is read as the name that it was printed for.
 #[derive(Clone, Copy)]
 pub enum FolderNames {
     /// All: another name is its own octets.
@@ -78,7 +78,7 @@ fn printed(alloc: Global, octets: &[u8]) -> Result<String, AllocError> {
     Ok(text)
 }
 
-/// The octets of which listings print this name; `None` if they print it of none.
+/// The octets that listings print as this name; `None` if there are none.
 fn unprinted(alloc: Global, name: &str) -> Result<Option<Vec<u8>>, AllocError> {
     let Some(octets) = read_path(alloc, name.as_bytes())? else {
         return Ok(None);
@@ -182,7 +182,7 @@ fn put_file<R: AllocGlobal + Files + Input>(
     let alloc = rt.alloc();
     let path = path_of(alloc, found)?;
     let free = entity.core().store().free();
-    let blocks = len.div_ceil(BLOCK_OCTETS).saturating_add(1);
+    let blocks = len.div_ceil(PAYLOAD_OCTETS).saturating_add(1);
     if u64::from(free) < blocks {
         return was_put(alloc, found, blocks, free, Err(NotPut::NoRoom));
     }

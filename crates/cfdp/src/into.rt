@@ -105,7 +105,7 @@ pub fn write<R: AllocGlobal + Clock + Eprint + Files>(
 ) -> Result<(), End> {
     let entries = entity.core().store().listing(rt.alloc())?;
     let count = entries.len();
-    let mut spent = Elapsed::new();
+    let mut time_taken = Elapsed::new();
     for (index, entry) in entries.iter().enumerate() {
         let begun = Instant::now(rt);
         write_entry(rt, folder, entity, entry)?;
@@ -114,7 +114,7 @@ pub fn write<R: AllocGlobal + Clock + Eprint + Files>(
             count,
             what: "written",
         };
-        spent.tell(rt, begun, folder, progress);
+        time_taken.tell(rt, begun, folder, progress);
     }
     Ok(())
 }

@@ -51,6 +51,7 @@ mod notes;
 mod octets;
 mod path_text;
 mod pcap;
+mod pdu_log;
 mod pieces;
 mod plan;
 mod playing;
@@ -61,7 +62,6 @@ mod setting_lines;
 mod setup;
 mod show;
 mod uploads;
-mod watch;
 mod words;
 
 use end::End;

@@ -43,8 +43,8 @@ enum FolderPart {
     Free,
 }
 
-/// Where a filestore differs from another one: the index of what it has, and that of what the other one has at the same
-/// path, or else after it.
+/// The first difference of two filestores: an index in the one, and in the other the index of the same path or of the
+/// next one.
 #[derive(Clone, Copy)]
 struct Differs {
     index: usize,
@@ -148,7 +148,7 @@ fn turned_paths(alloc: Global, these: &[Kept], others: &[Kept]) -> Result<Vec<Pa
 }
 
 /// Where a path is: at or below one of the turned paths, or elsewhere.
-fn region_of(path: &Path, turned: &[Path]) -> FolderPart {
+fn folder_part_of(path: &Path, turned: &[Path]) -> FolderPart {
     for other in turned {
         if path.is_at_or_below(other) {
             return FolderPart::Turned;
@@ -253,13 +253,13 @@ impl<'a> Mirror<'a> {
         rt: &R,
         now: &[Kept],
         turned: &[Path],
-        region: FolderPart,
+        folder_part: FolderPart,
     ) -> Result<(), End> {
         let gone = [Difference::Missing, Difference::Turned];
         let old = different(rt.alloc(), &self.all, now, &gone)?;
         for differs in old.iter().rev() {
             if let Some(kept) = self.all.get(differs.index) {
-                if region_of(&kept.path, turned) == region {
+                if folder_part_of(&kept.path, turned) == folder_part {
                     remove(rt, self.folder, kept)?;
                 }
             }
@@ -273,12 +273,12 @@ impl<'a> Mirror<'a> {
         rt: &R,
         now: &[Kept],
         turned: &[Path],
-        region: FolderPart,
+        folder_part: FolderPart,
     ) -> Result<(), End> {
         let new = [Difference::Missing, Difference::Turned];
         for differs in &different(rt.alloc(), now, &self.all, &new)? {
             if let Some(kept) = now.get(differs.index) {
-                if region_of(&kept.path, turned) == region {
+                if folder_part_of(&kept.path, turned) == folder_part {
                     put(rt, self.folder, kept)?;
                 }
             }

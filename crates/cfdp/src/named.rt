@@ -23,7 +23,7 @@ fn fault_of(error: &Error) -> Unread {
     }
 }
 
-/// All that a file has, or as much of it as is looked at.
+/// Reads a file, and no more than [`MOST_READ`] octets of it.
 fn read_file<I: Read + Drop>(alloc: Global, file: I) -> Result<Vec<u8>, Unread> {
     let mut octets = Vec::new(alloc);
     match file.take(MOST_READ).read_to_end(&mut octets) {
@@ -43,7 +43,7 @@ impl<R: Files> cfdp_run_script::Files for Named<'_, R> {
     ghost use Rattle.std.specs.Prelude.{None};
 
     // No contract says what the files of a computer have.
-    ghost told = { λ _. None };
+    ghost known = { λ _. None };
 
     fn read(&mut self, alloc: Global, name: &[u8]) -> Result<Vec<u8>, Unread> {
         let Ok(name) = str::from_utf8(name) else {

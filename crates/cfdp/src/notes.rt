@@ -1,6 +1,6 @@
 //! What is noted in words in a picture: what is refused, faulted or dropped.
 
-use crate::answers::{InputResult, Told, first_word, is_among};
+use crate::answers::{Indicated, InputResult, first_word, is_among};
 use crate::hexadecimal::octet_of;
 use cfdp_lines::{next_word, number_of};
 use cfdp_status::{Status, TransactionId};
@@ -69,8 +69,8 @@ pub fn is_noted(words: &[u8]) -> bool {
 }
 
 /// Whether an indication is noted that has nothing beside it: a transaction finished with a condition.
-pub fn is_bad_end(told: Told<'_>) -> bool {
-    told.kind == b"finished".as_slice() && first_word(told.words) != b"0".as_slice()
+pub fn is_bad_end(indicated: Indicated<'_>) -> bool {
+    indicated.kind == b"finished".as_slice() && first_word(indicated.words) != b"0".as_slice()
 }
 
 /// The word of which the meaning is said.
@@ -93,7 +93,7 @@ fn push_condition(words: &[u8], out: &mut Vec<u8>) -> Result<(), AllocError> {
     out.extend_from_slice(b")")
 }
 
-/// Which request would fail, and with which status, where words say that of a list.
+/// The request that would fail, and its status, if these words report one.
 fn failing(words: &[u8]) -> Option<Refusal> {
     let mut rest = words.strip_prefix(WOULD_FAIL)?;
     let index = number_of(next_word(&mut rest)?)?;
@@ -127,7 +127,7 @@ pub fn push_cause(
     out.extend_from_slice(cause.strip_suffix(b"\n").unwrap_or(cause))
 }
 
-/// What words mean. The cause is that of a request that would fail, if it is known.
+/// What the words mean; `cause` says why a request would fail, if that is known.
 fn meaning_with<'a>(words: &[u8], cause: &'a [u8]) -> Option<&'a [u8]> {
     if !cause.is_empty() && words.starts_with(WOULD_FAIL) {
         return Some(cause);
@@ -153,9 +153,9 @@ pub fn push_became(
 }
 
 /// Appends a note of an indication with a condition code: a fault, or the end of the transaction.
-pub fn push_told(told: Told<'_>, out: &mut Vec<u8>) -> Result<(), AllocError> {
-    let code = first_word(told.words);
-    out.extend_from_slice(told.kind)?;
+pub fn push_indication_note(indicated: Indicated<'_>, out: &mut Vec<u8>) -> Result<(), AllocError> {
+    let code = first_word(indicated.words);
+    out.extend_from_slice(indicated.kind)?;
     out.extend_from_slice(b" ")?;
     out.extend_from_slice(code)?;
     push_condition(code, out)

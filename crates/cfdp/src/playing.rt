@@ -45,7 +45,7 @@ pub struct Playing<'a, R, I> {
     /// What was taken of the line that is being read.
     line: Vec<u8>,
     has_ended: bool,
-    spent: Elapsed,
+    time_taken: Elapsed,
 }
 
 /// How the program ends where a script stops at the line with a number; `None` at `end`.
@@ -118,7 +118,7 @@ impl<'a, R: AllocGlobal + Clock + Eprint + Files, I: Read + Drop> Playing<'a, R,
             left: INPUT_LIMIT,
             line: Vec::new(alloc),
             has_ended: false,
-            spent: Elapsed::new(),
+            time_taken: Elapsed::new(),
         })
     }
 
@@ -194,7 +194,7 @@ impl<'a, R: AllocGlobal + Clock + Eprint + Files, I: Read + Drop> Playing<'a, R,
 
     /// Says how far the script is, where it is time to do that.
     fn tell(&mut self, since: Instant) {
-        if let Some(seconds) = self.spent.add(self.rt, since) {
+        if let Some(seconds) = self.time_taken.add(self.rt, since) {
             let name = self.name;
             let line = self.session.number();
             // Where standard error cannot be written, nothing is said.

@@ -31,7 +31,7 @@ pub struct LiveOptions<'a> {
 #[derive(Drop)]
 struct LiveStation<'a, R> {
     rt: &'a R,
-    ticks: MillisecondClock,
+    running_clock: MillisecondClock,
     cutter: Cutter,
     /// How many octets came before the piece that is cut.
     taken: u64,
@@ -98,7 +98,7 @@ impl<'a, R: AllocGlobal + Clock + Eprint + Files + Print> LiveStation<'a, R> {
         let mirror = Mirror::new(alloc, folder, live.receiver().entity())?;
         Ok(LiveStation {
             rt,
-            ticks: MillisecondClock::start(rt)?,
+            running_clock: MillisecondClock::start(rt)?,
             cutter: Cutter::new(alloc),
             taken: 0,
             live,
@@ -121,7 +121,7 @@ impl<'a, R: AllocGlobal + Clock + Eprint + Files + Print> LiveStation<'a, R> {
     /// A PDU came.
     fn receive(&mut self, pdu: Vec<u8>) -> Result<(), End> {
         let mut pdu = pdu;
-        let now = self.ticks.now(self.rt);
+        let now = self.running_clock.now(self.rt);
         self.live
             .receive(self.rt.alloc(), now, &mut pdu, &mut self.output)?;
         self.hand_out()
@@ -164,7 +164,7 @@ impl<'a, R: AllocGlobal + Clock + Eprint + Files + Print> LiveStation<'a, R> {
 
     /// How many milliseconds there are until the first timer is due, if one runs.
     fn patience(&mut self) -> Option<u64> {
-        let now = self.ticks.now(self.rt);
+        let now = self.running_clock.now(self.rt);
         match self.live.receiver().deadline() {
             Some(deadline) => Some(deadline.saturating_sub(now)),
             None => None,
@@ -176,7 +176,7 @@ impl<'a, R: AllocGlobal + Clock + Eprint + Files + Print> LiveStation<'a, R> {
         if self.patience() != Some(0) {
             return Ok(());
         }
-        let now = self.ticks.now(self.rt);
+        let now = self.running_clock.now(self.rt);
         self.live.pass(self.rt.alloc(), now, &mut self.output)?;
         self.hand_out()
     }

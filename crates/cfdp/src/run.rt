@@ -3,8 +3,8 @@
 use crate::capture::Capture;
 use crate::end::End;
 use crate::into;
+use crate::pdu_log::PduLog;
 use crate::playing::Playing;
-use crate::watch::PduLog;
 use std::alloc::Global;
 use std::io::{ErrorKind, Read, Write};
 use std::rt::{Clock, Files};
@@ -36,7 +36,7 @@ fn write<R: Print>(rt: &R, text: &[u8]) -> Result<(), End> {
 fn play<R: AllocGlobal + Clock + Eprint + Files + Print, I: Read + Drop, F: Write + Drop>(
     rt: &R,
     playing: &mut Playing<'_, R, I>,
-    watch: &mut PduLog<'_, F>,
+    pdu_log: &mut PduLog<'_, F>,
 ) -> Result<(), End> {
     let mut text = Vec::new(rt.alloc());
     let mut watched = Vec::new(rt.alloc());
@@ -44,9 +44,9 @@ fn play<R: AllocGlobal + Clock + Eprint + Files + Print, I: Read + Drop, F: Writ
         if !playing.next(&mut text)? {
             break;
         }
-        if watch.is_on() {
+        if pdu_log.is_on() {
             watched.clear();
-            watch.line(rt.alloc(), playing.line(), &text, &mut watched)?;
+            pdu_log.line(rt.alloc(), playing.line(), &text, &mut watched)?;
             write(rt, &watched)?;
         } else {
             write(rt, &text)?;
@@ -74,10 +74,10 @@ fn play_watched<R: AllocGlobal + Clock + Eprint + Files + Print, I: Read + Drop,
     rt: &R,
     playing: &mut Playing<'_, R, I>,
     into: Option<&str>,
-    watch: &mut PduLog<'_, F>,
+    pdu_log: &mut PduLog<'_, F>,
 ) -> Result<(), End> {
-    play(rt, playing, watch)?;
-    if let Some(capture) = watch.capture() {
+    play(rt, playing, pdu_log)?;
+    if let Some(capture) = pdu_log.capture() {
         capture.tell_left_out(rt);
     }
     match into {
@@ -92,10 +92,10 @@ fn play_named<R: AllocGlobal + Clock + Eprint + Files + Print, I: Read + Drop, F
     name: &str,
     input: I,
     into: Option<&str>,
-    watch: &mut PduLog<'_, F>,
+    pdu_log: &mut PduLog<'_, F>,
 ) -> Result<(), End> {
     let mut playing = Playing::new(rt, name, input)?;
-    play_watched(rt, &mut playing, into, watch)
+    play_watched(rt, &mut playing, into, pdu_log)
 }
 
 /// Plays the script, with what its options ask for.
@@ -105,8 +105,8 @@ fn play_into<R: AllocGlobal + Clock + Eprint + Files + Print, I: Read + Drop>(
     input: I,
     options: Options<'_>,
 ) -> Result<(), End> {
-    let mut watch = PduLog::new(options.tells, capture(rt, options.capture)?);
-    play_named(rt, name, input, options.into, &mut watch)
+    let mut pdu_log = PduLog::new(options.tells, capture(rt, options.capture)?);
+    play_named(rt, name, input, options.into, &mut pdu_log)
 }
 
 /// Plays the script with this name in messages. Nothing is left of the folder where the script does not end well.

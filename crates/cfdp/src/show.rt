@@ -53,7 +53,7 @@ fn show_all<R: AllocGlobal + Clock + Eprint + Print>(
     all: &mut [FoundPdu],
 ) -> Result<(), End> {
     let count = all.len();
-    let mut spent = Elapsed::new();
+    let mut time_taken = Elapsed::new();
     for (index, found) in all.iter_mut().enumerate() {
         let begun = Instant::now(rt);
         print(rt, &block(rt.alloc(), style, found)?)?;
@@ -62,7 +62,7 @@ fn show_all<R: AllocGlobal + Clock + Eprint + Print>(
             count,
             what: "PDUs shown",
         };
-        spent.tell(rt, begun, name, progress);
+        time_taken.tell(rt, begun, name, progress);
     }
     Ok(())
 }

@@ -5,6 +5,7 @@ use Rattle.cfdp_paths.specs.Paths.{Path}
 use Rattle.cfdp_status.specs.declared.action.Action.{Action}
 use Rattle.cfdp_actions.specs.Filestore.{Node, Directory, File, Filestore, node_at, staged_in, blocks_of, weight, blocks, Becomes, Stages, changed, after}
 use Rattle.cfdp_actions.specs.Actions.{Outcome, create, delete_file, append, replace, remove_directory, deny_file, deny_directory, install}
+pub use Rattle.cfdp_actions.proofs.RowLaws.{blocks_of-mono as blocks_of-le}
 use Rattle.cfdp_actions.proofs.Weights.{blocks-becomes, blocks-stages}
 
 abbrev pub Grows : Filestore → Outcome → Type 0
@@ -16,10 +17,6 @@ grows_one F p node a e = subst (λ v. blocks (changed F (Becomes p node)) + weig
 pub blocks_of-zero : blocks_of 0 ≡ 0
 unfolding blocks_of
 blocks_of-zero = refl
-
-pub blocks_of-le : (m n : ℕ) → m ≤ n → blocks_of m ≤ blocks_of n
-unfolding blocks_of
-blocks_of-le m n h = omega arith
 
 pub create-grows : (F : Filestore) (action : Action) (node : Node) (p : Path) (a : Option Node) (good : Bool) → node_at F p ≡ a → weight (Some node) ≡ 1 →
     Grows F (create action node p a good)

@@ -2,7 +2,7 @@
 --     below_absent                    nothing is at or below a path where nothing is
 --     after-append                    changes in turn
 --     tree_at-all, find-tree_at       the entries of a tree are at or below its path, and those of the filestore
---     node_at-vacated, node_at-settled
+--     node_at-vacated, node_at-arriving
 --     moved_there, moved_apart        path by path
 --     rename-grows                    the blocks stay
 use Rattle.std.proofs.Common.{◌≡◌, ◌≢◌, refl, sym, ◌∙◌, ap, subst, Bool, true, false, cond, not, T, IsTrue, IsSome, is_some, Option, Some, None, ℕ, zero, suc, ◌+◌, ◌≤◌, List, [], ◌∷◌, ◌++◌, length, arith, true≢false, le_refl, if◌then◌else◌}
@@ -14,7 +14,7 @@ use Rattle.cfdp_paths.specs.Paths.{Path, path_cmp, same_path, is_at_or_below, pa
 use Rattle.cfdp_actions.specs.Filestore.{Node, Filestore, node_at, weight, weights, blocks, Change, Becomes, changed, after, is_directory, is_good, is_root, parent_is_good, IsRooted, tree_at}
 use Rattle.cfdp_status.specs.declared.action.Action.TheVariants as action
 use Rattle.cfdp_status.specs.declared.status.Status.TheVariants.{NotAllowed}
-use Rattle.cfdp_actions.specs.Actions.{refused, succeeds, vacating, settled, is_tree_too_deep, rename}
+use Rattle.cfdp_actions.specs.Actions.{refused, succeeds, vacating, arriving, is_tree_too_deep, rename}
 use Rattle.cfdp_actions.proofs.Order.{same_path-true, same_path-refl, node_at-becomes, node_at-becomes_apart}
 use Rattle.cfdp_actions.proofs.Weights.{entries-retain_keys, sorted_rest, find_later}
 use Rattle.cfdp_actions.proofs.Prefixes.{rebased-below, rebased_back, same_rebased, length-parent}
@@ -50,11 +50,11 @@ below_absent F q rooted named none (suc k) (n ∷ x) le below =
     let apart : n ∷ x ≢ q = λ e. true≢false (sym there ∙ ap is_some (ap (node_at F) e ∙ none)) in
     let up = parent_of_below (n ∷ x) q below apart in
     let above = below_absent F q rooted named none k (parent (n ∷ x)) (subst (λ l. l ≤ k) (sym (length-parent n x)) (omega arith)) up in
-    stands (parent (n ∷ x)) good up above)
+    exists (parent (n ∷ x)) good up above)
   where
-    stands : (y : Path) → is_good F y ≡ true → is_at_or_below y q ≡ true → node_at F y ≡ None → ⊥
-    stands [] good up gone = named (only_root q up)
-    stands (m ∷ y) good up gone = directory_there (node_at F (m ∷ y)) good gone
+    exists : (y : Path) → is_good F y ≡ true → is_at_or_below y q ≡ true → node_at F y ≡ None → ⊥
+    exists [] good up gone = named (only_root q up)
+    exists (m ∷ y) good up gone = directory_there (node_at F (m ∷ y)) good gone
 
 -- ---- changes in turn
 
@@ -129,7 +129,7 @@ blocks-vacated F (e ∷ es) h holds =
     let one : blocks G + weight (Some e.1) ≡ blocks F + 0 = grows_one F e.0 None (Some e.1) (holds_first F e es holds) in
     omega arith
 
--- ---- settled
+-- ---- arriving
 
 -- nothing is where they are to be
 abbrev pub Vacant : Path → Path → Filestore → List (Path × Node) → Type 0
@@ -162,25 +162,25 @@ vacant_first p q G e es all vacant =
     let here : find path_cmp e.0 (e ∷ es) ≡ Some e.1 = ap (λ b. cond b (Some e.1) (find path_cmp e.0 es)) (same_path-refl e.0) in
     vacant (rebased p q e.0) (rebased-below p q e.0) (ap (λ y. is_some (find path_cmp y (e ∷ es))) back ∙ ap is_some here)
 
-pub blocks-settled : (p q : Path) (G : Filestore) (es : List (Path × Node)) → T (is_sorted path_cmp es) → AllBelow p es → Vacant p q G es →
-    blocks (after G (settled p q es)) ≡ blocks G + weights es
-blocks-settled p q G [] h all vacant = omega arith
-blocks-settled p q G (e ∷ es) h all vacant =
+pub blocks-arriving : (p q : Path) (G : Filestore) (es : List (Path × Node)) → T (is_sorted path_cmp es) → AllBelow p es → Vacant p q G es →
+    blocks (after G (arriving p q es)) ≡ blocks G + weights es
+blocks-arriving p q G [] h all vacant = omega arith
+blocks-arriving p q G (e ∷ es) h all vacant =
     let H = changed G (Becomes (rebased p q e.0) (Some e.1)) in
-    let rest : blocks (after H (settled p q es)) ≡ blocks H + weights es =
-    blocks-settled p q H es (sorted_rest e es h) (tail_below p e es all) (vacant_rest p q G e es h all vacant) in
+    let rest : blocks (after H (arriving p q es)) ≡ blocks H + weights es =
+    blocks-arriving p q H es (sorted_rest e es h) (tail_below p e es all) (vacant_rest p q G e es h all vacant) in
     let one : blocks H + 0 ≡ blocks G + weight (Some e.1) = grows_one G (rebased p q e.0) (Some e.1) None (vacant_first p q G e es all vacant) in
     omega arith
 
 -- at what is at or below q
-pub node_at-settled : (p q : Path) (G : Filestore) (es : List (Path × Node)) → T (is_sorted path_cmp es) → AllBelow p es → (x : Path) → is_at_or_below x q
+pub node_at-arriving : (p q : Path) (G : Filestore) (es : List (Path × Node)) → T (is_sorted path_cmp es) → AllBelow p es → (x : Path) → is_at_or_below x q
     ≡ true →
-    node_at (after G (settled p q es)) x ≡ cond (is_some (find path_cmp (rebased q p x) es)) (find path_cmp (rebased q p x) es) (node_at G x)
-node_at-settled p q G [] h all x below = refl
-node_at-settled p q G (e ∷ es) h all x below =
+    node_at (after G (arriving p q es)) x ≡ cond (is_some (find path_cmp (rebased q p x) es)) (find path_cmp (rebased q p x) es) (node_at G x)
+node_at-arriving p q G [] h all x below = refl
+node_at-arriving p q G (e ∷ es) h all x below =
     let y = rebased q p x in
     let H = changed G (Becomes (rebased p q e.0) (Some e.1)) in
-    node_at-settled p q H es (sorted_rest e es h) (tail_below p e es all) x below
+    node_at-arriving p q H es (sorted_rest e es h) (tail_below p e es all) x below
     ∙ ap (λ v. cond (is_some (find path_cmp y es)) (find path_cmp y es) v) (node_at-becomes G (rebased p q e.0) (Some e.1) x
     ∙ ap (λ b. cond b (Some e.1) (node_at G x)) (same_rebased p q x e.0 below (head_below p e es all)))
     ∙ elim (same_path y e.0) as (λ b. same_path y e.0 ≡ b →
@@ -191,11 +191,11 @@ node_at-settled p q G (e ∷ es) h all x below =
     ] refl
 
 -- and at all others
-pub node_at-settled_apart : (p q : Path) (G : Filestore) (es : List (Path × Node)) (x : Path) → is_at_or_below x q ≡ false →
-    node_at (after G (settled p q es)) x ≡ node_at G x
-node_at-settled_apart p q G [] x apart = refl
-node_at-settled_apart p q G (e ∷ es) x apart =
-    node_at-settled_apart p q (changed G (Becomes (rebased p q e.0) (Some e.1))) es x apart
+pub node_at-arriving_apart : (p q : Path) (G : Filestore) (es : List (Path × Node)) (x : Path) → is_at_or_below x q ≡ false →
+    node_at (after G (arriving p q es)) x ≡ node_at G x
+node_at-arriving_apart p q G [] x apart = refl
+node_at-arriving_apart p q G (e ∷ es) x apart =
+    node_at-arriving_apart p q (changed G (Becomes (rebased p q e.0) (Some e.1))) es x apart
     ∙ node_at-becomes_apart G (rebased p q e.0) (Some e.1) x (other (same_path x (rebased p q e.0)) refl)
   where
     other : (b : Bool) → same_path x (rebased p q e.0) ≡ b → b ≡ false
@@ -205,7 +205,7 @@ node_at-settled_apart p q G (e ∷ es) x apart =
 -- ---- path by path
 
 abbrev pub moved : Filestore → Path → Path → Filestore
-moved F p q = after F (vacating (tree_at F p) ++ settled p q (tree_at F p))
+moved F p q = after F (vacating (tree_at F p) ++ arriving p q (tree_at F p))
 
 pub holds_tree : (F : Filestore) (p : Path) → Holds F (tree_at F p)
 holds_tree F p x there =
@@ -227,9 +227,9 @@ module _ (F : Filestore) (p q : Path) (empty : (x : Path) → is_at_or_below x q
   blocks-moved_free =
       let es = tree_at F p in
       let out : blocks (after F (vacating es)) + weights es ≡ blocks F = blocks-vacated F es (tree_at-sorted F p) (holds_tree F p) in
-      let back : blocks (after (after F (vacating es)) (settled p q es)) ≡ blocks (after F (vacating es)) + weights es =
-      blocks-settled p q (after F (vacating es)) es (tree_at-sorted F p) (tree_at-all F p) (λ x below there. nothing_vacated x below) in
-      ap blocks (after-append F (vacating es) (settled p q es)) ∙ back ∙ out
+      let back : blocks (after (after F (vacating es)) (arriving p q es)) ≡ blocks (after F (vacating es)) + weights es =
+      blocks-arriving p q (after F (vacating es)) es (tree_at-sorted F p) (tree_at-all F p) (λ x below there. nothing_vacated x below) in
+      ap blocks (after-append F (vacating es) (arriving p q es)) ∙ back ∙ out
 
 module _ (F : Filestore) (p q : Path) (rooted : IsRooted F) (named : q ≢ []) (none : node_at F q ≡ None) where
   pub nothing_there : (x : Path) → is_at_or_below x q ≡ true → node_at F x ≡ None
@@ -240,8 +240,8 @@ module _ (F : Filestore) (p q : Path) (rooted : IsRooted F) (named : q ≢ []) (
   moved_there x below =
       let y = rebased q p x in
       let es = tree_at F p in
-      ap (λ G. node_at G x) (after-append F (vacating es) (settled p q es))
-      ∙ node_at-settled p q (after F (vacating es)) es (tree_at-sorted F p) (tree_at-all F p) x below
+      ap (λ G. node_at G x) (after-append F (vacating es) (arriving p q es))
+      ∙ node_at-arriving p q (after F (vacating es)) es (tree_at-sorted F p) (tree_at-all F p) x below
       ∙ ap (λ v. cond (is_some (find path_cmp y es)) (find path_cmp y es) v) (nothing_vacated F p q nothing_there x below)
       ∙ itself (find path_cmp y es)
       ∙ find-tree_at F p y ∙ ap (λ b. cond b (node_at F y) None) (rebased-below q p x)
@@ -254,8 +254,8 @@ module _ (F : Filestore) (p q : Path) (rooted : IsRooted F) (named : q ≢ []) (
   pub moved_apart : (x : Path) → is_at_or_below x q ≡ false → node_at (moved F p q) x ≡ cond (is_at_or_below x p) None (node_at F x)
   moved_apart x apart =
       let es = tree_at F p in
-      ap (λ G. node_at G x) (after-append F (vacating es) (settled p q es))
-      ∙ node_at-settled_apart p q (after F (vacating es)) es x apart
+      ap (λ G. node_at G x) (after-append F (vacating es) (arriving p q es))
+      ∙ node_at-arriving_apart p q (after F (vacating es)) es x apart
       ∙ node_at-vacated F es x
       ∙ ap (λ v. cond (is_some v) None (node_at F x)) (find-tree_at F p x)
       ∙ elim (is_at_or_below x p) as (λ b. cond (is_some (cond b (node_at F x) None)) None (node_at F x) ≡ cond b None (node_at F x)) [
@@ -280,7 +280,7 @@ rename-grows F p q (Some node) None false below rooted e g = refl
 rename-grows F p q (Some node) None true true rooted e g = refl
 rename-grows F p q (Some node) None true false rooted e g =
     elim (is_tree_too_deep p q (tree_at F p)) as (λ deep. Grows F (if deep then refused (NotAllowed action.RenameFile)
-    else succeeds action.RenameFile (vacating (tree_at F p) ++ settled p q (tree_at F p)) 0 0 0)) [
+    else succeeds action.RenameFile (vacating (tree_at F p) ++ arriving p q (tree_at F p)) 0 0 0)) [
       | true ↦ refl
       | false ↦ ap (λ n. n + 0) (blocks-moved F p q rooted (has_name q g) e)
     ]

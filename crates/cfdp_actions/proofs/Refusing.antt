@@ -11,7 +11,7 @@ use Rattle.cfdp_status.specs.declared.status.Status.{Status}
 use Rattle.cfdp_status.specs.declared.status.Status.TheVariants.{NotAllowed, DeleteAbsent, RenameOldAbsent, RenameNewPresent, AppendFirstAbsent, AppendSecondAbsent, ReplaceFirstAbsent, ReplaceSecondAbsent, RemoveAbsent}
 use Rattle.cfdp_paths.specs.Paths.{Path, same_path, is_at_or_below}
 use Rattle.cfdp_actions.specs.Filestore.{Node, Directory, File, Filestore, node_at, Becomes, has_entries, parent_is_good, tree_at}
-use Rattle.cfdp_actions.specs.Actions.{CreateFile, DeleteFile, RenameFile, AppendFile, ReplaceFile, CreateDirectory, RemoveDirectory, DenyFile, DenyDirectory, refused, succeeds, create, delete_file, is_tree_too_deep, vacating, settled, rename, append, replace, remove_directory, deny_file, deny_directory, table}
+use Rattle.cfdp_actions.specs.Actions.{CreateFile, DeleteFile, RenameFile, AppendFile, ReplaceFile, CreateDirectory, RemoveDirectory, DenyFile, DenyDirectory, refused, succeeds, create, delete_file, is_tree_too_deep, vacating, arriving, rename, append, replace, remove_directory, deny_file, deny_directory, table}
 use Rattle.cfdp_actions.specs.Store.{kind_in, kind_at}
 use Rattle.cfdp_actions.specs.Refusals.{Refuses}
 use Rattle.cfdp_actions.specs.code.Refusals.{file_refusal, directory_refusal, joint_refusal}
@@ -63,39 +63,40 @@ replace_refuses p same (Some (File xs)) (Some Directory) = refl
 replace_refuses p true (Some (File xs)) (Some (File ys)) = refl
 replace_refuses p false (Some (File xs)) (Some (File ys)) = refl
 
-module _ (F : Filestore) (p : Path) (told : Option Status) where
-  pub file_creation : Refuses (create action.CreateFile (File []) p (node_at F p) (parent_is_good F p)) told → Refuses (table F (CreateFile p)) told
+module _ (F : Filestore) (p : Path) (stated : Option Status) where
+  pub file_creation : Refuses (create action.CreateFile (File []) p (node_at F p) (parent_is_good F p)) stated → Refuses (table F (CreateFile p)) stated
   unfolding table
   file_creation e = e
 
-  pub directory_creation : Refuses (create action.CreateDirectory Directory p (node_at F p) (parent_is_good F p)) told →
-      Refuses (table F (CreateDirectory p)) told
+  pub directory_creation : Refuses (create action.CreateDirectory Directory p (node_at F p) (parent_is_good F p)) stated →
+      Refuses (table F (CreateDirectory p)) stated
   unfolding table
   directory_creation e = e
 
-  pub deletion : told ≡ file_refusal action.DeleteFile (Some DeleteAbsent) (kind_at F p) → Refuses (table F (DeleteFile p)) told
+  pub deletion : stated ≡ file_refusal action.DeleteFile (Some DeleteAbsent) (kind_at F p) → Refuses (table F (DeleteFile p)) stated
   unfolding table
   deletion e = rw e (delete_refuses p (node_at F p))
 
-  pub denial : told ≡ file_refusal action.DenyFile None (kind_at F p) → Refuses (table F (DenyFile p)) told
+  pub denial : stated ≡ file_refusal action.DenyFile None (kind_at F p) → Refuses (table F (DenyFile p)) stated
   unfolding table
   denial e = rw e (deny_refuses p (node_at F p))
 
-  pub removal : told ≡ directory_refusal action.RemoveDirectory (Some RemoveAbsent) (kind_at F p) (has_entries F p) → Refuses (table F (RemoveDirectory p)) told
+  pub removal : stated ≡ directory_refusal action.RemoveDirectory (Some RemoveAbsent) (kind_at F p) (has_entries F p)
+      → Refuses (table F (RemoveDirectory p)) stated
   unfolding table
   removal e = rw e (remove_refuses p (node_at F p) (has_entries F p))
 
-  pub directory_denial : told ≡ directory_refusal action.DenyDirectory None (kind_at F p) (has_entries F p) → Refuses (table F (DenyDirectory p)) told
+  pub directory_denial : stated ≡ directory_refusal action.DenyDirectory None (kind_at F p) (has_entries F p) → Refuses (table F (DenyDirectory p)) stated
   unfolding table
   directory_denial e = rw e (deny_directory_refuses p (node_at F p) (has_entries F p))
 
-  pub appending : (q : Path) → told ≡ joint_refusal action.AppendFile (AppendFirstAbsent, AppendSecondAbsent) (kind_at F p) (kind_at F q) →
-      Refuses (table F (AppendFile p q)) told
+  pub appending : (q : Path) → stated ≡ joint_refusal action.AppendFile (AppendFirstAbsent, AppendSecondAbsent) (kind_at F p) (kind_at F q) →
+      Refuses (table F (AppendFile p q)) stated
   unfolding table
   appending q e = rw e (append_refuses p (node_at F p) (node_at F q))
 
-  pub replacement : (q : Path) → told ≡ joint_refusal action.ReplaceFile (ReplaceFirstAbsent, ReplaceSecondAbsent) (kind_at F p) (kind_at F q) →
-      Refuses (table F (ReplaceFile p q)) told
+  pub replacement : (q : Path) → stated ≡ joint_refusal action.ReplaceFile (ReplaceFirstAbsent, ReplaceSecondAbsent) (kind_at F p) (kind_at F q) →
+      Refuses (table F (ReplaceFile p q)) stated
   unfolding table
   replacement q e = rw e (replace_refuses p (same_path p q) (node_at F p) (node_at F q))
 
@@ -159,17 +160,17 @@ rename_deep p q (Some node) (Some other) good below es h k g = cc
 rename_deep p q (Some node) None false below es h k g = refl
 rename_deep p q (Some node) None true true es h k g = refl
 rename_deep p q (Some node) None true false es h k g = ap (λ deep. if deep then refused (NotAllowed action.RenameFile)
-    else succeeds action.RenameFile (vacating es ++ settled p q es) 0 0 0) g
+    else succeeds action.RenameFile (vacating es ++ arriving p q es) 0 0 0) g
 
 rename_moved : (p q : Path) (a b : Option Node) (good below : Bool) (es : List (Path × Node)) → is_some a ≡ true → b ≡ None → good ≡ true → below ≡ false →
-    is_tree_too_deep p q es ≡ false → rename p q a b good below es ≡ succeeds action.RenameFile (vacating es ++ settled p q es) 0 0 0
+    is_tree_too_deep p q es ≡ false → rename p q a b good below es ≡ succeeds action.RenameFile (vacating es ++ arriving p q es) 0 0 0
 unfolding rename
 rename_moved p q None b good below es h k g l d = cc
 rename_moved p q (Some node) (Some other) good below es h k g l d = cc
 rename_moved p q (Some node) None false below es h k g l d = cc
 rename_moved p q (Some node) None true true es h k g l d = cc
 rename_moved p q (Some node) None true false es h k g l d = ap (λ deep. if deep then refused (NotAllowed action.RenameFile)
-    else succeeds action.RenameFile (vacating es ++ settled p q es) 0 0 0) d
+    else succeeds action.RenameFile (vacating es ++ arriving p q es) 0 0 0) d
 
 pub rename_new_present : (F : Filestore) (p q : Path) → is_some (node_at F p) ≡ true → is_some (node_at F q) ≡ true → table F (RenameFile p q)
     ≡ refused RenameNewPresent
@@ -193,6 +194,6 @@ rename_too_deep F p q h k g = rename_deep p q (node_at F p) (node_at F q) (paren
 
 pub rename_of_tree : (F : Filestore) (p q : Path) → is_some (node_at F p) ≡ true → node_at F q ≡ None → parent_is_good F q ≡ true → is_at_or_below q p ≡ false →
     is_tree_too_deep p q (tree_at F p) ≡ false →
-    table F (RenameFile p q) ≡ succeeds action.RenameFile (vacating (tree_at F p) ++ settled p q (tree_at F p)) 0 0 0
+    table F (RenameFile p q) ≡ succeeds action.RenameFile (vacating (tree_at F p) ++ arriving p q (tree_at F p)) 0 0 0
 unfolding table
 rename_of_tree F p q h k g l d = rename_moved p q (node_at F p) (node_at F q) (parent_is_good F q) (is_at_or_below q p) (tree_at F p) h k g l d

@@ -4,7 +4,7 @@
 --     put-put, put-same                          a path put twice;  what is there put again
 --     shown_twice                                 one entry put twice
 --     found_other, second_octets                  what is at another path than the one that was put, and its octets
---     stands, put_stands                          that something is there
+--     exists, put_exists                          that something is there
 --     shown_deep, shown_below                    whether a tree is too deep for another path;  whether anything is below a path
 use Rattle.std.proofs.Common.{◌≡◌, ℕ, ◌||◌, Bool, true, false, not, nat_lt, if◌then◌else◌, List, [], ◌∷◌, Option, Some, None, is_some, length, refl, sym, ap, ◌∙◌, Bor, MatchOption, option_copied}
 use Rattle.std.specs.Cmp.{tied_itself}
@@ -139,11 +139,11 @@ is_some-map : (o : Option Content) → is_some (option_map content_node o) ≡ i
 is_some-map None = refl
 is_some-map (Some x) = refl
 
-pub stands : (k : Path) (es : Entries) → is_some (entry_found es k) ≡ true → is_some (find path_cmp k es) ≡ true
-stands k es h = sym (ap is_some (found_is k es) ∙ is_some-map (find path_cmp k es)) ∙ h
+pub exists : (k : Path) (es : Entries) → is_some (entry_found es k) ≡ true → is_some (find path_cmp k es) ≡ true
+exists k es h = sym (ap is_some (found_is k es) ∙ is_some-map (find path_cmp k es)) ∙ h
 
-pub put_stands : (k : Path) (x : Content) (es es1 : Entries) → es1 ≡ put path_cmp k x es → is_some (find path_cmp k es1) ≡ true
-put_stands k x es es1 e =
+pub put_exists : (k : Path) (x : Content) (es es1 : Entries) → es1 ≡ put path_cmp k x es → is_some (find path_cmp k es1) ≡ true
+put_exists k x es es1 e =
     ap (λ ys. is_some (find path_cmp k ys)) e ∙ ap is_some (find-put path_cmp path_cmp-total k k x es)
     ∙ ap (λ b. is_some (if b then Some x else find path_cmp k es)) ((same_path-Decides k k).1 refl)
 

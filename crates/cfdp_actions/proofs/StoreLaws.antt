@@ -26,7 +26,7 @@ use Rattle.cfdp_paths.proofs.Comparing.{path_cmp-total}
 use Rattle.cfdp_paths.proofs.InOrder.{path_antisym, ordered-put, ordered-where, true_from_T}
 use Rattle.cfdp_paths.proofs.Moving.{ordered-puts}
 use Rattle.cfdp_actions.specs.Filestore.{Node, Directory, File, Filestore, node_at, staged_in, blocks_of, weight, weights, blocks, Becomes, Stages, changed, after, inside, has_entries, is_beside, inside_beside, has_beside, deepest_of, deepest_beside, is_directory, is_file, octets_in, is_good, is_root, parent_is_good, tree_at}
-use Rattle.cfdp_actions.specs.Actions.{vacating, settled}
+use Rattle.cfdp_actions.specs.Actions.{vacating, arriving}
 use Rattle.cfdp_actions.specs.Store.{Store, free_blocks, with_changes}
 use Rattle.cfdp_actions.specs.Listed.{vector_octets}
 use Rattle.cfdp_actions.specs.code.Listed.{Entries, shown_entries, entry_found, blocks_in, nodes_of, listed_store, IsListed}
@@ -96,10 +96,10 @@ unfolding removes
 after-vacated F [] = refl
 after-vacated F (e ∷ es) = after-vacated (changed F (Becomes e.0 None)) es
 
-after-settled : (F : Filestore) (p q : Path) (ts : List (Path × Node)) → after F (settled p q ts) ≡ record F { nodes = inserts F.nodes (moved_to p q ts) }
+after-arriving : (F : Filestore) (p q : Path) (ts : List (Path × Node)) → after F (arriving p q ts) ≡ record F { nodes = inserts F.nodes (moved_to p q ts) }
 unfolding inserts
-after-settled F p q [] = refl
-after-settled F p q (e ∷ es) = after-settled (changed F (Becomes (rebased p q e.0) (Some e.1))) p q es
+after-arriving F p q [] = refl
+after-arriving F p q (e ∷ es) = after-arriving (changed F (Becomes (rebased p q e.0) (Some e.1))) p q es
 
 inserts-puts : (es more : List (Path × Node)) → is_sorted path_cmp es ≡ true → inserts (finite.from_sorted es) more ≡ finite.from_sorted (puts es more)
 unfolding inserts
@@ -303,7 +303,7 @@ module _ (es : Entries) (staged : List (Vec ℕ Global)) (used capacity : ℕ) (
 
     pub moved_store : (p q : Path) → shown_entries es' ≡ puts (rest_in p (shown_entries es)) (moved_to p q (tree_in p (shown_entries es)))
         → listed_store es' staged capacity ≡ with_changes (listed_store es staged capacity) (vacating (tree_at (listed_store es staged capacity).filestore p)
-        ++ settled p q (tree_at (listed_store es staged capacity).filestore p))
+        ++ arriving p q (tree_at (listed_store es staged capacity).filestore p))
     moved_store p q e =
         let F : Filestore = (listed_store es staged capacity).filestore in
         let ts : List (Path × Node) = tree_in p (shown_entries es) in
@@ -312,16 +312,16 @@ module _ (es : Entries) (staged : List (Vec ℕ Global)) (used capacity : ℕ) (
         let nodes : nodes_of es' ≡ inserts (removes (nodes_of es) ts) (moved_to p q ts) =
         ap finite.from_sorted e ∙ sym (ap (λ m. inserts m (moved_to p q ts)) (removes-tree (shown_entries es) p kept.sorted)
         ∙ inserts-puts (rest_in p (shown_entries es)) (moved_to p q ts) rest) in
-        let gone : after F (vacating ts ++ settled p q ts) ≡ record F { nodes = inserts (removes F.nodes ts) (moved_to p q ts) } =
-        after-append F (vacating ts) (settled p q ts) ∙ ap (λ (G : Filestore). after G (settled p q ts)) (after-vacated F ts)
-        ∙ after-settled (record F { nodes = removes F.nodes ts }) p q ts in
+        let gone : after F (vacating ts ++ arriving p q ts) ≡ record F { nodes = inserts (removes F.nodes ts) (moved_to p q ts) } =
+        after-append F (vacating ts) (arriving p q ts) ∙ ap (λ (G : Filestore). after G (arriving p q ts)) (after-vacated F ts)
+        ∙ after-arriving (record F { nodes = removes F.nodes ts }) p q ts in
         ap (λ (m : finite.FinMap path_cmp Node). record {
           filestore = record { nodes = m; staged = vector_octets staged };
           capacity = capacity;
           takes_no_memory = false;
         }) nodes
         ∙ sym (ap (λ (G : Filestore). record { filestore = G; capacity = capacity; takes_no_memory = false }) gone)
-        ∙ ap (λ (xs : List (Path × Node)). with_changes (listed_store es staged capacity) (vacating xs ++ settled p q xs)) (sym (tree_at-shown p))
+        ∙ ap (λ (xs : List (Path × Node)). with_changes (listed_store es staged capacity) (vacating xs ++ arriving p q xs)) (sym (tree_at-shown p))
 
     module _ (p q : Path) (e : shown_entries es' ≡ puts (rest_in p (shown_entries es)) (moved_to p q (tree_in p (shown_entries es)))) where
       pub moved_fits : blocks_in es' staged ≤ capacity
@@ -451,9 +451,9 @@ module _ (es : Entries) (staged : List (Vec ℕ Global)) (used capacity : ℕ) (
 
   pub seen_moved : (es' : Entries) (p q : Path) → shown_entries es' ≡ puts (rest_in p (shown_entries es)) (moved_to p q (tree_in p (shown_entries es))) →
       listed_store es' staged capacity
-      ≡ with_changes now (vacating (tree_at now.filestore p) ++ settled p q (tree_at now.filestore p))
+      ≡ with_changes now (vacating (tree_at now.filestore p) ++ arriving p q (tree_at now.filestore p))
   seen_moved es' p q e = moved_store es staged used capacity kept es' p q e
-      ∙ ap (λ (s : Store). with_changes s (vacating (tree_at s.filestore p) ++ settled p q (tree_at s.filestore p))) view
+      ∙ ap (λ (s : Store). with_changes s (vacating (tree_at s.filestore p) ++ arriving p q (tree_at s.filestore p))) view
 
   pub seen_list : (staged' : List (Vec ℕ Global)) (slot : ℕ) (octets : List ℕ) → vector_octets staged' ≡ set (vector_octets staged) slot octets →
       listed_store es staged' capacity ≡ with_changes now (Stages slot octets ∷ [])

@@ -12,7 +12,7 @@ use Rattle.std.specs.FinMap.Entries.{by_order, below_all, is_sorted, is_sorted-w
 use Rattle.cfdp_paths.specs.Paths.{Path, path_cmp, same_path}
 use Rattle.cfdp_actions.specs.Filestore.{Node, Filestore, node_at, staged_in, blocks_of, weight, weights, blocks, Becomes, Stages, changed}
 use Rattle.cfdp_actions.proofs.Order.{paths_total, same_path-symm, same_path-true}
-use Rattle.cfdp_paths.proofs.InOrder.{T_from_true, path_antisym}
+use Rattle.cfdp_paths.proofs.InOrder.{path_antisym}
 
 first : (a b : Bool) → T (a && b) → T a
 first true b p = tt

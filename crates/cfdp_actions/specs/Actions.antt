@@ -163,9 +163,9 @@ vacating [] = []
 vacating (e ∷ es) = Becomes e.0 None ∷ vacating es
 
 -- each p/r is at q/r
-abbrev pub settled : Path → Path → List (Path × Node) → List Change
-settled p q [] = []
-settled p q (e ∷ es) = Becomes (rebased p q e.0) (Some e.1) ∷ settled p q es
+abbrev pub arriving : Path → Path → List (Path × Node) → List Change
+arriving p q [] = []
+arriving p q (e ∷ es) = Becomes (rebased p q e.0) (Some e.1) ∷ arriving p q es
 
 -- p with all below it moves to q; not where q is below p, nor where a path would be too deep
 unfoldable pub rename : Path → Path → Option Node → Option Node → Bool → Bool → List (Path × Node) → Outcome
@@ -175,7 +175,7 @@ rename p q (Some node) None false below es = refused (NotAllowed action.RenameFi
 rename p q (Some node) None true true es = refused (NotAllowed action.RenameFile)
 rename p q (Some node) None true false es =
     if is_tree_too_deep p q es then refused (NotAllowed action.RenameFile)
-    else succeeds action.RenameFile (vacating es ++ settled p q es) 0 0 0
+    else succeeds action.RenameFile (vacating es ++ arriving p q es) 0 0 0
 
 -- q's octets at the end of p
 unfoldable pub append : Path → Option Node → Option Node → Outcome

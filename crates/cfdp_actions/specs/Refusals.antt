@@ -1,5 +1,5 @@
 -- Why a row of the action table is not successful, room apart.
---     Refuses o told                     the status with which the row is refused; None where it is successful
+--     Refuses o stated                   the status with which the row is refused; None where it is successful
 use Rattle.std.specs.Prelude.{◌≡◌, IsTrue, Option, Some, None}
 use Rattle.cfdp_status.specs.declared.status.Status.{Status}
 use Rattle.cfdp_actions.specs.Actions.{Outcome, succeeded, refused}

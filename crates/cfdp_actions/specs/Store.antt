@@ -8,7 +8,7 @@
 --     extended octets size      zeros at the end, up to the size
 --     overwritten octets at piece    the piece instead of what was at that offset
 --     listing_entry, listing_of  a line of a listing, and all of them in path order
---     standing_of, standings_of the same without checksums, for a path and what is below it
+--     existing_node, existing_nodes_at the same without checksums, for a path and what is below it
 use Rattle.std.specs.Prelude.{ℕ, ◌+◌, ◌-◌, Bool, true, false, List, ◌++◌, Option, Some, None, length, map, take, drop, replicate}
 use Rattle.std.specs.FinMap as finite
 use Rattle.cfdp_checksum.specs.Checksum.{checksum}
@@ -17,7 +17,7 @@ use Rattle.cfdp_actions.specs.Filestore.{Node, Directory, File, Filestore, node_
 use Rattle.cfdp_actions.specs.declared.kind.Kind.{Kind}
 use Rattle.cfdp_actions.specs.declared.kind.Kind.TheVariants as kind
 use Rattle.cfdp_actions.specs.declared.kind.Entry.{Entry}
-use Rattle.cfdp_actions.specs.declared.kind.Standing.{Standing}
+use Rattle.cfdp_actions.specs.declared.kind.ExistingNode.{ExistingNode}
 
 pub record Store : Type 0 where
   pub filestore : Filestore
@@ -73,8 +73,8 @@ listing_entry e = record {
 abbrev pub listing_of : Filestore → List Entry
 listing_of F = map listing_entry (finite.entries F.nodes)
 
-abbrev pub standing_of : Path × Node → Standing
-standing_of e = record { path = e.0; kind = kind_of e.1; size = length (octets_in (Some e.1)) }
+abbrev pub existing_node : Path × Node → ExistingNode
+existing_node e = record { path = e.0; kind = kind_of e.1; size = length (octets_in (Some e.1)) }
 
-abbrev pub standings_of : Filestore → Path → List Standing
-standings_of F p = map standing_of (tree_at F p)
+abbrev pub existing_nodes_at : Filestore → Path → List ExistingNode
+existing_nodes_at F p = map existing_node (tree_at F p)

@@ -5,12 +5,12 @@ ghost use Rattle.std.specs.FinMap.Entries.{where_key};
 ghost use Rattle.std.specs.List.{list_any};
 ghost use Rattle.cfdp_paths.specs.Paths.{path_cmp, is_at_or_below};
 ghost use Rattle.cfdp_actions.specs.Filestore.{weight, deepest_of, is_beside};
-ghost use Rattle.cfdp_actions.specs.Store.{listing_entry, standing_of};
+ghost use Rattle.cfdp_actions.specs.Store.{listing_entry, existing_node};
 ghost use Rattle.cfdp_actions.specs.code.Listed.{shown_entries, blocks_in};
 
 use crate::blocks::blocks_of;
 use crate::content::Content;
-use crate::{Entry, Standing};
+use crate::{Entry, ExistingNode};
 use cfdp_checksum::modular_checksum;
 use cfdp_paths::{Memory, Path};
 use std::alloc::Global;
@@ -84,12 +84,12 @@ pub fn blocks_in(entries: &[(Path, Content)], staged: &[Vec<u8>]) -> u32
 }
 
 /// The entries without their octets.
-pub fn standing(alloc: Global, entries: &[(Path, Content)]) -> Result<Vec<Standing>, Memory>
-    ensures { IfOk result (λ all. all.items ≡ map standing_of (shown_entries entries.now)) }
+pub fn existing(alloc: Global, entries: &[(Path, Content)]) -> Result<Vec<ExistingNode>, Memory>
+    ensures { IfOk result (λ all. all.items ≡ map existing_node (shown_entries entries.now)) }
 {
     let mut all = Vec::with_capacity(alloc, entries.len())?;
     for (path, content) in entries {
-        all.push(Standing {
+        all.push(ExistingNode {
             path: path.copy(alloc)?,
             kind: content.kind(),
             size: content.octets().len() as u64,

@@ -4,10 +4,10 @@ ghost use Rattle.std.specs.Prelude.{◌≡◌, ◌≢◌, ℕ, ◌+◌, ◌-◌,
 ghost use Rattle.cfdp_checksum.specs.Checksum.{checksum};
 ghost use Rattle.cfdp_paths.specs.Paths.{same_path, is_at_or_below};
 ghost use Rattle.cfdp_actions.specs.Filestore.{Node, File, Directory, node_at, staged_in, blocks_of, weight, blocks, Becomes, Stages, has_entries, is_directory, is_file, octets_in, file_octets_at, parent_is_good, tree_at, deepest_of, has_beside, deepest_beside};
-ghost use Rattle.cfdp_actions.specs.Actions.{is_tree_too_deep, vacating, settled};
-ghost use Rattle.cfdp_actions.specs.Store.{Store, free_blocks, with_changes, kind_at, extended, overwritten, listing_of, standings_of};
+ghost use Rattle.cfdp_actions.specs.Actions.{is_tree_too_deep, vacating, arriving};
+ghost use Rattle.cfdp_actions.specs.Store.{Store, free_blocks, with_changes, kind_at, extended, overwritten, listing_of, existing_nodes_at};
 
-use crate::{Entry, Kind, Standing};
+use crate::{Entry, ExistingNode, Kind};
 use cfdp_paths::{Memory, Path};
 use std::alloc::Global;
 
@@ -107,8 +107,8 @@ pub trait Filestore: Drop {
         ensures { IfOk result (λ entries. entries.items ≡ listing_of (state self.now).filestore) };
 
     /// What is at the path and below it, each path once, in path order.
-    fn standing(&self, alloc: Global, path: &Path) -> Result<Vec<Standing>, Memory>
-        ensures { IfOk result (λ found. found.items ≡ standings_of (state self.now).filestore path.now) };
+    fn existing(&self, alloc: Global, path: &Path) -> Result<Vec<ExistingNode>, Memory>
+        ensures { IfOk result (λ found. found.items ≡ existing_nodes_at (state self.now).filestore path.now) };
 
     /// Makes an empty file. Returns 1.
     fn make_file(&mut self, path: &Path) -> Result<u32, Memory>
@@ -152,7 +152,7 @@ pub trait Filestore: Drop {
         requires depth { is_tree_too_deep from.now to.now (tree_at (state self.old).filestore from.now) ≡ false }
         ensures ticks { IfOk result (λ ticks. ticks ≡ 0) }
         ensures moved { OnOk result (let tree = tree_at (state self.old).filestore from.now in
-            state self.new ≡ with_changes (state self.old) (vacating tree ++ settled from.now to.now tree)) }
+            state self.new ≡ with_changes (state self.old) (vacating tree ++ arriving from.now to.now tree)) }
         ensures err { OnErr result (state self.new ≡ state self.old) }
         ensures thrifty { IsTrue (state self.old).takes_no_memory → IsOk result };
 

@@ -38,7 +38,7 @@ pub struct Entry {
 
 /// What is at or below a path, with its size and without its octets.
 #[derive(Debug, Drop, PartialEq, Eq)]
-pub struct Standing {
+pub struct ExistingNode {
     /// Where it is.
     pub path: Path,
     /// Whether it is a file or a directory.

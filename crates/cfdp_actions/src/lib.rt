@@ -23,7 +23,7 @@ mod staging;
 pub use blocks::PAYLOAD_OCTETS;
 pub use checksums::entry_checksum;
 pub use filestore::Filestore;
-pub use kind::{Entry, Kind, Standing};
+pub use kind::{Entry, ExistingNode, Kind};
 pub use list_store::ListStore;
 pub use performed::{Performed, perform, perform_allowed};
 pub use protected::Protected;

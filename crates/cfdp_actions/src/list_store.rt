@@ -5,7 +5,7 @@ ghost use Rattle.cfdp_actions.specs.Store.{empty_store};
 
 use crate::blocks::blocks_of;
 use crate::content::{Content, Growth, append, octets_at};
-use crate::{Entry, Filestore, Kind, Standing, entries, staging};
+use crate::{Entry, ExistingNode, Filestore, Kind, entries, staging};
 use cfdp_checksum::modular_checksum;
 use cfdp_paths::{Memory, Path, PathMap};
 use std::alloc::Global;
@@ -19,7 +19,7 @@ pub const SLOTS: usize = 64;
 /// Most of its changes take memory. Cost: a call searches for each path that it names, by halves, and makes none to
 /// look one up; `free` is one subtraction. `make_file`, `make_dir`, `remove`, and an `install` where nothing was there,
 /// also move the entries after the path, and `rename` a few times those between the two paths and after them. `deepest`
-/// and `standing` go through what is at and below the path, `listing` through the whole list, with all octets for
+/// and `existing` go through what is at and below the path, `listing` through the whole list, with all octets for
 /// the checksums. `has_beside` and `deepest_beside` compare what is below the path with each of the other paths. Octets
 /// are copied by `read`, `read_staged` and `stage_put`, which copy those that they are asked for, by `append` and
 /// `replace`, which copy the second file's, and where the first file of an `append` or the list of a `stage_extend` has
@@ -151,8 +151,8 @@ impl Filestore for ListStore {
         entries::listing(alloc, self.entries.entries())
     }
 
-    fn standing(&self, alloc: Global, path: &Path) -> Result<Vec<Standing>, Memory> {
-        entries::standing(alloc, self.entries.tree(path))
+    fn existing(&self, alloc: Global, path: &Path) -> Result<Vec<ExistingNode>, Memory> {
+        entries::existing(alloc, self.entries.tree(path))
     }
 
     fn make_file(&mut self, path: &Path) -> Result<u32, Memory> {

@@ -39,7 +39,7 @@ pub trait Kinds {
     fn is_too_deep(&self, from: &Path, to: &Path) -> bool
         requires { (F : Filestore) → tells self.now F → IsSome (node_at F from.now) }
         ensures value { result ≡ deep self.now from.now to.now }
-        ensures told { (F : Filestore) → tells self.now F → result ≡ is_tree_too_deep from.now to.now
+        ensures stated { (F : Filestore) → tells self.now F → result ≡ is_tree_too_deep from.now to.now
             (tree_at F from.now) };
 }
 
@@ -49,7 +49,7 @@ pub trait Kinds {
 /// Cost: for each name a `kind`, for a new one a `parent_is_good`, for a directory that is to go a `has_entries`, and
 /// for a move that nothing else refuses an `is_tree_too_deep`.
 pub fn refusal<K: Kinds>(kinds: &K, request: &Request) -> Option<Status>
-    ensures told { (F : Filestore) → K.tells kinds.now F → Refuses (table F request.now) result }
+    ensures stated { (F : Filestore) → K.tells kinds.now F → Refuses (table F request.now) result }
     ensures shallow { (p q : Path) → request.now ≡ RenameFile p q → IfNone result (K.deep kinds.now p q ≡ false) }
 {
     match request {
@@ -128,7 +128,7 @@ fn of_directory<K: Kinds>(
 /// Why what is at the first path may not move to the second: nothing is there, something is at the second
 /// path, the second's parent is not good, it is at or below the first, or a path would be too deep.
 fn renaming<K: Kinds>(kinds: &K, from: &Path, to: &Path) -> Option<Status>
-    ensures told { (F : Filestore) → K.tells kinds.now F → Refuses (table F (RenameFile from.now to.now)) result }
+    ensures stated { (F : Filestore) → K.tells kinds.now F → Refuses (table F (RenameFile from.now to.now)) result }
     ensures shallow { IfNone result (K.deep kinds.now from.now to.now ≡ false) }
 {
     if kinds.kind(from).is_none() {

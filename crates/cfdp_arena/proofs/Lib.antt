@@ -3,6 +3,6 @@ pub mod GivenChains
 pub mod Heap
 pub mod Laws
 pub mod Made
-pub mod Rows
+pub mod RegionBlocks
 pub mod Sharing
 pub mod Steps

@@ -7,8 +7,8 @@ use crate::Block;
 /// The octets of a block before its payload.
 const LINK_OCTETS: usize = 8;
 
-/// Copies octets from the payload of one block to that of another block of the same row. `split_at_mut` lends the two
-/// blocks at the same time, so that no buffer is needed.
+/// Copies octets from the payload of one block to that of another block of the same region. `split_at_mut` lends the
+/// two blocks at the same time, so that no buffer is needed.
 pub(crate) fn copy_between(
     blocks: &mut [Block],
     from: usize,

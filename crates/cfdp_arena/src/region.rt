@@ -13,7 +13,7 @@ use std::alloc::{AllocError, Allocator, Global};
 use std::marker::{Model, Send};
 use std::slice::from_raw_parts_mut;
 
-/// A row of blocks in memory that it owns, with room for more until all blocks are made. It has no `Drop`, so that the
+/// The memory of the blocks, which it owns, with room for more until all are made. It has no `Drop`, so that the
 /// check refuses code that does not give a region to `release`.
 pub struct Region {
     base: *mut Block,

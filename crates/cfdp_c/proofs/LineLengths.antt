@@ -35,8 +35,8 @@ flattened : {A : Type 0} (P : A → Type 0) (o : Option (Option A)) → IfSome o
 flattened P None all = tt
 flattened P (Some inner) all = all
 
-told_beside : {A : Type 0} (P : A → Type 0) (rows : List (ℕ × A)) (number : ℕ) → AllRows (λ _ x. P x) rows → IfSome (beside rows number) P
-told_beside P rows number all = holds P (beside rows number) (λ x is. beside_all (λ _ y. P y) rows number x all is)
+stated_beside : {A : Type 0} (P : A → Type 0) (rows : List (ℕ × A)) (number : ℕ) → AllRows (λ _ x. P x) rows → IfSome (beside rows number) P
+stated_beside P rows number all = holds P (beside rows number) (λ x is. beside_all (λ _ y. P y) rows number x all is)
 
 -- replies ----------------------------------------------------------------------------
 
@@ -60,7 +60,7 @@ module _ (fields : ReplyFields) (w : HasWidths fields) where
       let request = mapped (λ octet. octet < 256) IsNarrowRefusal (λ request. refusal.BadPath (place.Request request)) (small fields.request)
       (λ _ narrow. narrow) (small_holds fields.request) in
       flattened IsNarrowRefusal (beside (refusals fields) fields.refusal)
-      (told_beside (λ (o : Option Refusal). IfSome o IsNarrowRefusal) (refusals fields) fields.refusal
+      (stated_beside (λ (o : Option Refusal). IfSome o IsNarrowRefusal) (refusals fields) fields.refusal
       (tt, (tt, (request, ((w.other_source, w.other_number), (tt, (failure_holds, (w.steps, ((w.blocks, w.spare), tt)))))))))
 
   reply_holds : IfSome (reply_in fields) IsNarrow
@@ -71,7 +71,7 @@ module _ (fields : ReplyFields) (w : HasWidths fields) where
       let performed = mapped (λ _. Unit {0}) IsNarrow (λ status. reply.Performed status) (status_numbered fields.status) (λ _ _. tt)
       (any (status_numbered fields.status)) in
       flattened IsNarrow (beside (reply_table fields) fields.kind)
-      (told_beside (λ (o : Option Reply). IfSome o IsNarrow) (reply_table fields) fields.kind
+      (stated_beside (λ (o : Option Reply). IfSome o IsNarrow) (reply_table fields) fields.kind
       ((w.blocks, w.steps), (refused, (tt, (tt, (tt, (tt, (faulted, (performed, (tt, (tt, (tt, (tt, (tt, (tt, (tt, (tt, tt)))))))))))))))))
 
   pub shown_len : (octets : List ℕ) → IfSome (reply_shown fields octets) (λ line. length line ≤ longest_line (length octets))
@@ -80,11 +80,11 @@ module _ (fields : ReplyFields) (w : HasWidths fields) where
       let fits : List ℕ → Type 0 = λ line. length line ≤ longest_line (length octets) in
       cond_both (fields.kind == 12) _ _ (λ (o : Option (List ℕ)). IfSome o fits)
       (λ _. taken_line_len id octets fields.condition w.source w.number w.condition)
-      (λ _. mapped IsNarrow fits _ (reply_in fields) (λ told narrow. omega (arith, reply_line_len id told w.source w.number narrow)) reply_holds)
+      (λ _. mapped IsNarrow fits _ (reply_in fields) (λ reported narrow. omega (arith, reply_line_len id reported w.source w.number narrow)) reply_holds)
 
 -- answers ----------------------------------------------------------------------------
 
 pub answer_len : (answer : ℕ) → IfSome (answer_line answer) (λ line. length line ≤ 29)
 answer_len answer =
-    told_beside (λ (line : List ℕ). length line ≤ 29) answer_lines answer
+    stated_beside (λ (line : List ℕ). length line ≤ 29) answer_lines answer
     (omega arith, (omega arith, (omega arith, (omega arith, (omega arith, (omega arith, (omega arith, (omega arith, tt))))))))

@@ -1,5 +1,5 @@
 -- What the calls from C say of the filestore.
---     directory_told             a directory as a struct
+--     directory_found            a directory as a struct
 --     copied, not_copied         octets of a file were copied;  there is no file
 use Rattle.std.proofs.Common.{◌≡◌, ℕ, List, Option, Some, None, refl, ap, ◌∙◌, sym}
 use Rattle.std.specs.Option.{option_map}
@@ -14,16 +14,16 @@ use Rattle.cfdp_c.specs.Answers.{answer_code}
 use Rattle.cfdp_c.specs.declared.answer.CallAnswer.TheVariants.{Done, Nothing}
 use Rattle.cfdp_c.specs.Stored.{CopiesFile, node_fields}
 
-pub directory_told : (node : Option Node) (found : Found) → Some found ≡ option_map found_of node → found.kind ≡ kind.Directory →
+pub directory_found : (node : Option Node) (found : Found) → Some found ≡ option_map found_of node → found.kind ≡ kind.Directory →
     Some (record { kind = 2; checksum = found.checksum; size = found.size }) ≡ option_map node_fields node
 unfolding weighed_from
-directory_told None found told is = absurd (none-some found (sym told))
-directory_told (Some Directory) found told is = (λ k. Some (record {
+directory_found None found reported is = absurd (none-some found (sym reported))
+directory_found (Some Directory) found reported is = (λ k. Some (record {
   kind = 2;
-  checksum = (same_Some _ _ told k).checksum;
-  size = (same_Some _ _ told k).size;
+  checksum = (same_Some _ _ reported k).checksum;
+  size = (same_Some _ _ reported k).size;
 }))
-directory_told (Some (File octets)) found told is = absurd (no_file (sym is ∙ ap (λ (f : Found). f.kind) (same_Some _ _ told)))
+directory_found (Some (File octets)) found reported is = absurd (no_file (sym is ∙ ap (λ (f : Found). f.kind) (same_Some _ _ reported)))
   where
     no_file : kind.Directory ≡ kind.File → ⊥
     no_file e = cc

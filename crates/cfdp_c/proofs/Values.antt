@@ -23,8 +23,8 @@ slot_val p = vstruct (vcons (ptr_val p) vnil)
 abbrev pub field_own : Ptr → List Val → Fml
 field_own p = (Struct (record { name = []; args = []; types = []; fields = RawPtr ∷ [] })).own_val (p, tt)
 
-pub slot_told : (p : Ptr) (vs : List Val) → shadow (field_own p vs) → vs ≡ slot_val p ∷ []
-slot_told p vs s = s.1.0 ∙ (λ i. vstruct (of_list (s.1.1.0 i ++ [])) ∷ [])
+pub slot_fields : (p : Ptr) (vs : List Val) → shadow (field_own p vs) → vs ≡ slot_val p ∷ []
+slot_fields p vs s = s.1.0 ∙ (λ i. vstruct (of_list (s.1.1.0 i ++ [])) ∷ [])
 
 pub slot_made : {M : Type 1} {𝓤 : Ura M} (𝓛 : Logic 𝓤) (p : Ptr) → ent 𝓤 (emp 𝓤) (sem 𝓛 (field_own p (slot_val p ∷ [])))
 slot_made 𝓛 p = makes_shadow 𝓛 (field_own p (slot_val p ∷ [])) (λ _. (tt, (tt, tt))) ((ptr_val p ∷ [], tt), (refl, (refl, tt)))

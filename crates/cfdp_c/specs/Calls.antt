@@ -17,7 +17,7 @@ use Rattle.cfdp_entity.specs.Hearing.{heard_event, MayWantMemory}
 use Rattle.cfdp_entity.specs.Sending.{sent}
 use Rattle.cfdp_entity.specs.declared.fault.NotHeard.{NotHeard}
 use Rattle.cfdp_c.specs.Answers.{answer_code, unheard_answer}
-use Rattle.cfdp_c.specs.Told.{told}
+use Rattle.cfdp_c.specs.Reported.{reported}
 use Rattle.cfdp_c.specs.declared.answer.CallAnswer.TheVariants.{Done, NoEngine, Memory, TooShort}
 use Rattle.cfdp_c.specs.declared.reply.ReplyFields.{ReplyFields}
 
@@ -27,7 +27,7 @@ transaction_named source number = record { source = source; number = number }
 -- the engine, the reply and the answer after an event of a world
 abbrev pub RepliesFollow : World → Event → Option World → ReplyFields → ℕ → Type 0
 RepliesFollow W event after reply answer =
-    (after ≡ Some (next W event).0) × (reply ≡ told (about event) (next W event).1) × (answer ≡ answer_code Done)
+    (after ≡ Some (next W event).0) × (reply ≡ reported (about event) (next W event).1) × (answer ≡ answer_code Done)
 
 abbrev pub DoesEvent : Event → Option World → Option World → ReplyFields → ReplyFields → ℕ → Type 0
 DoesEvent event None after old new answer = (after ≡ None) × (new ≡ old) × (answer ≡ answer_code NoEngine)

@@ -1,6 +1,6 @@
 pub mod Answers
 pub mod Numbers
-pub mod Told
+pub mod Reported
 pub mod Creation
 pub mod Calls
 pub mod Reads

@@ -1,7 +1,7 @@
 -- What is next in the filestore after a path, as C gets it.
 --   spelled_fields octets     octets that spell a path as a struct: zeros are after them;  path_fields: of a path
 --   cursor_in fields          the path that a struct spells, and the root where it has no octets
---   StandsNext F p path entry the path that is next, and what is there, are reported
+--   IsNextAfter F p path entry the path that is next, and what is there, are reported
 --   NextOrNone F p old new answer likewise;  or nothing comes next, and both structs are as before
 --   GoesOnFrom cursor         likewise of the path that is spelled;  or none is
 --   TellsNext handle          likewise of an engine's filestore;  or there is no engine
@@ -26,7 +26,7 @@ path_fields path = spelled_fields (joined path)
 abbrev pub cursor_in : PathFields → Option Path
 cursor_in fields = if fields.length == 0 then Some [] else path_in_fields fields
 
-pub record StandsNext (F : Filestore) (p : Path) (path : PathFields) (entry : EntryFields) : Type 0 where
+pub record IsNextAfter (F : Filestore) (p : Path) (path : PathFields) (entry : EntryFields) : Type 0 where
   pub next : Path
   pub node : Node
   pub there : node_at F next ≡ Some node
@@ -36,7 +36,7 @@ pub record StandsNext (F : Filestore) (p : Path) (path : PathFields) (entry : En
 
 abbrev pub NextOrNone : Filestore → Path → PathFields → PathFields → EntryFields → EntryFields → ℕ → Type 0
 NextOrNone F p before path old entry answer =
-    (StandsNext F p path entry × (answer ≡ answer_code Done))
+    (IsNextAfter F p path entry × (answer ≡ answer_code Done))
     ⊎ (IsLast F p × (path ≡ before) × (entry ≡ old) × (answer ≡ answer_code Nothing))
 
 abbrev pub GoesOnFrom : Option Path → Filestore → PathFields → PathFields → EntryFields → EntryFields → ℕ → Type 0

@@ -18,7 +18,7 @@ use Rattle.cfdp_reception.specs.Reception.{ReceptionFields, pdus_in}
 use Rattle.cfdp_c.specs.Calls.{transaction_named}
 use Rattle.cfdp_c.specs.Numbers.{reply_none}
 use Rattle.cfdp_c.specs.Reads.{name_fields}
-use Rattle.cfdp_c.specs.Told.{bare, told}
+use Rattle.cfdp_c.specs.Reported.{bare, reported}
 use Rattle.cfdp_c.specs.declared.reply.ReplyFields.{ReplyFields}
 use Rattle.cfdp_c.specs.declared.reports.IndicationFields.{IndicationFields}
 use Rattle.cfdp_c.specs.declared.reports.ReportFields.{ReportFields}
@@ -58,7 +58,7 @@ transaction_by (Said id word) = id
 abbrev pub reply_by : Became → ReplyFields
 reply_by Nothing = bare no_one reply_none
 reply_by NotOurs = bare no_one reply_none
-reply_by (Replied id reply) = told id reply
+reply_by (Replied id reply) = reported id reply
 reply_by (Said id word) = bare id reply_none
 
 abbrev pub blank : ℕ → TransactionId → IndicationFields

@@ -10,7 +10,7 @@
 --   with_end_mark text out    a buffer with a text at its beginning, and a 0 after it where there is room
 --   PutsText text             a text is written so, and its length returned; or it does not fit
 --   Writes text               likewise, where there is a text, or there is no memory for it
---   IsTold reply              a reply that goes to C, and whose numbers are octets where they are to be
+--   IsReported reply          a reply that goes to C, and whose numbers are octets where they are to be
 --   ShownAsReplayed           each such reply is shown as `replay` writes it
 use Rattle.std.specs.Prelude.{◌≡◌, ◌⊎◌, ⊤, ℕ, ◌+◌, ◌*◌, ◌^◌, max, ◌<◌, ◌≤◌, ◌==◌, nat_lt, if◌then◌else◌, List, [], ◌∷◌, ◌++◌, drop, length, Option, Some, None}
 use Rattle.std.specs.Option.{option_map, option_and_then, option_flatten}
@@ -19,7 +19,7 @@ use Rattle.cfdp_status.specs.Transaction.{transaction_name}
 use Rattle.cfdp_status.specs.declared.status.Status.{Status}
 use Rattle.cfdp_status.specs.declared.transaction.TransactionId.{TransactionId}
 use Rattle.cfdp_pdus.specs.declared.fault.PduFault.TheVariants as fault
-use Rattle.cfdp_verifier.specs.declared.refusal.Place.TheVariants as index
+use Rattle.cfdp_verifier.specs.declared.refusal.Place.TheVariants as place
 use Rattle.cfdp_verifier.specs.declared.refusal.Refusal.{Refusal}
 use Rattle.cfdp_verifier.specs.declared.refusal.Refusal.TheVariants as refusal
 use Rattle.cfdp_transactions.specs.declared.reply.Reply.{Reply}
@@ -29,7 +29,7 @@ use Rattle.cfdp_entity.specs.Sending.{sent}
 use Rattle.cfdp_c.specs.Answers.{answer_code}
 use Rattle.cfdp_c.specs.Calls.{transaction_named}
 use Rattle.cfdp_c.specs.Numbers.{reply_admitted, reply_refused, reply_stored, reply_dropped, reply_complete, reply_waiting, reply_faulted, reply_performed, reply_installed, reply_finished, reply_cancelled, reply_taken, reply_duplicate, reply_unknown, reply_idle, reply_not_for_us, reply_table_full, refusal_too_many_requests, refusal_bad_destination, refusal_bad_request_path, refusal_conflict, refusal_destination_not_allowed, refusal_would_fail, refusal_too_long, refusal_no_room}
-use Rattle.cfdp_c.specs.Told.{told}
+use Rattle.cfdp_c.specs.Reported.{reported}
 use Rattle.cfdp_c.specs.declared.answer.CallAnswer.TheVariants.{Done, Memory, Nothing, TooShort, NotOurs, Truncated, BadVersion, CrcNotSupported, LengthMismatch, BadDirective, BadTlv, RequestTooLong}
 use Rattle.cfdp_c.specs.declared.reply.ReplyFields.{ReplyFields}
 
@@ -46,8 +46,8 @@ failure_in fields = option_and_then (λ request. option_map (λ status. refusal.
 abbrev pub refusals : ReplyFields → List (ℕ × Option Refusal)
 refusals fields =
     (refusal_too_many_requests, Some refusal.TooManyRequests)
-    ∷ (refusal_bad_destination, Some (refusal.BadPath index.Destination))
-    ∷ (refusal_bad_request_path, option_map (λ request. refusal.BadPath (index.Request request)) (small fields.request))
+    ∷ (refusal_bad_destination, Some (refusal.BadPath place.Destination))
+    ∷ (refusal_bad_request_path, option_map (λ request. refusal.BadPath (place.Request request)) (small fields.request))
     ∷ (refusal_conflict, Some (refusal.Conflict (transaction_named fields.other_source fields.other_number)))
     ∷ (refusal_destination_not_allowed, Some refusal.DestinationNotAllowed)
     ∷ (refusal_would_fail, failure_in fields)
@@ -139,14 +139,14 @@ Writes None out written before count answer = (written ≡ out) × (count ≡ be
 Writes (Some text) out written before count answer =
     PutsText text out written count answer ⊎ ((written ≡ out) × (count ≡ before) × (answer ≡ answer_code Memory))
 
-abbrev pub IsTold : Reply → Type 0
-IsTold (reply.Refused (refusal.BadPath (index.Request request))) = request < 256
-IsTold (reply.Refused (refusal.WouldFail request status)) = request < 256
-IsTold (reply.Faulted condition) = condition < 256
-IsTold reply.Memory = ⊥
-IsTold reply.JournalFull = ⊥
-IsTold told = ⊤
+abbrev pub IsReported : Reply → Type 0
+IsReported (reply.Refused (refusal.BadPath (place.Request request))) = request < 256
+IsReported (reply.Refused (refusal.WouldFail request status)) = request < 256
+IsReported (reply.Faulted condition) = condition < 256
+IsReported reply.Memory = ⊥
+IsReported reply.JournalFull = ⊥
+IsReported reported = ⊤
 
 abbrev pub ShownAsReplayed : Type 0
-ShownAsReplayed = (id : TransactionId) (reply : Reply) → IsTold reply → reply_shown (told id reply) (sent reply)
+ShownAsReplayed = (id : TransactionId) (reply : Reply) → IsReported reply → reply_shown (reported id reply) (sent reply)
     ≡ Some (reply_line id reply)

@@ -29,8 +29,8 @@ pub extern "C" fn cfdp_receive(
         return CallAnswer::NoEngine.code();
     };
     let answer = match entity.receive(alloc, octets) {
-        Ok((id, told)) => {
-            *reply = ReplyFields::of(id, &told);
+        Ok((id, reported)) => {
+            *reply = ReplyFields::of(id, &reported);
             CallAnswer::Done
         }
         Err(why) => CallAnswer::of_unheard(why),

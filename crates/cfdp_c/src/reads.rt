@@ -145,8 +145,8 @@ pub extern "C" fn cfdp_phase(
     };
     let answer = match entity.core().phase(TransactionId { source, number }) {
         None => CallAnswer::Nothing,
-        Some(told) => {
-            *phase = phase_fields(told);
+        Some(reported) => {
+            *phase = phase_fields(reported);
             CallAnswer::Done
         }
     };

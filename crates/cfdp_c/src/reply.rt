@@ -1,6 +1,6 @@
 //! A reply as a struct of numbers.
 ghost use Rattle.std.specs.Prelude.{◌≡◌};
-ghost use Rattle.cfdp_c.specs.Told.{bare, refusal_fields, told};
+ghost use Rattle.cfdp_c.specs.Reported.{bare, refusal_fields, reported};
 ghost use Rattle.cfdp_c.specs.Numbers.{reply_none, reply_refused, reply_taken};
 
 use crate::numbers;
@@ -132,7 +132,7 @@ impl ReplyFields {
 
     /// A reply about a transaction.
     pub(crate) fn of(id: TransactionId, reply: &Reply) -> ReplyFields
-        ensures { result ≡ told id reply.now }
+        ensures { result ≡ reported id reply.now }
     {
         match reply {
             Reply::Admitted(blocks, steps) => ReplyFields {

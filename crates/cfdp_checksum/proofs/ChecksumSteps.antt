@@ -53,11 +53,12 @@ weighed-shifted (suc (suc (suc zero))) (a ∷ []) some inside fits = omega arith
 weighed-shifted (suc (suc (suc zero))) (a ∷ b ∷ octets) some inside fits = absurd (omega arith)
 weighed-shifted (suc (suc (suc (suc word_offset)))) octets some inside fits = absurd (omega arith)
 
-pub weighed-append : (at : ℕ) (xs ys : List ℕ) (behind : ℕ) → behind ≡ at + length xs → weighed_from at (xs ++ ys) ≡ weighed_from at xs + weighed_from behind ys
+pub weighed-append : (at : ℕ) (xs ys : List ℕ) (following : ℕ) → following ≡ at + length xs
+    → weighed_from at (xs ++ ys) ≡ weighed_from at xs + weighed_from following ys
 unfolding weighed_from
-weighed-append at [] ys behind e = let same : behind ≡ at = omega (arith, e) in omega (arith, ap (λ n. weighed_from n ys) same)
-weighed-append at (x ∷ xs) ys behind e =
-    let rest = weighed-append (at + 1) xs ys behind (omega (arith, e)) in
+weighed-append at [] ys following e = let same : following ≡ at = omega (arith, e) in omega (arith, ap (λ n. weighed_from n ys) same)
+weighed-append at (x ∷ xs) ys following e =
+    let rest = weighed-append (at + 1) xs ys following (omega (arith, e)) in
     omega (arith, rest)
 
 -- of two pieces, the second at its offset
@@ -68,8 +69,8 @@ offsets-add-up i xs ys = omega (arith, weighed-append i xs ys (i + length xs) re
 pub pieces-add-up : PiecesAddUp
 pieces-add-up words xs ys e =
     let whole = weighed-append 0 xs ys (length xs) (omega arith) in
-    let behind = weighed-offset (length xs) 0 ys (omega (arith, e)) in
-    omega (arith, whole, behind)
+    let following = weighed-offset (length xs) 0 ys (omega (arith, e)) in
+    omega (arith, whole, following)
 
 weighed-zeros : (at n : ℕ) → weighed_from at (replicate n 0) ≡ 0
 unfolding weighed_from

@@ -7,8 +7,8 @@ pub taken_over : {X : Type 0} (taken more all : List X) (index : ℕ) (x : X) �
     → taken ++ drop index all ≡ all → more ++ drop (index + 1) all ≡ all
 taken_over {X = X} taken more all index x at grown before =
     let next : suc index ≡ index + 1 = omega arith in
-    let behind : drop index all ≡ x ∷ drop (index + 1) all = subst (λ (n : ℕ). drop index all ≡ x ∷ drop n all) next (drop_get index all x at) in
+    let following : drop index all ≡ x ∷ drop (index + 1) all = subst (λ (n : ℕ). drop index all ≡ x ∷ drop n all) next (drop_get index all x at) in
     ap (λ (xs : List X). xs ++ drop (index + 1) all) grown
     ∙ append_assoc taken (x ∷ []) (drop (index + 1) all)
-    ∙ ap (λ (xs : List X). taken ++ xs) (sym behind)
+    ∙ ap (λ (xs : List X). taken ++ xs) (sym following)
     ∙ before

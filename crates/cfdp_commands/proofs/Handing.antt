@@ -18,7 +18,7 @@ use Rattle.cfdp_transactions.proofs.Promises.OnlyTakeHandsOut.{only_take_hands_o
 use Rattle.cfdp_entity.specs.Hearing.{heard_event, heard_event_in}
 use Rattle.cfdp_texts.specs.Replies.{reply_line}
 use Rattle.cfdp_commands.specs.Commands.{local_event}
-use Rattle.cfdp_commands.specs.Replay.{Running, read_told}
+use Rattle.cfdp_commands.specs.Replay.{Running, read_and_run}
 use Rattle.cfdp_commands.specs.declared.commands.Local.{Local}
 use Rattle.cfdp_commands.specs.declared.commands.Local.TheVariants.{Step, Cancel, Check, Take}
 
@@ -67,12 +67,12 @@ heard_fits W V octets event (replied.Taken outcome) same follows =
 heard_fits W V octets event reply same follows = tt
 
 -- what is written of an event that was heard is what its octets come to
-pub heard_told : (W V : World) (octets : List ℕ) (event : Event) (id : TransactionId) (reply : Reply) (before after : List ℕ)
+pub heard_stated : (W V : World) (octets : List ℕ) (event : Event) (id : TransactionId) (reply : Reply) (before after : List ℕ)
     → heard_event octets ≡ Ok event → id ≡ about event → next W event ≡ (V, reply) → after ≡ before ++ reply_line id reply
-    → (lines : List ℕ) × (read_told W (event_at octets) ≡ (Running V, lines)) × (after ≡ before ++ lines)
-heard_told W V octets event id reply before after same named follows written = (
+    → (lines : List ℕ) × (read_and_run W (event_at octets) ≡ (Running V, lines)) × (after ≡ before ++ lines)
+heard_stated W V octets event id reply before after same named follows written = (
   reply_line id reply,
-  ap (read_told W) (event_heard octets event same)
+  ap (read_and_run W) (event_heard octets event same)
       ∙ ap (λ (text : List ℕ). (Running (next W event).0, text)) (append-nil (reply_line (about event) (next W event).1))
       ∙ ap (λ (a : World × Reply). (Running a.0, reply_line (about event) a.1)) follows
       ∙ ap (λ (n : TransactionId). (Running V, reply_line n reply)) (sym named),

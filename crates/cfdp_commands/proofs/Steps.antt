@@ -7,13 +7,13 @@ use Rattle.cfdp_transactions.specs.Events.{about}
 use Rattle.cfdp_transactions.specs.Next.{next, replies, run}
 use Rattle.cfdp_transactions.specs.World.{World, next_runnable}
 use Rattle.cfdp_commands.specs.Replay.{steps_by, steps_from}
-use Rattle.cfdp_texts.specs.Replies.{reply_line, told_lines}
+use Rattle.cfdp_texts.specs.Replies.{reply_line, reply_lines}
 
 -- this many steps are left: they end and write what all of them do
 pub record Steps (left : ℕ) (start W : World) (all : ℕ) (before text : List ℕ) : Type 0 where
   pub ends : run W (steps_from left W) ≡ run start (steps_from all start)
-  pub writes : text ++ told_lines (steps_from left W) (replies W (steps_from left W))
-      ≡ before ++ told_lines (steps_from all start) (replies start (steps_from all start))
+  pub writes : text ++ reply_lines (steps_from left W) (replies W (steps_from left W))
+      ≡ before ++ reply_lines (steps_from all start) (replies start (steps_from all start))
 
 pub steps_start : (all : ℕ) (W : World) (text : List ℕ) → Steps all W W all text text
 steps_start all W text = record { ends = refl; writes = refl }
@@ -31,9 +31,9 @@ steps_next more start W V all id before text after h e v a =
     rw v record {
       ends = ap (run W) (sym first) ∙ h.ends;
       writes =
-          ap (λ t. t ++ told_lines (steps_from more (next W (Step id)).0) (replies (next W (Step id)).0 (steps_from more (next W (Step id)).0))) a
+          ap (λ t. t ++ reply_lines (steps_from more (next W (Step id)).0) (replies (next W (Step id)).0 (steps_from more (next W (Step id)).0))) a
           ∙ append_assoc text (reply_line (about (Step id)) (next W (Step id)).1) _
-          ∙ ap (λ events. text ++ told_lines events (replies W events)) (sym first)
+          ∙ ap (λ events. text ++ reply_lines events (replies W events)) (sym first)
           ∙ h.writes;
     }
 
@@ -46,9 +46,9 @@ none_left (suc more) W (inr e) = ap (λ first. steps_by first (λ id. steps_from
 pub steps_end : (left : ℕ) (start W : World) (all : ℕ) (before text : List ℕ) → Steps left start W all before text
     → (left ≡ 0) ⊎ (next_runnable W.table ≡ None)
     → (W ≡ run start (steps_from all start))
-    × (text ≡ before ++ told_lines (steps_from all start) (replies start (steps_from all start)))
+    × (text ≡ before ++ reply_lines (steps_from all start) (replies start (steps_from all start)))
 steps_end left start W all before text h e =
     let none = none_left left W e in (
       sym (ap (run W) none) ∙ h.ends,
-      sym (append-nil text) ∙ sym (ap (λ events. text ++ told_lines events (replies W events)) none) ∙ h.writes,
+      sym (append-nil text) ∙ sym (ap (λ events. text ++ reply_lines events (replies W events)) none) ∙ h.writes,
     )

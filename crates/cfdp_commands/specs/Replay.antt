@@ -7,9 +7,9 @@
 --   protected         the stage after a path is protected, by its octets
 --   stage_world       the world as the first event, and each later one, finds it
 --   without_text      the stage after a line that writes nothing
---   told_events       the stage after some events, and the lines of their replies
+--   run_events        the stage after some events, and the lines of their replies
 --   steps_from        the steps of `run`, of the first transaction that can take one until none can
---   read_told         what a PDU comes to, from what reading it answers
+--   read_and_run      what a PDU comes to, from what reading it answers
 --   obeyed            what a command does; nothing where it is bad at this stage
 --   line_answered     what a line does, by what it says; one without words does nothing
 --   replay_answer     what a line does
@@ -24,11 +24,11 @@ use Rattle.cfdp_transactions.specs.Events.{event_at}
 use Rattle.cfdp_transactions.specs.declared.event.Event.{Event}
 use Rattle.cfdp_transactions.specs.declared.event.Event.TheVariants as events
 use Rattle.cfdp_transactions.specs.Next.{next, run, replies}
-use Rattle.cfdp_transactions.specs.Settling.{most_settled}
+use Rattle.cfdp_transactions.specs.MostSettled.{most_settled}
 use Rattle.cfdp_transactions.specs.World.{World, start, next_runnable}
 use Rattle.cfdp_commands.specs.Commands.{Command, command_in, local_event}
 use Rattle.cfdp_commands.specs.Commands as command
-use Rattle.cfdp_texts.specs.Replies.{told_lines, fault_line, not_ours, listing_text}
+use Rattle.cfdp_texts.specs.Replies.{reply_lines, fault_line, not_ours, listing_text}
 use Rattle.cfdp_lines.specs.Report.{Report, script_report}
 
 pub data ReplayStage : Type 0 where
@@ -73,8 +73,8 @@ abbrev pub stage_world : ReplayStage → World
 stage_world (Preparing is_first config) = start config
 stage_world (Running W) = W
 
-abbrev pub told_events : World → List Event → ReplayStage × List ℕ
-told_events W events = (Running (run W events), told_lines events (replies W events))
+abbrev pub run_events : World → List Event → ReplayStage × List ℕ
+run_events W events = (Running (run W events), reply_lines events (replies W events))
 
 -- the first step, and those after it
 abbrev pub steps_by : Option TransactionId → (TransactionId → List Event) → List Event
@@ -86,10 +86,10 @@ unfoldable pub steps_from : ℕ → World → List Event
 steps_from zero W = []
 steps_from (suc more) W = steps_by (next_runnable W.table) (λ id. steps_from more (next W (events.Step id)).0)
 
-abbrev pub read_told : World → Result (Option Event) PduFault → ReplayStage × List ℕ
-read_told W (Err fault) = (Running W, fault_line fault)
-read_told W (Ok None) = (Running W, not_ours)
-read_told W (Ok (Some event)) = told_events W (event ∷ [])
+abbrev pub read_and_run : World → Result (Option Event) PduFault → ReplayStage × List ℕ
+read_and_run W (Err fault) = (Running W, fault_line fault)
+read_and_run W (Ok None) = (Running W, not_ours)
+read_and_run W (Ok (Some event)) = run_events W (event ∷ [])
 
 -- ---- lines
 
@@ -101,9 +101,9 @@ abbrev pub obeyed : ReplayStage → Command → Option (ReplayStage × List ℕ)
 obeyed stage (command.Config entity blocks cap checks journal) =
     without_text (configured stage entity blocks cap checks journal)
 obeyed stage (command.Protect octets) = without_text (protected stage octets)
-obeyed stage (command.Pdu octets) = Some (read_told (stage_world stage) (event_at octets))
-obeyed stage (command.Local which id) = Some (told_events (stage_world stage) (local_event which id ∷ []))
-obeyed stage command.Run = Some (told_events (stage_world stage) (steps_from most_settled (stage_world stage)))
+obeyed stage (command.Pdu octets) = Some (read_and_run (stage_world stage) (event_at octets))
+obeyed stage (command.Local which id) = Some (run_events (stage_world stage) (local_event which id ∷ []))
+obeyed stage command.Run = Some (run_events (stage_world stage) (steps_from most_settled (stage_world stage)))
 obeyed stage command.ListAll = Some (Running (stage_world stage), listing_text (stage_world stage))
 
 -- a bad line, one without words, or a command

@@ -84,17 +84,17 @@ pub enum Command<'a> {
 
 /// Room for the octets that lines spell. It is used again for each line.
 #[derive(Drop)]
-pub struct Room {
+pub struct CommandRoom {
     /// Those of a path. They take no memory, so that a bad line is reported even where memory is refused.
     path: [u8; LONGEST_PATH],
     /// Those of a PDU.
     pdu: Vec<u8>,
 }
 
-impl Room {
+impl CommandRoom {
     /// Room that takes no memory yet. A path has its room in it; the room for a PDU grows with the longest one.
     pub fn new(alloc: Global) -> Self {
-        Room {
+        CommandRoom {
             path: [0; LONGEST_PATH],
             pdu: Vec::new(alloc),
         }
@@ -220,7 +220,7 @@ fn found(command: Option<Command<'_>>) -> Result<Command<'_>, LineFault>
 fn read_words<'a>(
     keyword: Keyword,
     words: &[u8],
-    room: &'a mut Room,
+    room: &'a mut CommandRoom,
 ) -> Result<Command<'a>, LineFault>
     ensures ok { IfOk result (λ command. command_by keyword (words_of words.now) ≡ Some (command_of command)) }
     ensures bad { (result ≡ Err Bad) ↔ (command_by keyword (words_of words.now) ≡ None) }
@@ -243,7 +243,10 @@ fn read_words<'a>(
 ///
 /// [`LineFault::Bad`] exactly if the line says none of these, even where memory is refused; [`LineFault::Memory`] out
 /// of memory, which only the octets of a PDU take.
-pub fn read_command<'a>(line: &[u8], room: &'a mut Room) -> Result<Option<Command<'a>>, LineFault>
+pub fn read_command<'a>(
+    line: &[u8],
+    room: &'a mut CommandRoom,
+) -> Result<Option<Command<'a>>, LineFault>
     ensures ok { IfOk result (λ command. command_in line.now ≡ Some (option_map command_of command)) }
     ensures bad { (result ≡ Err Bad) ↔ (command_in line.now ≡ None) }
     ensures memory { result ≡ Err LineFault.Memory → SaysPdu (command_in line.now) }

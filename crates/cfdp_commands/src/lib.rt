@@ -16,7 +16,7 @@ mod stage;
 mod telling;
 mod transfers;
 
-pub use commands::{Command, Local, Room, read_command};
+pub use commands::{Command, CommandRoom, Local, read_command};
 pub use requests::Requests;
 pub use setup::{Setup, copy_config};
 pub use transfers::Transfers;

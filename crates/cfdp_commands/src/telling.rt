@@ -2,11 +2,11 @@
 ghost use Rattle.std.specs.Prelude.{◌≡◌, ◌++◌, ℕ, List, OnOk};
 ghost use Rattle.cfdp_transactions.specs.Events.{about, event_at};
 ghost use Rattle.cfdp_transactions.specs.Next.{next, replies, run};
-ghost use Rattle.cfdp_transactions.specs.Settling.{most_settled};
+ghost use Rattle.cfdp_transactions.specs.MostSettled.{most_settled};
 ghost use Rattle.cfdp_transactions.specs.Writable.{FitsReply, IsReadable};
 ghost use Rattle.cfdp_entity.specs.Hearing.{heard_event};
-ghost use Rattle.cfdp_commands.specs.Replay.{Running, read_told, steps_from};
-ghost use Rattle.cfdp_texts.specs.Replies.{listing_text, reply_line, told_lines};
+ghost use Rattle.cfdp_commands.specs.Replay.{Running, read_and_run, steps_from};
+ghost use Rattle.cfdp_texts.specs.Replies.{listing_text, reply_line, reply_lines};
 
 use cfdp_entity::{Entity, NotHeard};
 use cfdp_pdus::PduFault;
@@ -39,7 +39,7 @@ pub(crate) fn receive(
     octets: &[u8],
     text: &mut Vec<u8>,
 ) -> Result<(), AllocError>
-    ensures { OnOk result ((lines : List ℕ) × (read_told entity.old (event_at octets.now)
+    ensures { OnOk result ((lines : List ℕ) × (read_and_run entity.old (event_at octets.now)
         ≡ (Running entity.new, lines))
         × (text.new.items ≡ text.old.items ++ lines)) }
 {
@@ -56,7 +56,7 @@ pub(crate) fn receive(
 pub(crate) fn run(alloc: Global, entity: &mut Entity, text: &mut Vec<u8>) -> Result<(), AllocError>
     ensures world { OnOk result (entity.new ≡ run entity.old (steps_from most_settled entity.old)) }
     ensures text { OnOk result (text.new.items ≡ text.old.items
-        ++ told_lines (steps_from most_settled entity.old) (replies entity.old (steps_from most_settled entity.old))) }
+        ++ reply_lines (steps_from most_settled entity.old) (replies entity.old (steps_from most_settled entity.old))) }
 {
     'steps: for _ in 0..MOST_SETTLED {
         let Some(id) = entity.core().next_runnable() else {

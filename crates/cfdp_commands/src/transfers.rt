@@ -2,7 +2,7 @@
 ghost use Rattle.std.specs.Prelude.{◌≡◌};
 ghost use Rattle.cfdp_commands.specs.Replay.{at_first};
 
-use crate::commands::{Room, read_command};
+use crate::commands::{CommandRoom, read_command};
 use crate::stage::CommandStage;
 use cfdp_lines::{LineFault, Script};
 use std::alloc::Global;
@@ -12,8 +12,8 @@ use std::alloc::Global;
 pub struct Transfers {
     stage: CommandStage,
     /// What the last line spelled: room that is used again for the next one.
-    room: Room,
-    /// What the last line wrote: the same.
+    room: CommandRoom,
+    /// What the last line wrote: its room is used again, too.
     text: Vec<u8>,
 }
 
@@ -26,7 +26,7 @@ impl Transfers {
     {
         Transfers {
             stage: CommandStage::new(),
-            room: Room::new(alloc),
+            room: CommandRoom::new(alloc),
             text: Vec::new(alloc),
         }
     }

@@ -115,7 +115,7 @@ piece_received W u rs e index at =
 pub record Arrived (W : World) (u : UploadFields) (rs : Received) (items : List Item) (indices : List ℕ) : Type 0 where
   pub entry : Entry
   pub at : IsReceiving (run W (data_events u indices)) u (kept_after u rs indices) entry
-  pub told : replies W (data_events u indices) ≡ replicate (length indices) replied.Stored
+  pub stated : replies W (data_events u indices) ≡ replicate (length indices) replied.Stored
   pub same_items : entry.items ≡ items
 
 -- after one more piece
@@ -126,15 +126,15 @@ arrived_by W u rs items index indices a is stored_is arrived = record {
   entry = arrived.entry;
   at = subst (λ (b : World × Reply). IsReceiving (run b.0 (data_events u indices)) u (kept_after u (kept_piece u rs index) indices) arrived.entry)
       (sym is) arrived.at;
-  told = ap (λ (b : World × Reply). b.1 ∷ replies b.0 (data_events u indices)) is
+  stated = ap (λ (b : World × Reply). b.1 ∷ replies b.0 (data_events u indices)) is
       ∙ ap (λ (r : Reply). r ∷ replies a.0 (data_events u indices)) stored_is
-      ∙ ap (λ (l : List Reply). replied.Stored ∷ l) arrived.told;
+      ∙ ap (λ (l : List Reply). replied.Stored ∷ l) arrived.stated;
   same_items = arrived.same_items;
 }
 
 pub pieces_arrive : (u : UploadFields) → IsUpload u → has_file u.metadata ≡ true → (W : World) (rs : Received) (e : Entry) (indices : List ℕ)
     → AllByRecursion (λ index. index < pieces_of u) indices → StaysFew u rs indices → IsReceiving W u rs e → Arrived W u rs e.items indices
-pieces_arrive u is file W rs e [] within few at = record { entry = e; at = at; told = refl; same_items = refl }
+pieces_arrive u is file W rs e [] within few at = record { entry = e; at = at; stated = refl; same_items = refl }
 pieces_arrive u is file W rs e (index ∷ indices) within few at =
     let received : Received = kept_with e.received (piece_of u index).offset (piece_of u index).octets in
     let V : World = stores W (index_of W (id_of u.header)) e received in
@@ -275,7 +275,7 @@ admitted_complete W u blocks steps is file few admitted =
       answers = ap (λ (r : Reply). r ∷ replies V (data_events u u.order ++ EofCame u.header (eof_of u) ∷ [])) admitted
           ∙ ap (λ (l : List Reply). replied.Admitted blocks steps ∷ l)
           (replies_more V (data_events u u.order) (EofCame u.header (eof_of u) ∷ [])
-          ∙ ap (λ (l : List Reply). l ++ (next U (EofCame u.header (eof_of u))).1 ∷ []) came.told
+          ∙ ap (λ (l : List Reply). l ++ (next U (EofCame u.header (eof_of u))).1 ∷ []) came.stated
           ∙ ap (λ (a : World × Reply). replicate (length u.order) replied.Stored ++ a.1 ∷ []) end);
       complete = record {
         entry = turned came.entry (Executing 0) came.entry.eof true;

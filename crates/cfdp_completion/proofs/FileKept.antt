@@ -11,7 +11,7 @@ use Rattle.cfdp_uploads.specs.Uploads.{UploadFields, IsUpload, piece_of, pieces_
 use Rattle.cfdp_uploads.specs.Laws.{IsPart}
 use Rattle.cfdp_uploads.proofs.Pieces.{part, whole}
 use Rattle.cfdp_completion.specs.Delivering.{kept_piece, kept_after, FileIsKept}
-use Rattle.cfdp_transactions.proofs.Received.Writing.{get_behind, get_there}
+use Rattle.cfdp_transactions.proofs.Received.Writing.{get_past_end, get_there}
 use Rattle.cfdp_transactions.proofs.Soundness.Receiving.{kept_within}
 
 -- ---- what a piece brings
@@ -49,7 +49,7 @@ brought_at_end : (file : List ℕ) (piece : FileDataFields) (i : ℕ) → piece.
 brought_at_end file piece i past =
     let j : ℕ = i - piece.offset in
     let at : piece.offset + j ≡ i = omega arith in
-    inl (ap (brought piece.offset piece.octets) (sym at) ∙ brought_from piece.offset j piece.octets ∙ get_behind piece.octets j (omega arith))
+    inl (ap (brought piece.offset piece.octets) (sym at) ∙ brought_from piece.offset j piece.octets ∙ get_past_end piece.octets j (omega arith))
 
 brought_part : (file : List ℕ) (piece : FileDataFields) → IsPart file piece → (i : ℕ) → IsOf file (brought piece.offset piece.octets i) i
 brought_part file piece is i =

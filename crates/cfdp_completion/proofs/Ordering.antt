@@ -20,10 +20,10 @@ nothing_kept : (ys : List ℕ) → kept_with [] zero ys ≡ map Some ys
 nothing_kept [] = refl
 nothing_kept (y ∷ ys) = ap (λ (l : Received). Some y ∷ l) (nothing_kept ys)
 
-kept_behind : (xs ys : List ℕ) → kept_with (map Some xs) (length xs) ys ≡ map Some (xs ++ ys)
-kept_behind [] ys = nothing_kept ys
-kept_behind (x ∷ xs) [] = ap (λ (l : List ℕ). map Some (x ∷ l)) (sym (append-nil xs))
-kept_behind (x ∷ xs) (y ∷ ys) = ap (λ (l : Received). Some x ∷ l) (kept_behind xs (y ∷ ys))
+kept_following : (xs ys : List ℕ) → kept_with (map Some xs) (length xs) ys ≡ map Some (xs ++ ys)
+kept_following [] ys = nothing_kept ys
+kept_following (x ∷ xs) [] = ap (λ (l : List ℕ). map Some (x ∷ l)) (sym (append-nil xs))
+kept_following (x ∷ xs) (y ∷ ys) = ap (λ (l : Received). Some x ∷ l) (kept_following xs (y ∷ ys))
 
 next_kept : (u : UploadFields) → IsUpload u → (n : ℕ) → n < pieces_of u
     → kept_piece u (map Some (take (u.segment * n) u.file)) n ≡ map Some (take (u.segment * (n + 1)) u.file)
@@ -33,7 +33,7 @@ next_kept u is n lt =
     let long : u.segment * n ≡ length front = omega (arith, begins, length-take (u.segment * n) u.file) in
     let more : u.segment * n + u.segment ≡ u.segment * (n + 1) = omega arith in
     ap (λ (at : ℕ). kept_with (map Some front) at (take u.segment (drop (u.segment * n) u.file))) long
-    ∙ kept_behind front (take u.segment (drop (u.segment * n) u.file))
+    ∙ kept_following front (take u.segment (drop (u.segment * n) u.file))
     ∙ ap (λ (l : List ℕ). map Some l) (sym (take-add (u.segment * n) u.segment u.file))
     ∙ ap (λ (m : ℕ). map Some (take m u.file)) more
 

@@ -2,7 +2,7 @@
 
 use crate::fault::CostFault;
 use crate::hearing::{Heard, Hears};
-use crate::pdus::{PIECE, data_pdu, header, metadata_pdu, set_number, set_offset};
+use crate::pdus::{DATA_PIECE, data_pdu, header, metadata_pdu, set_number, set_offset};
 use std::alloc::Global;
 use std::fmt;
 
@@ -47,12 +47,12 @@ impl fmt::Display for CallTally {
     fn fmt<W: fmt::Write>(&self, f: &mut fmt::Formatter<W>) -> fmt::Result {
         write!(
             f,
-            "{} File Data PDUs of {PIECE} octets, {} stored, the last one: ",
+            "{} File Data PDUs of {DATA_PIECE} octets, {} stored, the last one: ",
             self.count, self.stored
         )?;
         match self.last {
             Heard::Stored(id) => write!(f, "Stored, of transaction {}", id.number),
-            Heard::Told(id, offset, len) => write!(
+            Heard::Notified(id, offset, len) => write!(
                 f,
                 "File-Segment-Recv, transaction {}, {len} octets at offset {offset}",
                 id.number
@@ -91,14 +91,14 @@ impl Workload {
             Whose::Last | Whose::Stranger if number == self.sessions => self.count,
             Whose::Last | Whose::Stranger => 1,
         };
-        pieces.saturating_mul(PIECE)
+        pieces.saturating_mul(DATA_PIECE)
     }
 }
 
 /// Begins all transactions.
-fn begin<H: Hears>(alloc: Global, hearer: &mut H, plan: Workload) -> Result<(), CostFault> {
-    for number in 1..=plan.sessions {
-        let mut octets = metadata_pdu(alloc, &header(number), plan.size(number))?;
+fn begin<H: Hears>(alloc: Global, hearer: &mut H, workload: Workload) -> Result<(), CostFault> {
+    for number in 1..=workload.sessions {
+        let mut octets = metadata_pdu(alloc, &header(number), workload.size(number))?;
         if !hearer.begin(alloc, &mut octets) {
             return Err(CostFault::NotAdmitted);
         }
@@ -110,26 +110,29 @@ fn begin<H: Hears>(alloc: Global, hearer: &mut H, plan: Workload) -> Result<(), 
 pub fn count<H: Hears>(
     alloc: Global,
     hearer: &mut H,
-    plan: Workload,
+    workload: Workload,
 ) -> Result<CallTally, CostFault> {
-    begin(alloc, hearer, plan)?;
+    begin(alloc, hearer, workload)?;
     let mut octets = data_pdu(alloc, &header(1))?;
     let mut stored = 0_u32;
     let mut last = Heard::Otherwise;
     let mut deadline = None;
-    for index in 0..plan.count {
-        set_number(&mut octets, plan.transaction(index));
-        set_offset(&mut octets, plan.before(index).saturating_mul(PIECE));
+    for index in 0..workload.count {
+        set_number(&mut octets, workload.transaction(index));
+        set_offset(
+            &mut octets,
+            workload.before(index).saturating_mul(DATA_PIECE),
+        );
         last = hearer.data(alloc, &mut octets);
         if !matches!(last, Heard::Otherwise) {
             stored = stored.saturating_add(1);
         }
-        if plan.asks_deadline {
+        if workload.asks_deadline {
             deadline = hearer.deadline();
         }
     }
     Ok(CallTally {
-        count: plan.count,
+        count: workload.count,
         stored,
         last,
         deadline,

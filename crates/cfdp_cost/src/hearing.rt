@@ -17,7 +17,7 @@ pub enum Heard {
     /// The entity stored its octets.
     Stored(TransactionId),
     /// The receiver stored its octets, and notifies its user of them: at which offset, and how many.
-    Told(TransactionId, u64, u64),
+    Notified(TransactionId, u64, u64),
     /// They were not stored.
     Otherwise,
 }
@@ -67,7 +67,7 @@ impl Hears for Receiver {
             (
                 Became::Replied(_, Reply::Stored),
                 Some(Indication::FileSegmentRecv(id, offset, len)),
-            ) => Heard::Told(id, offset, len),
+            ) => Heard::Notified(id, offset, len),
             _ => Heard::Otherwise,
         }
     }

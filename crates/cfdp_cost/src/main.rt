@@ -40,20 +40,20 @@ enum Route {
 }
 
 fn main(rt: HostRuntime) -> ExitCode {
-    let Some((way, plan)) = read_words(&rt) else {
+    let Some((route, workload)) = read_words(&rt) else {
         let _ = eprintln!(rt;
             "cfdp_cost entity|receiver SESSIONS COUNT [each|immediate|deadline|stranger]: 1 to 64, 1 to 7800"
         );
         return ExitCode::from(2);
     };
-    let wanted = if way == Route::Stranger {
+    let wanted = if route == Route::Stranger {
         0
     } else {
-        plan.count
+        workload.count
     };
-    match run(rt.alloc(), way, plan) {
+    match run(rt.alloc(), route, workload) {
         Ok(tally) => {
-            let _ = println!(rt; "{} transactions: {tally}", plan.sessions);
+            let _ = println!(rt; "{} transactions: {tally}", workload.sessions);
             if tally.stored == wanted {
                 ExitCode::SUCCESS
             } else {
@@ -68,42 +68,46 @@ fn main(rt: HostRuntime) -> ExitCode {
 }
 
 /// Hands all PDUs in, this way.
-fn run(alloc: Global, way: Route, plan: Workload) -> Result<CallTally, CostFault> {
+fn run(alloc: Global, route: Route, workload: Workload) -> Result<CallTally, CostFault> {
     let mut entity = hearing::entity(alloc)?;
-    let nak_mode = match way {
-        Route::Entity(_) => return count::<Entity>(alloc, &mut entity, plan),
+    let nak_mode = match route {
+        Route::Entity(_) => return count::<Entity>(alloc, &mut entity, workload),
         Route::Receiver(nak_mode, _) => nak_mode,
         Route::Deadline | Route::Stranger => NakMode::Deferred,
     };
     let mut receiver = hearing::receiver(alloc, entity, nak_mode)?;
-    if way == Route::Stranger {
+    if route == Route::Stranger {
         hearing::close_names(alloc, &mut receiver)?;
     }
-    count::<Receiver>(alloc, &mut receiver, plan)
+    count::<Receiver>(alloc, &mut receiver, workload)
 }
 
 /// What the command line asks for.
 fn read_words<R: AllocGlobal + Env>(rt: &R) -> Option<(Route, Workload)> {
     let words: Vec<String> = env::args(rt).ok()?.collect(rt.alloc()).ok()?;
-    let (way, sessions, count) = match words.as_slice() {
-        [_, way, sessions, count] => (way_of(way.as_str(), "")?, sessions, count),
-        [_, way, sessions, count, mode] => (way_of(way.as_str(), mode.as_str())?, sessions, count),
+    let (route, sessions, count) = match words.as_slice() {
+        [_, route, sessions, count] => (route_of(route.as_str(), "")?, sessions, count),
+        [_, route, sessions, count, mode] => (
+            route_of(route.as_str(), mode.as_str())?,
+            sessions,
+            count,
+        ),
         _ => return None,
     };
-    let plan = Workload {
+    let workload = Workload {
         sessions: number_of(sessions.as_str(), 64)?,
         count: number_of(count.as_str(), 7_800)?,
-        whose: match way {
+        whose: match route {
             Route::Entity(whose) | Route::Receiver(_, whose) => whose,
             Route::Deadline => Whose::Last,
             Route::Stranger => Whose::Stranger,
         },
-        asks_deadline: way == Route::Deadline,
+        asks_deadline: route == Route::Deadline,
     };
-    Some((way, plan))
+    Some((route, workload))
 }
 
-fn way_of(word: &str, mode: &str) -> Option<Route> {
+fn route_of(word: &str, mode: &str) -> Option<Route> {
     match (word, mode) {
         ("entity", "") => Some(Route::Entity(Whose::Last)),
         ("entity", "each") => Some(Route::Entity(Whose::Each)),

@@ -9,7 +9,7 @@ use cfdp_pdus::{FileData, Header, Metadata, write_file_data, write_metadata};
 use std::alloc::{AllocError, Global};
 
 /// How many octets of the file a File Data PDU brings.
-pub const PIECE: u32 = 1_000;
+pub const DATA_PIECE: u32 = 1_000;
 
 /// Where the transaction sequence number is in a header.
 const NUMBER_AT: usize = 5;
@@ -77,8 +77,8 @@ pub fn data_pdu(alloc: Global, header: &Header) -> Result<Vec<u8>, CostFault>
     requires header { IsHeader header.now }
     requires large { header.now.large ≡ false }
 {
-    let mut piece = Vec::with_capacity(alloc, PIECE as usize)?;
-    for at in 0..PIECE {
+    let mut piece = Vec::with_capacity(alloc, DATA_PIECE as usize)?;
+    for at in 0..DATA_PIECE {
         piece.push((at.wrapping_mul(37) % 251) as u8)?;
     }
     let data = FileData {

@@ -22,11 +22,11 @@ record IsPlain (first high low fourth : ℕ) (rest : List ℕ) (len : ℕ) : Typ
 abbrev by_tests : Bool → Bool → ℕ → Result ℕ SealFault
 by_tests same long found = if same then (if long then Err TooLong else Ok found) else Err NotAPdu
 
-told : (same long : Bool) (found len : ℕ) → by_tests same long found ≡ Ok len →
+stated : (same long : Bool) (found len : ℕ) → by_tests same long found ≡ Ok len →
     (same ≡ true) × (long ≡ false) × (found ≡ len)
-told true false found len e = (refl, refl, cc)
-told true true found len e = absurd cc
-told false long found len e = absurd cc
+stated true false found len e = (refl, refl, cc)
+stated true true found len e = absurd cc
+stated false long found len e = absurd cc
 
 read : (version plain : Bool) (inner : Result ℕ SealFault) (len : ℕ) →
     (if version then (if plain then inner else Err HasCrc) else Err NotAPdu) ≡ Ok len →
@@ -43,7 +43,7 @@ plain_is first high low fourth rest len e =
     let found = 256 * high + low in
     let whole = header_len fourth + found in
     let outer = read (eqb (first / 32) 1) (eqb (first / 2 % 2) 0) (plain_by octets found whole) len e in
-    let inner = told (eqb (length octets) whole) (ltb 65533 found) found len outer.2 in
+    let inner = stated (eqb (length octets) whole) (ltb 65533 found) found len outer.2 in
     let long : length octets ≡ whole = eqb-true (length octets) whole inner.0 in
     let few : found ≤ 65533 = ltb-false 65533 found inner.1 in
     record {
@@ -117,12 +117,12 @@ of_sealed (a ∷ b ∷ c ∷ []) len all e = absurd (none_of (eqb (a / 32) 1) (e
 of_sealed (a ∷ b ∷ c ∷ d ∷ rest) len all e = of_plain a b c d rest len all (plain_is a b c d rest len e)
 
 -- by the length that was reported
-by_told : (found : Result ℕ SealFault) (octets whole : List ℕ) → AreOctets octets → plain_len octets ≡ found →
+by_plain_len : (found : Result ℕ SealFault) (octets whole : List ℕ) → AreOctets octets → plain_len octets ≡ found →
     sealed_from found octets ≡ Ok whole → unsealed whole ≡ Ok octets
-by_told (Ok len) octets whole all plain e =
+by_plain_len (Ok len) octets whole all plain e =
     let whole-is : with_crc (with_flag octets len) (crc_of (with_flag octets len)) ≡ whole = cc in
     ap unsealed (sym whole-is) ∙ of_sealed octets len all plain
-by_told (Err fault) octets whole all plain e = absurd cc
+by_plain_len (Err fault) octets whole all plain e = absurd cc
 
 pub unseals_sealed : UnsealsSealed
-unseals_sealed octets whole all e = by_told (plain_len octets) octets whole all refl e
+unseals_sealed octets whole all e = by_plain_len (plain_len octets) octets whole all refl e

@@ -1,4 +1,4 @@
-pub mod Placing
+pub mod SealedBuffer
 pub mod Tabulating
 pub mod Dividing
 pub mod Noticing

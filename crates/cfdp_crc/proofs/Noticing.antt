@@ -72,13 +72,13 @@ two_one left a b c d hl ha hb hc hd e =
     (omega (arith, same, hb, hd), omega (arith, same, hb, hd))
 
 pub damage_is_noticed : DamageIsNoticed
-damage_is_noticed front behind a b c d all rest ha hb hc hd e =
+damage_is_noticed front following a b c d all rest ha hb hc hd e =
     let left = crc_from 65535 front in
     let bound : left < 65536 = crc_lt 65535 front (omega arith) all in
     let here = crc_from left (a ∷ b ∷ []) in
     let there = crc_from left (c ∷ d ∷ []) in
     let here-lt : here < 65536 = crc_lt left (a ∷ b ∷ []) bound (ha, (hb, tt)) in
     let there-lt : there < 65536 = crc_lt left (c ∷ d ∷ []) bound (hc, (hd, tt)) in
-    let tails : crc_from here behind ≡ crc_from there behind =
-    sym (crc_append 65535 front (a ∷ b ∷ behind)) ∙ e ∙ crc_append 65535 front (c ∷ d ∷ behind) in
-    two_one left a b c d bound ha hb hc hd (crc_one here there behind here-lt there-lt rest tails)
+    let tails : crc_from here following ≡ crc_from there following =
+    sym (crc_append 65535 front (a ∷ b ∷ following)) ∙ e ∙ crc_append 65535 front (c ∷ d ∷ following) in
+    two_one left a b c d bound ha hb hc hd (crc_one here there following here-lt there-lt rest tails)

@@ -32,12 +32,12 @@ record Picked (version short : Bool) (s p r : List ℕ) (n : ℕ) : Type 0 where
   good : version ≡ true
   fits : short ≡ false
   front : take n s ≡ p
-  behind : drop n s ≡ r
+  following : drop n s ≡ r
 
 picked : (version short : Bool) (s p r : List ℕ) (n : ℕ) →
     cond version (cond short Open (Whole (take n s) (drop n s))) Lost ≡ Whole p r → Picked version short s p r n
 picked true true s p r n e = absurd (cc e)
-picked true false s p r n e = record { good = refl; fits = refl; front = cc e; behind = cc e }
+picked true false s p r n e = record { good = refl; fits = refl; front = cc e; following = cc e }
 picked false short s p r n e = absurd (cc e)
 
 no_whole : (version : Bool) (p r : List ℕ) → cond version Open Lost ≡ Whole p r → ⊥
@@ -66,7 +66,7 @@ whole_here a b c d rest p r e =
     ∙ ap (λ short. cond short Open (Whole (take n p) (drop n p))) none_less
     ∙ ap (λ q. Whole q (drop n p)) whole ∙ ap (λ q. Whole p q) nothing in
     record {
-      splits = sym (take-append-drop n s) ∙ ap (λ q. q ++ drop n s) at.front ∙ ap (λ q. p ++ q) at.behind;
+      splits = sym (take-append-drop n s) ∙ ap (λ q. q ++ drop n s) at.front ∙ ap (λ q. p ++ q) at.following;
       some = omega (arith, size, four);
       alone = ap first_pdu spelled ∙ alone_in;
       further = λ more.
@@ -74,7 +74,7 @@ whole_here a b c d rest p r e =
           ap (λ version. cond version (cond (nat_lt (length (s ++ more)) n) Open (Whole (take n (s ++ more)) (drop n (s ++ more)))) Lost) at.good
           ∙ ap (λ short. cond short Open (Whole (take n (s ++ more)) (drop n (s ++ more)))) (le-ltb (length (s ++ more)) n longer)
           ∙ ap (λ q. Whole q (drop n (s ++ more))) (take-append-le n s more long ∙ at.front)
-          ∙ ap (λ q. Whole p q) (drop-append-le n s more long ∙ ap (λ q. q ++ more) at.behind);
+          ∙ ap (λ q. Whole p q) (drop-append-le n s more long ∙ ap (λ q. q ++ more) at.following);
     }
 
 pub whole_is : (s p r : List ℕ) → first_pdu s ≡ Whole p r → WholeAt s p r

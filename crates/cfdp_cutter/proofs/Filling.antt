@@ -134,10 +134,10 @@ whole_by b0 b o s c p n f e stream size =
     let here : pdu_len s ≡ Some n = ap pdu_len (sym f.stream) ∙ len-append b o n e in
     let long : nat_lt (length s) n ≡ false = le-ltb (length s) n (omega (arith, length-append c p, ap length stream, size)) in
     let front : take n s ≡ c = ap (λ m. take m s) (sym size) ∙ ap (λ q. take (length c) q) (sym stream) ∙ take-append_seam c p in
-    let behind : drop n s ≡ p = ap (λ m. drop m s) (sym size) ∙ ap (λ q. drop (length c) q) (sym stream) ∙ drop-append_seam c p in
+    let following : drop n s ≡ p = ap (λ m. drop m s) (sym size) ∙ ap (λ q. drop (length c) q) (sym stream) ∙ drop-append_seam c p in
     ap (λ version. cond version (first_by (pdu_len s) s) Lost) (is_going s f.going) ∙ ap (λ o. first_by o s) here
     ∙ ap (λ b. cond b Open (Whole (take n s) (drop n s))) long
-    ∙ ap (λ q. Whole q (drop n s)) front ∙ ap (λ q. Whole c q) behind
+    ∙ ap (λ q. Whole q (drop n s)) front ∙ ap (λ q. Whole c q) following
 
 pub record Short (s c p : List ℕ) : Type 0 where
   pub is : first_pdu s ≡ Open

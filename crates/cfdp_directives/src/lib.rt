@@ -19,6 +19,6 @@ mod read;
 
 pub use ack::{Ack, TransactionStatus, put_ack, write_ack};
 pub use keep_alive::{KeepAlive, put_keep_alive, write_keep_alive};
-pub use nak::{Nak, NakFault, Range, most_requests, put_nak, read_nak, write_nak};
+pub use nak::{Nak, NakFault, NakRange, most_requests, put_nak, read_nak, write_nak};
 pub use prompt::{Prompt, put_prompt, write_prompt};
 pub use read::{Directive, read_directive};

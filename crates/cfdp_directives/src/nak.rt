@@ -6,7 +6,7 @@ ghost use Rattle.std.specs.List.{flat_map};
 ghost use Rattle.cfdp_tlv.specs.Reading.{Answers};
 ghost use Rattle.cfdp_pdus.specs.Canonical.{IsHeader};
 ghost use Rattle.cfdp_pdus.specs.declared.fault.WriteFault.TheVariants.{Memory};
-ghost use Rattle.cfdp_pdus.specs.Placing.{filled, with_octets_at};
+ghost use Rattle.cfdp_pdus.specs.BufferParts.{filled, with_octets_at};
 ghost use Rattle.cfdp_directives.specs.Reading.{are_pairs, nak_in, nak_within, pair_len, pairs_at, pairs_in, range_at, ranges_at};
 ghost use Rattle.cfdp_directives.specs.Spelling.{IsSizedRange, most_requests, nak_field, nak_pdu, range_octets};
 
@@ -20,7 +20,7 @@ use std::error::Error;
 use std::fmt;
 
 /// A start and an end: the offset in the file, in octets, of the first octet, and the offset after the last one.
-pub type Range = (u64, u64);
+pub type NakRange = (u64, u64);
 
 /// What a NAK PDU says (CCSDS 727.0-B-5 §5.2.6), but for its requests.
 #[derive(Clone, Copy, Debug, PartialEq, Eq)]
@@ -28,7 +28,7 @@ pub struct Nak {
     /// The header.
     pub header: Header,
     /// The part of the file that the requests are about.
-    pub scope: Range,
+    pub scope: NakRange,
     /// How many requests it has.
     pub count: usize,
 }
@@ -120,7 +120,7 @@ fn find_ranges(octets: &[u8]) -> Result<(Header, &[u8]), PduFault>
 
 /// The start and the end at the front of octets.
 #[tactic(auto, unfolding(crate::specs::Reading::range_at))]
-fn read_range(large: bool, octets: &[u8]) -> Range
+fn read_range(large: bool, octets: &[u8]) -> NakRange
     requires { pair_len large ≤ length octets.now }
     ensures { result ≡ range_at large octets.now }
 {
@@ -131,7 +131,7 @@ fn read_range(large: bool, octets: &[u8]) -> Range
 }
 
 /// Fills a list with starts and ends.
-fn read_ranges(large: bool, octets: &[u8], ranges: &mut [Range])
+fn read_ranges(large: bool, octets: &[u8], ranges: &mut [NakRange])
     requires { pair_len large * length ranges.old ≤ length octets.now }
     ensures { ranges.new ≡ ranges_at large (length ranges.old) octets.now }
 {
@@ -152,7 +152,7 @@ fn read_ranges(large: bool, octets: &[u8], ranges: &mut [Range])
 /// for file data, `LengthMismatch` for no directive code, `BadDirective` for another code, and `LengthMismatch` where
 /// there is no scope, or a start without an end. [`NakFault::TooMany`] comes last, where `requests` is too short.
 /// After an error `requests` is as before.
-pub fn read_nak(octets: &[u8], requests: &mut [Range]) -> Result<Nak, NakFault>
+pub fn read_nak(octets: &[u8], requests: &mut [NakRange]) -> Result<Nak, NakFault>
     ensures exact { Answers (nak_in requests.new) result (nak_within (length requests.old) octets.now) }
     ensures count { IfOk result (λ nak. nak.count ≤ length requests.old) }
     // As many as a writer takes.
@@ -176,7 +176,7 @@ pub fn read_nak(octets: &[u8], requests: &mut [Range]) -> Result<Nak, NakFault>
 }
 
 /// Writes a start and an end at an offset.
-fn put_range(out: &mut [u8], at: usize, large: bool, range: Range)
+fn put_range(out: &mut [u8], at: usize, large: bool, range: NakRange)
     requires sized { IsSizedRange large range }
     requires room { at + pair_len large ≤ length out.old }
     ensures { out.new ≡ with_octets_at out.old at (range_octets large range) }
@@ -187,7 +187,7 @@ fn put_range(out: &mut [u8], at: usize, large: bool, range: Range)
 }
 
 /// Writes starts and ends at an offset.
-fn put_ranges(out: &mut [u8], at: usize, large: bool, ranges: &[Range])
+fn put_ranges(out: &mut [u8], at: usize, large: bool, ranges: &[NakRange])
     requires sized { All (IsSizedRange large) ranges.now }
     requires room { at + length (flat_map (range_octets large) ranges.now) ≤ length out.old }
     ensures { out.new ≡ with_octets_at out.old at (flat_map (range_octets large) ranges.now) }
@@ -201,7 +201,7 @@ fn put_ranges(out: &mut [u8], at: usize, large: bool, ranges: &[Range])
 
 /// How many octets the data field has.
 #[tactic(auto, using(crate::proofs::Lengths::nak_short), unfolding(crate::specs::Spelling::nak_field))]
-fn field_len(large: bool, requests: &[Range]) -> u16
+fn field_len(large: bool, requests: &[NakRange]) -> u16
     requires { length requests.now ≤ most_requests large }
     ensures { (scope : ℕ × ℕ) → result ≡ length (nak_field large scope requests.now) }
 {
@@ -209,7 +209,7 @@ fn field_len(large: bool, requests: &[Range]) -> u16
 }
 
 /// How many octets the PDU has.
-fn nak_len(header: &Header, requests: &[Range]) -> usize
+fn nak_len(header: &Header, requests: &[NakRange]) -> usize
     requires header { IsHeader header.now }
     requires count { length requests.now ≤ most_requests header.now.large }
     ensures { (scope : ℕ × ℕ) → result ≡ length (nak_pdu header.now scope requests.now) }
@@ -219,7 +219,7 @@ fn nak_len(header: &Header, requests: &[Range]) -> usize
 
 /// Writes a NAK PDU to the front of a buffer that has room for it.
 #[tactic(auto, unfolding(crate::specs::Spelling::nak_field))]
-fn fill_nak(header: &Header, scope: Range, requests: &[Range], out: &mut [u8])
+fn fill_nak(header: &Header, scope: NakRange, requests: &[NakRange], out: &mut [u8])
     requires header { IsHeader header.now }
     requires count { length requests.now ≤ most_requests header.now.large }
     requires scope { IsSizedRange header.now.large scope }
@@ -241,7 +241,12 @@ fn fill_nak(header: &Header, scope: Range, requests: &[Range], out: &mut [u8])
 ///
 /// There are [`most_requests`] at most, so that the data field has no more than 65,535 octets. The request 0 to 0 asks
 /// for the Metadata PDU. Cost: the octets that it writes.
-pub fn put_nak(header: &Header, scope: Range, requests: &[Range], out: &mut [u8]) -> Option<usize>
+pub fn put_nak(
+    header: &Header,
+    scope: NakRange,
+    requests: &[NakRange],
+    out: &mut [u8],
+) -> Option<usize>
     requires header { IsHeader header.now }
     requires count { length requests.now ≤ most_requests header.now.large }
     requires scope { IsSizedRange header.now.large scope }
@@ -266,8 +271,8 @@ pub fn put_nak(header: &Header, scope: Range, requests: &[Range], out: &mut [u8]
 /// at most.
 pub fn write_nak(
     header: &Header,
-    scope: Range,
-    requests: &[Range],
+    scope: NakRange,
+    requests: &[NakRange],
     out: &mut Vec<u8>,
 ) -> Result<(), WriteFault>
     requires header { IsHeader header.now }

@@ -5,7 +5,7 @@ ghost use Rattle.std.specs.Vec.{vec_capacity};
 ghost use Rattle.cfdp_tlv.specs.Reading.{Answers};
 ghost use Rattle.cfdp_pdus.specs.Canonical.{IsHeader};
 ghost use Rattle.cfdp_pdus.specs.declared.fault.WriteFault.TheVariants.{Memory};
-ghost use Rattle.cfdp_pdus.specs.Placing.{filled};
+ghost use Rattle.cfdp_pdus.specs.BufferParts.{filled};
 ghost use Rattle.cfdp_directives.specs.Reading.{prompt_at};
 ghost use Rattle.cfdp_directives.specs.Spelling.{prompt_field, prompt_pdu};
 

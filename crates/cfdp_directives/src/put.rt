@@ -4,7 +4,7 @@ ghost use Rattle.std.specs.Prelude.{◌≡◌, ◌≤◌, ◌+◌, ◌++◌, ◌
 ghost use Rattle.std.specs.Vec.{vec_capacity};
 ghost use Rattle.cfdp_pdus.specs.Canonical.{IsHeader, pdu_octets};
 ghost use Rattle.cfdp_pdus.specs.declared.fault.WriteFault.TheVariants.{Memory};
-ghost use Rattle.cfdp_pdus.specs.Placing.{filled};
+ghost use Rattle.cfdp_pdus.specs.BufferParts.{filled};
 
 use cfdp_pdus::{Header, WriteFault, header_len, put_header, put_octets};
 

@@ -7,8 +7,8 @@ pub fn quiet_is_same()
     ensures { QuietIsSame }
 {}
 
-/// A line that is no PDU line comes once, and stays where it is: what is before it comes before it, and what is after
-/// it comes after it, each as if it were alone.
+/// A line that is no PDU line comes once, and no PDU line passes it: what is before it comes before it, and what is
+/// after it comes after it, each as if it were alone.
 pub fn others_part()
     ensures { OthersPart }
 {}

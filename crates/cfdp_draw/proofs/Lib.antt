@@ -1,4 +1,4 @@
 pub mod Gaining
 pub mod Harmless
-pub mod Placing
+pub mod AxisPositions
 pub mod Texts

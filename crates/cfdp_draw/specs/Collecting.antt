@@ -3,7 +3,7 @@
 --     ids_of, marks_at       the transactions of lanes;  the marks of the lane with an index
 --     HasLane old new id     the lanes are the same, or one without marks comes after them, of a transaction that has
 --                            none
---     Told, IsNoted          what is said of a note;  there is one more, with the next number, or there are already as
+--     WrittenNote, IsNoted   what is said of a note;  there is one more, with the next number, or there are already as
 --                            many as are written out
 --     Gains old new index id shown      the lane with an index, which is that of a transaction, has one more mark, and
 --                                       the marks of the others stay
@@ -14,8 +14,8 @@ use Rattle.cfdp_draw.specs.declared.chart.Lane.{Lane}
 use Rattle.cfdp_draw.specs.declared.chart.Mark.{Mark}
 use Rattle.cfdp_draw.specs.declared.chart.Note.{Note}
 use Rattle.cfdp_draw.specs.declared.chart.TheConstants.{MOST_NOTES}
-use Rattle.cfdp_draw.specs.declared.kinds.MarkKind.{MarkKind}
-use Rattle.cfdp_draw.specs.declared.kinds.Direction.{Direction}
+use Rattle.cfdp_draw.specs.declared.mark_kinds.MarkKind.{MarkKind}
+use Rattle.cfdp_draw.specs.declared.mark_kinds.Direction.{Direction}
 
 pub record Shown : Type 0 where
   pub moment : ℕ
@@ -56,17 +56,18 @@ pub record Gains (old new : List Lane) (index : ℕ) (id : Option TransactionId)
   pub one : marks_at new index ≡ marks_at old index ++ shown ∷ []
   pub others : (k : ℕ) → k ≢ index → marks_at new k ≡ marks_at old k
 
-pub record Told : Type 0 where
+pub record WrittenNote : Type 0 where
   pub number : ℕ
   pub id : Option TransactionId
   pub time : ℕ
   pub words : List ℕ
 
-abbrev pub told_note : Note → Told
-told_note note = record { number = note.number; id = note.id; time = note.time; words = note.words.items }
+abbrev pub written_note : Note → WrittenNote
+written_note note = record { number = note.number; id = note.id; time = note.time; words = note.words.items }
 
 pub record IsNoted (old new : List Note) (id : Option TransactionId) (time : ℕ) (words : List ℕ) : Type 0 where
   pub full : MOST_NOTES ≤ length old → new ≡ old
   pub one : length old < MOST_NOTES →
-      map told_note new ≡ map told_note old ++ record { number = length old + 1; id = id; time = time; words = words }
+      map written_note new ≡ map written_note old
+      ++ record { number = length old + 1; id = id; time = time; words = words }
       ∷ []

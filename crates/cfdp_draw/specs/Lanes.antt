@@ -14,7 +14,7 @@
 use Rattle.std.specs.Prelude.{ℕ, ◌+◌, ◌-◌, ◌*◌, ◌==◌, nat_le, nat_lt, min, max, if◌then◌else◌, List, [], ◌∷◌, ◌++◌, Option, Some, None, codes, flat_map}
 use Rattle.cfdp_status.specs.declared.transaction.TransactionId.{TransactionId}
 use Rattle.cfdp_draw.specs.Axis.{level_of, axis_end, x_of}
-use Rattle.cfdp_draw.specs.Kinds.{phase_letter, phase_words}
+use Rattle.cfdp_draw.specs.MarkKinds.{phase_letter, phase_words}
 use Rattle.cfdp_draw.specs.Marks.{mark_text}
 use Rattle.cfdp_draw.specs.Shapes.{label_text, line_text, number_shape, rect_text, text_closing, text_opening}
 use Rattle.cfdp_draw.specs.Words.{digits_of, labelled_number}
@@ -23,7 +23,7 @@ use Rattle.cfdp_draw.specs.declared.chart.FileChange.{FileChange}
 use Rattle.cfdp_draw.specs.declared.chart.Lane.{Lane}
 use Rattle.cfdp_draw.specs.declared.chart.PhaseChange.{PhaseChange}
 use Rattle.cfdp_draw.specs.declared.chart.Received.{Received}
-use Rattle.cfdp_draw.specs.declared.kinds.DrawnPhase.{DrawnPhase}
+use Rattle.cfdp_draw.specs.declared.mark_kinds.DrawnPhase.{DrawnPhase}
 use Rattle.cfdp_draw.specs.declared.lanes.Span.{Span}
 use Rattle.cfdp_draw.specs.declared.lanes.TheConstants.{BAND, BAND_HEIGHT, LANE, MARGIN, PHASES, PHASE_HEIGHT, TOP}
 

@@ -7,15 +7,15 @@
 --     band_entry, band_meanings    a colour of a band, and what it means;  all of them
 --     legend_text              what marks and colours mean
 use Rattle.std.specs.Prelude.{ℕ, ◌+◌, true, false, List, [], ◌++◌, codes, flat_map}
-use Rattle.cfdp_draw.specs.Kinds.{phase_words}
+use Rattle.cfdp_draw.specs.MarkKinds.{phase_words}
 use Rattle.cfdp_draw.specs.Marks.{mark_opening, shape_text}
 use Rattle.cfdp_draw.specs.Shapes.{label_text, rect_text}
 use Rattle.cfdp_draw.specs.Words.{labelled_number}
-use Rattle.cfdp_draw.specs.declared.kinds.MarkKind.{MarkKind}
-use Rattle.cfdp_draw.specs.declared.kinds.MarkKind.TheVariants.{Eof}
-use Rattle.cfdp_draw.specs.declared.kinds.DrawnPhase.{DrawnPhase}
-use Rattle.cfdp_draw.specs.declared.kinds.Direction.{Direction}
-use Rattle.cfdp_draw.specs.declared.kinds.Direction.TheVariants.{Came}
+use Rattle.cfdp_draw.specs.declared.mark_kinds.MarkKind.{MarkKind}
+use Rattle.cfdp_draw.specs.declared.mark_kinds.MarkKind.TheVariants.{Eof}
+use Rattle.cfdp_draw.specs.declared.mark_kinds.DrawnPhase.{DrawnPhase}
+use Rattle.cfdp_draw.specs.declared.mark_kinds.Direction.{Direction}
+use Rattle.cfdp_draw.specs.declared.mark_kinds.Direction.TheVariants.{Came}
 use Rattle.cfdp_draw.specs.declared.legend.TheConstants.{FILE, FIRST, KINDS, PHASES, STYLE, WAYS}
 
 unfoldable pub size_text : ℕ → ℕ → List ℕ

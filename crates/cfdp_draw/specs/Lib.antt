@@ -1,7 +1,7 @@
 pub mod Axis
 pub mod Blocks
 pub mod Collecting
-pub mod Kinds
+pub mod MarkKinds
 pub mod Lanes
 pub mod Legend
 pub mod Marks

@@ -4,18 +4,18 @@
 --     words_text, kind_text           a kind in words;  where a mark has it
 --     shape_text           all of these, after the outline
 --     mark_opening         which way a mark goes, and where it is
---     mark_row             where the marks of a way are in a lane
+--     mark_height          where the marks of a way are in a lane
 --     mark_text            a mark
 use Rattle.std.specs.Prelude.{ℕ, Bool, if◌then◌else◌, List, [], ◌++◌, codes}
 use Rattle.cfdp_draw.specs.Axis.{has_words, has_data_words, x_of}
-use Rattle.cfdp_draw.specs.Kinds.{kind_in_words, letter_of, outline_of, way_opening}
+use Rattle.cfdp_draw.specs.MarkKinds.{kind_in_words, letter_of, outline_of, way_opening}
 use Rattle.cfdp_draw.specs.Words.{escaped, labelled_number}
 use Rattle.cfdp_draw.specs.declared.axis.AxisPosition.{AxisPosition}
 use Rattle.cfdp_draw.specs.declared.chart.Mark.{Mark}
-use Rattle.cfdp_draw.specs.declared.kinds.MarkKind.{MarkKind}
-use Rattle.cfdp_draw.specs.declared.kinds.MarkKind.TheVariants.{FileData}
-use Rattle.cfdp_draw.specs.declared.kinds.Direction.{Direction}
-use Rattle.cfdp_draw.specs.declared.kinds.Direction.TheVariants.{Came, Dropped, Sent}
+use Rattle.cfdp_draw.specs.declared.mark_kinds.MarkKind.{MarkKind}
+use Rattle.cfdp_draw.specs.declared.mark_kinds.MarkKind.TheVariants.{FileData}
+use Rattle.cfdp_draw.specs.declared.mark_kinds.Direction.{Direction}
+use Rattle.cfdp_draw.specs.declared.mark_kinds.Direction.TheVariants.{Came, Dropped, Sent}
 use Rattle.cfdp_draw.specs.declared.shapes.Point.{Point}
 
 unfoldable pub is_in_words : AxisPosition → MarkKind → Bool
@@ -46,13 +46,13 @@ unfoldable pub mark_opening : Direction → Point → List ℕ
 mark_opening direction point =
     labelled_number (way_opening direction) point.x ++ labelled_number (codes ",") point.y ++ codes ")\">"
 
-abbrev pub mark_row : Direction → ℕ
-mark_row Came = 4
-mark_row Dropped = 4
-mark_row Sent = 64
+abbrev pub mark_height : Direction → ℕ
+mark_height Came = 4
+mark_height Dropped = 4
+mark_height Sent = 64
 
 unfoldable pub mark_text : AxisPosition → Mark → List ℕ
 mark_text total mark =
-    mark_opening mark.direction (record { x = x_of total mark.at; y = mark_row mark.direction }) ++ codes "<title>"
+    mark_opening mark.direction (record { x = x_of total mark.at; y = mark_height mark.direction }) ++ codes "<title>"
     ++ escaped mark.words.items ++ codes "</title>"
     ++ shape_text (is_in_words total mark.kind) mark.kind mark.direction

@@ -1,7 +1,7 @@
 //! What is collected of a run.
 
 use crate::axis::AxisPosition;
-use crate::kinds::{Direction, DrawnPhase, MarkKind};
+use crate::mark_kinds::{Direction, DrawnPhase, MarkKind};
 use cfdp_status::TransactionId;
 use std::alloc::{AllocError, AllocFailed, Global};
 

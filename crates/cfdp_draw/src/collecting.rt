@@ -10,7 +10,7 @@ use crate::chart::{
     Blocks, Chart, FileChange, Full, Lane, MOST_LANES, MOST_MARKS, MOST_MOMENTS, MOST_NOTES, Mark,
     Moment, Note, PhaseChange, Received,
 };
-use crate::kinds::{Direction, DrawnPhase, MarkKind};
+use crate::mark_kinds::{Direction, DrawnPhase, MarkKind};
 use cfdp_status::TransactionId;
 use std::alloc::Global;
 

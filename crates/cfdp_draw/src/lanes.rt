@@ -5,7 +5,7 @@ ghost use Rattle.cfdp_draw.specs.Lanes.{end_text, file_text, files_text, gap_tex
 
 use crate::axis::{AxisPosition, level_of, right_of, x_of};
 use crate::chart::{FileChange, Lane, OctetRange, PhaseChange, Received};
-use crate::kinds::DrawnPhase;
+use crate::mark_kinds::DrawnPhase;
 use crate::marks::push_marks;
 use crate::shapes::{
     Area, Point, close_text, open_text, push_label, push_line, push_number, push_rect,

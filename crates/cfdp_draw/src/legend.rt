@@ -3,7 +3,7 @@
 ghost use Rattle.std.specs.Prelude.{◌≡◌, ◌≤◌, ◌++◌, OnOk, flat_map};
 ghost use Rattle.cfdp_draw.specs.Legend.{band_entry, band_meanings, colour_entry, ground_text, kind_entry, legend_text, opening_text, phase_entry, size_text, way_entry, way_meanings};
 
-use crate::kinds::{Direction, DrawnPhase, MarkKind};
+use crate::mark_kinds::{Direction, DrawnPhase, MarkKind};
 use crate::marks::{open_mark, push_shape};
 use crate::shapes::{Area, Point, push_label, push_rect};
 use crate::words::push_labelled;

@@ -10,10 +10,10 @@ mod axis;
 mod blocks;
 mod chart;
 mod collecting;
-mod kinds;
 mod lanes;
 pub mod laws;
 mod legend;
+mod mark_kinds;
 mod marks;
 mod notes;
 mod picture;
@@ -27,4 +27,4 @@ pub use chart::{
     Moment, Note, OctetRange, PhaseChange, Received,
 };
 pub use collecting::Seen;
-pub use kinds::{Direction, DrawnPhase, MarkKind};
+pub use mark_kinds::{Direction, DrawnPhase, MarkKind};

@@ -1,11 +1,11 @@
 //! The marks of a picture.
 
 ghost use Rattle.std.specs.Prelude.{◌≡◌, ◌++◌, OnOk, flat_map};
-ghost use Rattle.cfdp_draw.specs.Marks.{cross_text, is_in_words, kind_text, letter_text, mark_opening, mark_text, mark_row, shape_text, words_text};
+ghost use Rattle.cfdp_draw.specs.Marks.{cross_text, is_in_words, kind_text, letter_text, mark_opening, mark_text, mark_height, shape_text, words_text};
 
 use crate::axis::{AxisPosition, has_data_words, has_words, x_of};
 use crate::chart::Mark;
-use crate::kinds::{Direction, MarkKind};
+use crate::mark_kinds::{Direction, MarkKind};
 use crate::shapes::Point;
 use crate::words::{push_escaped, push_labelled};
 use std::alloc::AllocError;
@@ -101,7 +101,7 @@ pub(crate) fn open_mark(
 
 /// Where the marks of a way are in a lane.
 fn row_of(direction: Direction) -> u64
-    ensures { result ≡ mark_row direction }
+    ensures { result ≡ mark_height direction }
 {
     match direction {
         Direction::Came | Direction::Dropped => 4,

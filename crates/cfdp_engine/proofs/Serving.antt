@@ -13,9 +13,9 @@ use Rattle.cfdp_engine.specs.Working.{Message, is_step_event, AreSteps, Brings, 
 use Rattle.cfdp_engine.specs.code.Working.{BeginsOne}
 use Rattle.cfdp_engine.specs.declared.message.Message.TheVariants as messages
 
-told_more : (rs qs : List Receipt) → receipt_events (rs ++ qs) ≡ receipt_events rs ++ receipt_events qs
-told_more [] qs = refl
-told_more (r ∷ rs) qs = ap (λ (es : List Event). r.event ∷ es) (told_more rs qs)
+receipt_events-append : (rs qs : List Receipt) → receipt_events (rs ++ qs) ≡ receipt_events rs ++ receipt_events qs
+receipt_events-append [] qs = refl
+receipt_events-append (r ∷ rs) qs = ap (λ (es : List Event). r.event ∷ es) (receipt_events-append rs qs)
 
 -- nothing more
 pub adds_none : (P : List Event → Type 0) (s : Seated) → P [] → AddsReceipts P s s
@@ -29,7 +29,7 @@ adds_both P Q R old mid new joined a b = record {
   added = a.added ++ b.added;
   number = b.number ∙ a.number;
   receipts = b.receipts ∙ ap (λ (rs : List Receipt). rs ++ b.added) a.receipts ∙ append_assoc old.receipts a.added b.added;
-  events = subst R (sym (told_more a.added b.added)) (joined (receipt_events a.added) (receipt_events b.added) a.events b.events);
+  events = subst R (sym (receipt_events-append a.added b.added)) (joined (receipt_events a.added) (receipt_events b.added) a.events b.events);
 }
 
 -- one receipt

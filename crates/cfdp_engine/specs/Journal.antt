@@ -13,7 +13,7 @@ use Rattle.cfdp_transactions.specs.declared.reply.Reply.{Reply}
 use Rattle.cfdp_transactions.specs.World.{World, start}
 use Rattle.cfdp_transactions.specs.Next.{run, replies}
 use Rattle.cfdp_transactions.specs.CoreFields.{CoreFields}
-pub use Rattle.cfdp_engine.specs.declared.entry.JournalEntry.{JournalEntry}
+pub use Rattle.cfdp_engine.specs.declared.journal_entry.JournalEntry.{JournalEntry}
 
 abbrev pub is_answered : Reply → Bool
 is_answered Reply.Memory = false

@@ -14,7 +14,7 @@ use Rattle.cfdp_pdus.specs.declared.fault.PduFault.{PduFault}
 use Rattle.cfdp_transactions.specs.declared.event.Event.{Event}
 use Rattle.cfdp_transactions.specs.declared.event.Event.TheVariants.{Step}
 use Rattle.cfdp_transactions.specs.Events.{event_at}
-use Rattle.cfdp_transactions.specs.Settling.{most_settled}
+use Rattle.cfdp_transactions.specs.MostSettled.{most_settled}
 pub use Rattle.cfdp_engine.specs.declared.message.Message.{Message}
 use Rattle.cfdp_engine.specs.declared.message.Message.TheVariants as messages
 

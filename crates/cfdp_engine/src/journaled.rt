@@ -5,12 +5,12 @@ ghost use Rattle.std.specs.Arc.{arc_value};
 ghost use Rattle.cfdp_transactions.specs.World.{start};
 ghost use Rattle.cfdp_transactions.specs.Sound.{Sound};
 ghost use Rattle.cfdp_transactions.specs.CoreFields.{AsksForNone};
-ghost use Rattle.cfdp_transactions.specs.Needs.{Follows, may_want_memory};
+ghost use Rattle.cfdp_transactions.specs.Needs.{Follows, may_lack_memory};
 ghost use Rattle.cfdp_transactions.specs.Books.{IsAnswered};
 ghost use Rattle.cfdp_engine.specs.Journal.{IsHistory, entered, has_full_journal};
 
-use crate::entry::JournalEntry;
 use crate::event::SharedEvent;
+use crate::journal_entry::JournalEntry;
 use cfdp_actions::Filestore;
 use cfdp_paths::Memory;
 use cfdp_transactions::{Core, Event, Reply};
@@ -97,7 +97,7 @@ impl<S: Filestore> Journaled<S> {
         ensures follows { IsFalse (has_full_journal self.old) → Follows self.old.core.world
             (arc_value event) result self.new.core.world }
         ensures journal { self.new.journal ≡ entered self.old.journal seat (arc_value event) result }
-        ensures answered { IsFalse (may_want_memory self.old.core.takes_no_memory (arc_value event)) →
+        ensures answered { IsFalse (may_lack_memory self.old.core.takes_no_memory (arc_value event)) →
             IsAnswered result }
         ensures lean { AsksForNone self.old.core.world (arc_value event) → IsAnswered result }
         ensures steady { self.new.core.takes_no_memory ≡ self.old.core.takes_no_memory }

@@ -6,27 +6,27 @@
 //! messages bring.
 #![tactic(auto)]
 
-mod closing;
-mod entry;
 mod event;
 mod fault;
 mod gate;
+mod journal_entry;
 mod journaled;
 mod message;
 mod receipt;
+mod reconciling;
 mod seat;
 mod shared;
 mod stop;
 mod working;
 
-pub use closing::{Closed, NotClosed, close};
-pub use entry::JournalEntry;
 pub use event::SharedEvent;
 pub use fault::Fault;
 pub use gate::Gate;
+pub use journal_entry::JournalEntry;
 pub use journaled::Journaled;
 pub use message::Message;
 pub use receipt::Receipt;
+pub use reconciling::{Closed, NotClosed, close};
 pub use seat::Seat;
 pub use shared::Shared;
 pub use stop::Stop;

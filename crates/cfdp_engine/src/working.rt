@@ -5,7 +5,7 @@ ghost use Rattle.std.specs.Arc.{arc_value};
 ghost use Rattle.cfdp_engine.specs.Sharing.{AddsReceipts, IsReceived};
 ghost use Rattle.cfdp_pdus.specs.First.{pdu_at};
 ghost use Rattle.cfdp_pdus.specs.Receiving.{IsCopied};
-ghost use Rattle.cfdp_transactions.specs.Settling.{most_settled};
+ghost use Rattle.cfdp_transactions.specs.MostSettled.{most_settled};
 ghost use Rattle.cfdp_engine.specs.Working.{AreSteps, BeginAll, BringAll, Brings, event_in, is_passed_over, passed_over};
 ghost use Rattle.cfdp_engine.specs.code.Working.{BeginsOne, PassesOver};
 

@@ -43,11 +43,11 @@ pub some_fits : (W : World) (id : TransactionId) (o : Outcome) → OnlyWritable 
 some_fits W id o only some = subst Fits (sym some) (fits_of W (index_of W id) (entry_of W id) (only (Take id ∷ []) (tt, tt)).0)
 
 -- and so can what a call says of it, where it had memory
-pub told_fits : {E : Type 0} (W : World) (id : TransactionId) (told : Result (Option Outcome) E) → OnlyWritable W →
-    IfOk told (λ o. o ≡ outcome_in W id) → IfOk told (λ o. IfSome o IsWritable)
-told_fits W id (Err why) only same = tt
-told_fits W id (Ok None) only same = tt
-told_fits W id (Ok (Some o)) only same = some_fits W id o only same
+pub returned_fits : {E : Type 0} (W : World) (id : TransactionId) (returned : Result (Option Outcome) E) → OnlyWritable W →
+    IfOk returned (λ o. o ≡ outcome_in W id) → IfOk returned (λ o. IfSome o IsWritable)
+returned_fits W id (Err why) only same = tt
+returned_fits W id (Ok None) only same = tt
+returned_fits W id (Ok (Some o)) only same = some_fits W id o only same
 
 -- its length -------------------------------------------------------------------------
 
@@ -70,25 +70,25 @@ none_of : (W : World) (k : ℕ) (e : Option Entry) → IsNone (taken_by (taken_o
 none_of W k None none = (refl, refl)
 none_of W k (Some e) none = none_by (is_live e.phase) W (record W { table = remove W.table k }) (outcome_of e) none
 
-none_taken : (W : World) (id : TransactionId) (told : Option TakenFinished) → told ≡ taken_by (next W (Take id)).1 → IsNone told →
+none_taken : (W : World) (id : TransactionId) (returned : Option TakenFinished) → returned ≡ taken_by (next W (Take id)).1 → IsNone returned →
     IsNone (outcome_in W id) × ((next W (Take id)).0 ≡ W)
-none_taken W id told is none = none_of W (index_of W id) (entry_of W id) (subst (λ (t : Option TakenFinished). IsNone t) is none)
+none_taken W id returned is none = none_of W (index_of W id) (entry_of W id) (subst (λ (t : Option TakenFinished). IsNone t) is none)
 
 module _ (W V : World) (id : TransactionId) where
   -- there is none
-  pub none_there : (result : Result (Option TakenFinished) ShortBuffer) → IfOk result (λ told. told ≡ taken_by (next W (Take id)).1) →
-      IfOk result (λ told. IsNone told → IsNone (outcome_in W id))
-  none_there (Ok told) is = λ none. (none_taken W id told is none).0
+  pub none_there : (result : Result (Option TakenFinished) ShortBuffer) → IfOk result (λ returned. returned ≡ taken_by (next W (Take id)).1) →
+      IfOk result (λ returned. IsNone returned → IsNone (outcome_in W id))
+  none_there (Ok returned) is = λ none. (none_taken W id returned is none).0
   none_there (Err short) is = tt
 
   -- and nothing changes
-  pub none_changes : (result : Result (Option TakenFinished) ShortBuffer) → IfOk result (λ told. told ≡ taken_by (next W (Take id)).1) →
-      OnOk result (V ≡ (next W (Take id)).0) → IfOk result (λ told. IsNone told → V ≡ W)
-  none_changes (Ok told) is world = λ none. world ∙ (none_taken W id told is none).1
+  pub none_changes : (result : Result (Option TakenFinished) ShortBuffer) → IfOk result (λ returned. returned ≡ taken_by (next W (Take id)).1) →
+      OnOk result (V ≡ (next W (Take id)).0) → IfOk result (λ returned. IsNone returned → V ≡ W)
+  none_changes (Ok returned) is world = λ none. world ∙ (none_taken W id returned is none).1
   none_changes (Err short) is world = tt
 
   -- whatever comes next, its outcomes can be written
   pub writable_then : (result : Result (Option TakenFinished) ShortBuffer) → OnlyWritable W → OnOk result (V ≡ (next W (Take id)).0) →
       OnErr result (V ≡ W) → OnlyWritable V
-  writable_then (Ok told) only world kept = subst OnlyWritable (sym world) (writable_next W (Take id) only tt)
+  writable_then (Ok returned) only world kept = subst OnlyWritable (sym world) (writable_next W (Take id) only tt)
   writable_then (Err short) only world kept = subst OnlyWritable (sym kept) only

@@ -4,7 +4,7 @@ ghost use Rattle.cfdp_actions.specs.Filestore.{Directory, File, node_at};
 ghost use Rattle.cfdp_pdus.specs.First.{pdu_at};
 ghost use Rattle.cfdp_pdus.specs.Sound.{IsNoFileData};
 ghost use Rattle.cfdp_pdus.specs.Canonical.{IsHeader};
-ghost use Rattle.cfdp_pdus.specs.Placing.{filled};
+ghost use Rattle.cfdp_pdus.specs.BufferParts.{filled};
 ghost use Rattle.cfdp_transactions.specs.Entry.{gaps};
 ghost use Rattle.cfdp_transactions.specs.CoreFields.{AsksForNone, outcome_in, read_of};
 ghost use Rattle.cfdp_transactions.specs.Events.{about};
@@ -15,7 +15,7 @@ ghost use Rattle.cfdp_transactions.specs.Fitting.{OnlyWritable, only_writable_pr
 ghost use Rattle.cfdp_transactions.specs.FinishedInBuffer.{taken_by};
 ghost use Rattle.cfdp_transactions.specs.Next.{next};
 ghost use Rattle.cfdp_transactions.specs.World.{start};
-ghost use Rattle.cfdp_transactions.specs.Needs.{Follows, may_want_memory};
+ghost use Rattle.cfdp_transactions.specs.Needs.{Follows, may_lack_memory};
 ghost use Rattle.cfdp_transactions.specs.Sound.{Sound};
 ghost use Rattle.cfdp_transactions.specs.Writable.{FitsReply, IsReadable, IsWritable, longest_finished};
 ghost use Rattle.cfdp_transactions.specs.Books.{IsAnswered};
@@ -39,11 +39,22 @@ use std::marker::Model;
 ///
 /// Contracts see its world. All its events come from PDUs that were read, so each of its outcomes fits a Finished PDU.
 ///
-/// On a full filestore of 65,536 blocks the longest calls take, in millions of instructions: [`step`](Entity::step)
-/// 10.5 (an append of 3.9 MB), [`put_file`](Entity::put_file) 8.1 (7.8 MB), [`receive`](Entity::receive) and
-/// [`file_data`](Entity::file_data) 3.0 (the end of a file of 7.8 MB of which nothing came), `receive` of a Metadata
-/// PDU 2.5 (64 renames of a directory of 65,000 entries), a read of 7.8 MB 2.7, [`new`](Entity::new) 1.6. Each other
-/// call takes less than 0.1. `docs/C.md` says how that was counted.
+/// The longest calls on a full filestore of 65,536 blocks, in millions of instructions. `docs/C.md` says how they were
+/// counted, and has other lists.
+///
+/// - [`receive`](Entity::receive) of a Metadata PDU: 46 (64 renames of and in two directories that hold the same 124
+///   chains of directories)
+/// - the same: 6.4 (64 renames of long paths, beside 63 such lists)
+/// - the same: 3.5 (63 files beside 30,000 directories with a file each, and a rename of the directory that has them)
+/// - the drop of an entity: 27 (64 lists of 64 renames of long paths are live)
+/// - [`step`](Entity::step): 10.5 (an append of 3.9 MB)
+/// - [`put_file`](Entity::put_file): 8.1 (7.8 MB)
+/// - `receive` and [`file_data`](Entity::file_data): 3.0 (the end of a file of 7.8 MB of which nothing came)
+/// - a read of 7.8 MB: 2.7
+/// - [`cancel`](Entity::cancel), and each other call by which such a list ends: 1.6 (64 renames of long paths)
+/// - [`new`](Entity::new): 1.6
+/// - [`take`](Entity::take) and [`outcome`](Entity::outcome): 0.24 (an outcome of 64 renames of long paths)
+/// - any other call: less than 0.1
 #[derive(Drop)]
 pub struct Entity {
     core: Core<TreeStore>,
@@ -145,7 +156,7 @@ impl Entity {
         requires { IsReadable event.now }
         ensures follows { Follows self.old event.now result self.new }
         ensures fits { FitsReply result }
-        ensures answered { IsFalse (may_want_memory true event.now) → IsAnswered result }
+        ensures answered { IsFalse (may_lack_memory true event.now) → IsAnswered result }
         ensures lean { AsksForNone self.old event.now → IsAnswered result }
     {
         self.core.apply(event)
@@ -156,7 +167,7 @@ impl Entity {
     pub fn apply_owned(&mut self, event: Event) -> Reply
         requires { IsReadable event }
         ensures follows { Follows self.old event result self.new }
-        ensures answered { IsFalse (may_want_memory true event) → IsAnswered result }
+        ensures answered { IsFalse (may_lack_memory true event) → IsAnswered result }
         ensures lean { AsksForNone self.old event → IsAnswered result }
     {
         self.core.apply_owned(event)
@@ -165,7 +176,7 @@ impl Entity {
     /// Takes an event that never asks for memory.
     fn tell(&mut self, event: &Event) -> Reply
         requires readable { IsReadable event.now }
-        requires lean { IsFalse (may_want_memory true event.now) }
+        requires lean { IsFalse (may_lack_memory true event.now) }
         ensures { next self.old event.now ≡ (self.new, result) }
     {
         self.apply(event)
@@ -179,14 +190,16 @@ impl Entity {
         self.tell(&Event::Step(id))
     }
 
-    /// A transaction is cancelled (cancel procedures). Takes no memory.
+    /// A transaction is cancelled (cancel procedures). Takes no memory. Cost: two searches among the leased paths for
+    /// each path of its list, and for each directory above one of them; its blocks go back at once.
     pub fn cancel(&mut self, id: TransactionId) -> Reply
         ensures { next self.old (CancelCame id) ≡ (self.new, result) }
     {
         self.tell(&Event::Cancel(id))
     }
 
-    /// A transaction's check timer expired (timer procedures). Takes no memory.
+    /// A transaction's check timer expired (timer procedures). Takes no memory. Cost: a look-up; at the check limit
+    /// that of a cancel.
     pub fn check(&mut self, id: TransactionId) -> Reply
         ensures { next self.old (CheckCame id) ≡ (self.new, result) }
     {
@@ -215,9 +228,9 @@ impl Entity {
     /// Takes a PDU that is no File Data PDU.
     fn hear(&mut self, alloc: Global, octets: &[u8]) -> Result<(TransactionId, Reply), NotHeard>
         requires { IsNoFileData (pdu_at octets.now) }
-        ensures ok { IfOk result (λ told. (event : EventOf) × (heard_event octets.now ≡ Ok event) ×
-            (told.0 ≡ about event)
-            × (next self.old event ≡ (self.new, told.1))) }
+        ensures ok { IfOk result (λ returned. (event : EventOf) × (heard_event octets.now ≡ Ok event) ×
+            (returned.0 ≡ about event)
+            × (next self.old event ≡ (self.new, returned.1))) }
         ensures err { IfErr result (IsUnheard octets.now) }
         ensures unchanged { OnErr result (self.new ≡ self.old) }
     {
@@ -247,9 +260,9 @@ impl Entity {
         alloc: Global,
         octets: &[u8],
     ) -> Result<(TransactionId, Reply), NotHeard>
-        ensures ok { IfOk result (λ told. (event : EventOf) × (heard_event octets.now ≡ Ok event) ×
-            (told.0 ≡ about event)
-            × (next self.old event ≡ (self.new, told.1))) }
+        ensures ok { IfOk result (λ returned. (event : EventOf) × (heard_event octets.now ≡ Ok event) ×
+            (returned.0 ≡ about event)
+            × (next self.old event ≡ (self.new, returned.1))) }
         ensures err { IfErr result (IsUnheard octets.now) }
         ensures unchanged { OnErr result (self.new ≡ self.old) }
     {
@@ -347,10 +360,10 @@ impl Entity {
         id: TransactionId,
         out: &mut [u8],
     ) -> Result<Option<TakenFinished>, ShortBuffer>
-        ensures told { IfOk result (λ told. told ≡ taken_by (next self.old (TakeCame id)).1) }
+        ensures returned { IfOk result (λ returned. returned ≡ taken_by (next self.old (TakeCame id)).1) }
         ensures world { OnOk result (self.new ≡ (next self.old (TakeCame id)).0) }
-        ensures none { IfOk result (λ told. IsNone told → IsNone (outcome_in self.old id)) }
-        ensures kept { IfOk result (λ told. IsNone told → self.new ≡ self.old) }
+        ensures none { IfOk result (λ returned. IsNone returned → IsNone (outcome_in self.old id)) }
+        ensures kept { IfOk result (λ returned. IsNone returned → self.new ≡ self.old) }
         ensures most { length (sent (next self.old (TakeCame id)).1) ≤ longest_finished }
         ensures written { OnOk result (out.new ≡ filled (sent (next self.old (TakeCame id)).1) out.old) }
         ensures fits { OnOk result (length (sent (next self.old (TakeCame id)).1) ≤ length out.old) }

@@ -130,8 +130,8 @@ pub first_none : (hs : List Holder) → None ≡ slice_get hs 0 → hs ≡ []
 first_none [] found = refl
 first_none (k ∷ hs) found = absurd (cc found)
 
-index_behind : (g : Grant) (gs : Grants) (id : TransactionId) → is_same g.0 id ≡ false → index_among (g ∷ gs) id ≡ 1 + index_among gs id
-index_behind g gs id other = ap (λ b. cond (not b) (1 + index_among gs id) 0) other
+index_following : (g : Grant) (gs : Grants) (id : TransactionId) → is_same g.0 id ≡ false → index_among (g ∷ gs) id ≡ 1 + index_among gs id
+index_following g gs id other = ap (λ b. cond (not b) (1 + index_among gs id) 0) other
 
 index_here : (g : Grant) (gs : Grants) → index_among (g ∷ gs) g.0 ≡ 0
 index_here g gs = ap (λ b. cond (not b) (1 + index_among gs g.0) 0) (same_itself g.0)
@@ -142,8 +142,8 @@ leasing p g = set.contains (leased g.1) p
 abbrev pub changing : Path → Grant → Bool
 changing p g = set.contains g.1.exclusive p
 
-behind : (test : Grant → Bool) (g : Grant) (gs : Grants) → test g ≡ false → prefix_len (λ h. not (test h)) (g ∷ gs) ≡ 1 + prefix_len (λ h. not (test h)) gs
-behind test g gs fails = ap (λ b. cond (not b) (1 + prefix_len (λ h. not (test h)) gs) 0) fails
+following : (test : Grant → Bool) (g : Grant) (gs : Grants) → test g ≡ false → prefix_len (λ h. not (test h)) (g ∷ gs) ≡ 1 + prefix_len (λ h. not (test h)) gs
+following test g gs fails = ap (λ b. cond (not b) (1 + prefix_len (λ h. not (test h)) gs) 0) fails
 
 here : (test : Grant → Bool) (g : Grant) (gs : Grants) → test g ≡ true → prefix_len (λ h. not (test h)) (g ∷ gs) ≡ 0
 here test g gs passes = ap (λ b. cond (not b) (1 + prefix_len (λ h. not (test h)) gs) 0) passes
@@ -158,9 +158,10 @@ not_exclusive : (fp : Footprint) (p : Path) → set.contains (leased fp) p ≡ f
 not_exclusive fp p none = (unleased fp p none).0
 
 -- the holders of the grants after one are not that one's
-first_behind : (g : Grant) (gs : Grants) (p : Path) (h : Holder) (hs : List Holder) → AreApart (g ∷ gs) → holders_at gs p ≡ h ∷ hs → is_same g.0 h.transaction
+first_following : (g : Grant) (gs : Grants) (p : Path) (h : Holder) (hs : List Holder) → AreApart (g ∷ gs) → holders_at gs p ≡ h ∷ hs
+    → is_same g.0 h.transaction
     ≡ false
-first_behind g gs p h hs apart are =
+first_following g gs p h hs apart are =
     is_same-symm g.0 h.transaction ∙ (subst (AllByRecursion (IsNotOf g.0)) are (strangers gs g.0 p apart.0.names)).0
 
 -- the three ways in which a grant has a path
@@ -197,7 +198,7 @@ nobody_leasing (g ∷ gs) p none =
     elim (way g p) [
       | exclusively passes ↦ absurd (cc (sym (ap (λ hs. hs ++ holders_at gs p) (of_exclusive g.0 g.1 p passes)) ∙ none))
       | merely fails passes ↦ absurd (cc (sym (ap (λ hs. hs ++ holders_at gs p) (of_shared g.0 g.1 p fails passes)) ∙ none))
-      | neither fails ↦ let rest = nobody_leasing gs p (sym (nobody_of g gs p fails) ∙ none) in omega (arith, rest, behind (leasing p) g gs fails)
+      | neither fails ↦ let rest = nobody_leasing gs p (sym (nobody_of g gs p fails) ∙ none) in omega (arith, rest, following (leasing p) g gs fails)
     ]
 
 pub first_leasing : (gs : Grants) (p : Path) (h : Holder) (hs : List Holder) → AreApart gs → holders_at gs p ≡ h ∷ hs → index_among gs h.transaction
@@ -213,9 +214,9 @@ first_leasing (g ∷ gs) p h hs apart are =
           subst (λ id. index_among (g ∷ gs) id ≡ 0) mine (index_here g gs) ∙ sym (here (leasing p) g gs (leased_by_shared g.1 p passes))
       | neither fails ↦
           let rest : holders_at gs p ≡ h ∷ hs = sym (nobody_of g gs p fails) ∙ are in
-          index_behind g gs h.transaction (first_behind g gs p h hs apart rest)
+          index_following g gs h.transaction (first_following g gs p h hs apart rest)
           ∙ ap (λ n. 1 + n) (first_leasing gs p h hs apart.1 rest)
-          ∙ sym (behind (leasing p) g gs fails)
+          ∙ sym (following (leasing p) g gs fails)
     ]
 
 -- ---- exclusive leases
@@ -229,7 +230,7 @@ alone g (k ∷ gs) p has apart =
     elim (cases_Bool (changing p k)) [
       | inl passes ↦ absurd (true≢false (sym (or_right (reaches g.1 k.1) (reaches k.1 g.1) (reaches_at k.1 g.1 p p passes has (at_or_below-itself p)))
           ∙ apart.0))
-      | inr fails ↦ omega (arith, rest, behind (changing p) k gs fails)
+      | inr fails ↦ omega (arith, rest, following (changing p) k gs fails)
     ]
 
 pub nobody_changing : (gs : Grants) (p : Path) → holders_at gs p ≡ [] → length gs ≡ prefix_len (λ g. not (changing p g)) gs
@@ -239,7 +240,7 @@ nobody_changing (g ∷ gs) p none =
       | exclusively passes ↦ absurd (cc (sym (ap (λ hs. hs ++ holders_at gs p) (of_exclusive g.0 g.1 p passes)) ∙ none))
       | merely fails passes ↦ absurd (cc (sym (ap (λ hs. hs ++ holders_at gs p) (of_shared g.0 g.1 p fails passes)) ∙ none))
       | neither fails ↦ let rest = nobody_changing gs p (sym (nobody_of g gs p fails) ∙ none) in
-          omega (arith, rest, behind (changing p) g gs (not_exclusive g.1 p fails))
+          omega (arith, rest, following (changing p) g gs (not_exclusive g.1 p fails))
     ]
 
 pub first_shared : (gs : Grants) (p : Path) (h : Holder) (hs : List Holder) → AreApart gs → holders_at gs p ≡ h ∷ hs → h.lease ≡ Shared → length gs
@@ -250,10 +251,10 @@ first_shared (g ∷ gs) p h hs apart are shared =
       | exclusively passes ↦
           let mine : Exclusive ≡ h.lease = lease_is _ _ _ _ (sym (ap (λ ks. ks ++ holders_at gs p) (of_exclusive g.0 g.1 p passes)) ∙ are) in
           absurd (cc (mine ∙ shared))
-      | merely fails passes ↦ let rest = alone g gs p (leased_by_shared g.1 p passes) apart.0.paths in omega (arith, rest, behind (changing p) g gs fails)
+      | merely fails passes ↦ let rest = alone g gs p (leased_by_shared g.1 p passes) apart.0.paths in omega (arith, rest, following (changing p) g gs fails)
       | neither fails ↦
           let rest = first_shared gs p h hs apart.1 (sym (nobody_of g gs p fails) ∙ are) shared in
-          omega (arith, rest, behind (changing p) g gs (not_exclusive g.1 p fails))
+          omega (arith, rest, following (changing p) g gs (not_exclusive g.1 p fails))
     ]
 
 pub first_exclusive : (gs : Grants) (p : Path) (h : Holder) (hs : List Holder) → AreApart gs → holders_at gs p ≡ h ∷ hs → h.lease ≡ Exclusive →
@@ -269,9 +270,9 @@ first_exclusive (g ∷ gs) p h hs apart are exclusive =
           absurd (cc (mine ∙ exclusive))
       | neither fails ↦
           let rest : holders_at gs p ≡ h ∷ hs = sym (nobody_of g gs p fails) ∙ are in
-          index_behind g gs h.transaction (first_behind g gs p h hs apart rest)
+          index_following g gs h.transaction (first_following g gs p h hs apart rest)
           ∙ ap (λ n. 1 + n) (first_exclusive gs p h hs apart.1 rest exclusive)
-          ∙ sym (behind (changing p) g gs (not_exclusive g.1 p fails))
+          ∙ sym (following (changing p) g gs (not_exclusive g.1 p fails))
     ]
 
 -- ---- a release

@@ -12,12 +12,12 @@ use Rattle.cfdp_paths.specs.Paths.{Path, same_path, is_at_or_below, rebased}
 use Rattle.cfdp_paths.proofs.Comparing.{same_path-Decides}
 use Rattle.cfdp_paths.proofs.Below.{at_or_below-append, prefixes_compare}
 use Rattle.cfdp_actions.specs.Filestore.{Node, Directory, File, Filestore, node_at, staged_in, Change, Becomes, Stages, changed, after, has_entries, parent_is_good, tree_at}
-use Rattle.cfdp_actions.specs.Actions.{Item, Install, Perform, Request, CreateFile, DeleteFile, RenameFile, AppendFile, ReplaceFile, CreateDirectory, RemoveDirectory, DenyFile, DenyDirectory, refused, succeeds, create, delete_file, rename, is_tree_too_deep, vacating, settled, append, replace, remove_directory, deny_file, deny_directory, install, table, free_row, is_barred, denied, row}
+use Rattle.cfdp_actions.specs.Actions.{Item, Install, Perform, Request, CreateFile, DeleteFile, RenameFile, AppendFile, ReplaceFile, CreateDirectory, RemoveDirectory, DenyFile, DenyDirectory, refused, succeeds, create, delete_file, rename, is_tree_too_deep, vacating, arriving, append, replace, remove_directory, deny_file, deny_directory, install, table, free_row, is_barred, denied, row}
 use Rattle.cfdp_status.specs.declared.action.Action.TheVariants as action
 use Rattle.cfdp_status.specs.declared.status.Status.TheVariants.{NotAllowed}
 use Rattle.cfdp_leases.specs.Footprint.{Footprint, is_exclusive, is_covered, reaches, is_conflict, IsWithin}
 use Rattle.cfdp_leases.specs.Laws.{IsOwn, OwnChanges, FrameOfChanges, Isolation}
-use Rattle.cfdp_leases.proofs.Sets.{path_cmp_total, stands, all_from, any_in-from, union_left, union_right}
+use Rattle.cfdp_leases.proofs.Sets.{path_cmp_total, exists, all_from, any_in-from, union_left, union_right}
 use Rattle.cfdp_leases.proofs.Conflict.{reaches_at}
 use Rattle.cfdp_leases.proofs.ReadFrame.{exclusive_below, get_kept}
 
@@ -36,7 +36,7 @@ node_at-changed F (Stages slot octets) q = refl
 -- ---- the entries of a tree
 
 -- the keys of what was retained pass the test
-pub keys_pass : (F : Filestore) (test : Path → Bool) (q : Path) → stands q (finite.keys (finite.retain_keys F.nodes test)) → test q ≡ true
+pub keys_pass : (F : Filestore) (test : Path → Bool) (q : Path) → exists q (finite.keys (finite.retain_keys F.nodes test)) → test q ≡ true
 keys_pass F test q h =
     let there : is_some (finite.get (finite.retain_keys F.nodes test) q) ≡ true = finite.contains_key-keys (finite.retain_keys F.nodes test) q ∙ h in
     kept (test q) (node_at F q) (sym (ap is_some (get_kept F test q)) ∙ there)
@@ -69,9 +69,9 @@ module _ (fp : Footprint) (slot : ℕ) where
   own_vacated p [] h below = tt
   own_vacated p (e ∷ es) h below = (exclusive_below fp p e.0 h below.0, own_vacated p es h below.1)
 
-  own_settled : (p q : Path) (es : List (Path × Node)) → is_exclusive fp q ≡ true → Own (settled p q es)
-  own_settled p q [] h = tt
-  own_settled p q (e ∷ es) h = (exclusive_below fp q (rebased p q e.0) h (at_or_below-append q (drop (length p) e.0)), own_settled p q es h)
+  own_arriving : (p q : Path) (es : List (Path × Node)) → is_exclusive fp q ≡ true → Own (arriving p q es)
+  own_arriving p q [] h = tt
+  own_arriving p q (e ∷ es) h = (exclusive_below fp q (rebased p q e.0) h (at_or_below-append q (drop (length p) e.0)), own_arriving p q es h)
 
   own_create : (action : Action) (node : Node) (p : Path) (x : Option Node) (good : Bool) → is_exclusive fp p ≡ true → Own (create action node p x good).changes
   unfolding create
@@ -94,9 +94,9 @@ module _ (fp : Footprint) (slot : ℕ) where
   own_rename p q (Some x) None true true es h k t = tt
   own_rename p q (Some x) None true false es h k t =
       elim (is_tree_too_deep p q es) as (λ b. Own (if b then refused (NotAllowed action.RenameFile)
-      else succeeds action.RenameFile (vacating es ++ settled p q es) 0 0 0).changes) [
+      else succeeds action.RenameFile (vacating es ++ arriving p q es) 0 0 0).changes) [
         | true ↦ tt
-        | false ↦ all-append (IsOwn fp slot) (vacating es) (settled p q es) (own_vacated p es h t) (own_settled p q es k)
+        | false ↦ all-append (IsOwn fp slot) (vacating es) (arriving p q es) (own_vacated p es h t) (own_arriving p q es k)
       ]
 
   own_append : (p : Path) (x y : Option Node) → is_exclusive fp p ≡ true → Own (append p x y).changes

@@ -20,7 +20,7 @@ use Rattle.cfdp_paths.proofs.Below.{ancestors-take, parent-take}
 use Rattle.cfdp_actions.specs.Actions.{Item}
 use Rattle.cfdp_leases.specs.Footprint.{shared_in}
 use Rattle.cfdp_leases.specs.code.Footprint.{HaveAncestors, SameSet}
-use Rattle.cfdp_leases.proofs.Sets.{stands, stands_from_Contains, stands-append_left, stands-append_right, stands-append_cases}
+use Rattle.cfdp_leases.proofs.Sets.{exists, exists_from_Contains, exists-append_left, exists-append_right, exists-append_cases}
 use Rattle.cfdp_leases.proofs.Conflict.{higher, list_ancestors}
 use Rattle.cfdp_leases.proofs.Ordered.{same_set_from, same_members, same_set-append}
 
@@ -36,9 +36,9 @@ listed_closed items xs same p q h a =
 pub closed_more : (xs ys : List Path) (n : Path) → HaveAncestors xs → SameSet ys (xs ++ ancestors n) → HaveAncestors ys
 closed_more xs ys n closed same p q h a =
     same_members ys (xs ++ ancestors n) q same
-    ∙ elim (stands-append_cases p xs (ancestors n) (sym (same_members ys (xs ++ ancestors n) p same) ∙ h)) [
-      | inl old ↦ stands-append_left q xs (ancestors n) (closed p q old a)
-      | inr above ↦ stands-append_right q xs (ancestors n) (higher n p q above a)
+    ∙ elim (exists-append_cases p xs (ancestors n) (sym (same_members ys (xs ++ ancestors n) p same) ∙ h)) [
+      | inl old ↦ exists-append_left q xs (ancestors n) (closed p q old a)
+      | inr above ↦ exists-append_right q xs (ancestors n) (higher n p q above a)
     ]
 
 -- the same after a call that may find no memory
@@ -52,12 +52,12 @@ absorbed true b h = refl
 absorbed false true h = h refl
 absorbed false false h = refl
 
-same_set-within : (xs zs : List Path) → ((q : Path) → stands q zs → stands q xs) → SameSet xs (xs ++ zs)
+same_set-within : (xs zs : List Path) → ((q : Path) → exists q zs → exists q xs) → SameSet xs (xs ++ zs)
 same_set-within xs zs h =
     same_set_from xs (xs ++ zs) (λ q. absorbed (list_any (same_path q) xs) (list_any (same_path q) zs) (h q) ∙ sym (list_any-append (same_path q) xs zs))
 
 -- one path alone
-only : (p q : Path) → stands q (p ∷ []) → q ≡ p
+only : (p q : Path) → exists q (p ∷ []) → q ≡ p
 only p q h = (same_path-Decides q p).0 (one (same_path q p) h)
   where
     one : (b : Bool) → (b || false) ≡ true → b ≡ true
@@ -90,44 +90,44 @@ same_set-swap xs a b =
 
 -- a list that has the proper ancestors of each of its paths of fewer than `count` names
 abbrev pub HaveAncestorsTo : ℕ → List Path → Type 0
-HaveAncestorsTo count xs = (p q : Path) → stands p xs → length p < count → stands q (ancestors p) → stands q xs
+HaveAncestorsTo count xs = (p q : Path) → exists p xs → length p < count → exists q (ancestors p) → exists q xs
 
 -- it still has, where a path of no fewer names was put in
 pub closed_to-more : (xs ys : List Path) (t : Path) (more count : ℕ) → HaveAncestorsTo more xs → count ≤ more → count ≤ length t
     → SameSet ys (xs ++ t ∷ []) → HaveAncestorsTo count ys
 closed_to-more xs ys t more count closed fewer long same p q h short a =
     same_members ys (xs ++ t ∷ []) q same
-    ∙ elim (stands-append_cases p xs (t ∷ []) (sym (same_members ys (xs ++ t ∷ []) p same) ∙ h)) [
-      | inl old ↦ stands-append_left q xs (t ∷ []) (closed p q old (omega arith) a)
+    ∙ elim (exists-append_cases p xs (t ∷ []) (sym (same_members ys (xs ++ t ∷ []) p same) ∙ h)) [
+      | inl old ↦ exists-append_left q xs (t ∷ []) (closed p q old (omega arith) a)
       | inr this ↦ absurd (let e : length p ≡ length t = ap length (only t p this) in omega arith)
     ]
 
 -- where its parent is there
-same_set-above : (xs : List Path) (n : Path) (d : ℕ) → HaveAncestorsTo (length n) xs → 1 ≤ d → length n ≡ d + 1 → stands (take d n) xs
+same_set-above : (xs : List Path) (n : Path) (d : ℕ) → HaveAncestorsTo (length n) xs → 1 ≤ d → length n ≡ d + 1 → exists (take d n) xs
     → SameSet xs (xs ++ ancestors n)
 same_set-above xs n d closed some deep there = same_set-within xs (ancestors n) each
   where
     are : ancestors n ≡ ancestors (take d n) ++ take d n ∷ []
     are = ap ancestors (sym (take_all (d + 1) n (omega (arith, deep)))) ∙ ancestors-take n d some (omega (arith, deep))
 
-    each : (q : Path) → stands q (ancestors n) → stands q xs
+    each : (q : Path) → exists q (ancestors n) → exists q xs
     each q h =
-        elim (stands-append_cases q (ancestors (take d n)) (take d n ∷ []) (sym (ap (list_any (same_path q)) are) ∙ h)) [
+        elim (exists-append_cases q (ancestors (take d n)) (take d n ∷ []) (sym (ap (list_any (same_path q)) are) ∙ h)) [
           | inl above ↦ closed (take d n) q there (omega (arith, length-take d n)) above
           | inr last ↦ ap (λ p. list_any (same_path p) xs) (only (take d n) q last) ∙ there
         ]
 
 -- where the path of its first names is there, and one name more
 pub same_set-beginning : (xs : List Path) (n : Path) (d more : ℕ) → HaveAncestorsTo more xs → 1 ≤ d → more ≡ d + 1 → more ≤ length n
-    → stands (take d n) xs → SameSet xs (xs ++ ancestors (take more n))
+    → exists (take d n) xs → SameSet xs (xs ++ ancestors (take more n))
 same_set-beginning xs n d more closed some next within there =
     same_set-above xs (take more n) d (λ p q h short a. closed p q h (omega (arith, length-take more n)) a) some (omega (arith, length-take more n))
-    (subst (λ p. stands p xs) (sym (take-take d more n (omega arith))) there)
+    (subst (λ p. exists p xs) (sym (take-take d more n (omega arith))) there)
 
-pub same_set-parent : (xs : List Path) (n : Path) → HaveAncestors xs → 2 ≤ length n → stands (parent n) xs → SameSet xs (xs ++ ancestors n)
+pub same_set-parent : (xs : List Path) (n : Path) → HaveAncestors xs → 2 ≤ length n → exists (parent n) xs → SameSet xs (xs ++ ancestors n)
 same_set-parent xs n closed deep there =
     same_set-above xs n (length n - 1) (λ p q h short a. closed p q h a) (omega (arith, deep)) (omega (arith, deep))
-    (subst (λ p. stands p xs) (parent-take n) there)
+    (subst (λ p. exists p xs) (parent-take n) there)
 
 -- once the path of its first names was put in, the ancestors above that one are left
 pub same_set-left : (xs ys zs : List Path) (n : Path) (d more : ℕ) → 1 ≤ d → more ≡ d + 1 → more ≤ length n
@@ -140,5 +140,5 @@ same_set-left xs ys zs n d more some next within same left =
     ∙ left
 
 -- what is at an index is there
-pub parent_there : (xs : List Path) (n held : Path) (i : ℕ) → i < length xs → held ≡ get_or xs i held → parent n ≡ held → stands (parent n) xs
-parent_there xs n held i within read is = subst (λ p. stands p xs) (sym is) (stands_from_Contains held xs (i, within, sym read))
+pub parent_there : (xs : List Path) (n held : Path) (i : ℕ) → i < length xs → held ≡ get_or xs i held → parent n ≡ held → exists (parent n) xs
+parent_there xs n held i within read is = subst (λ p. exists p xs) (sym is) (exists_from_Contains held xs (i, within, sym read))

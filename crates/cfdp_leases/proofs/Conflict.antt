@@ -15,14 +15,14 @@ use Rattle.cfdp_actions.specs.Actions.{Item}
 use Rattle.cfdp_leases.specs.Footprint.{exclusive_in, read_in, shared_in, any_in, Footprint, footprint_of, leased, is_exclusive, is_covered, reaches, is_conflict, IsWithin}
 use Rattle.cfdp_leases.specs.code.Footprint.{SameSet, of_lists, NoneIsRoot, HasAncestors}
 use Rattle.cfdp_leases.specs.Laws.{HasNames, CommonPath, ConflictByPaths, OwnFootprint}
-use Rattle.cfdp_leases.proofs.Sets.{stands, stands-append_left, stands-append_right, stands-append_cases, all_at, all_from, stands-flat_map, stands_in-flat_map, stands_from_Contains, Contains_from_stands, contains_from_stands, stands_from_contains, any_in-at, any_in-from, union_left, union_right, union_cases}
+use Rattle.cfdp_leases.proofs.Sets.{exists, exists-append_left, exists-append_right, exists-append_cases, all_at, all_from, exists-flat_map, exists_in-flat_map, exists_from_Contains, Contains_from_exists, contains_from_exists, exists_from_contains, any_in-at, any_in-from, union_left, union_right, union_cases}
 
 -- ---- what a list's footprint has
 
 -- the footprint has at least these paths
 pub record HasPaths (fp : Footprint) (exclusive shared : List Path) : Type 0 where
-  pub of_exclusive : (q : Path) → stands q exclusive → set.contains fp.exclusive q ≡ true
-  pub of_shared : (q : Path) → stands q shared → set.contains fp.shared q ≡ true
+  pub of_exclusive : (q : Path) → exists q exclusive → set.contains fp.exclusive q ≡ true
+  pub of_shared : (q : Path) → exists q shared → set.contains fp.shared q ≡ true
 
 pub exclusive_since : (fp : Footprint) (q : Path) → set.contains fp.exclusive q ≡ true → is_exclusive fp q ≡ true
 exclusive_since fp q h = any_in-at fp.exclusive (λ e. is_at_or_below q e) q h (at_or_below-itself q)
@@ -41,40 +41,40 @@ pub all_within : (fp : Footprint) (items : List Item) → HasPaths fp (flat_map 
 all_within fp [] h = tt
 all_within fp (item ∷ items) h = (
   within_since fp item (record {
-    of_exclusive = λ q s. h.of_exclusive q (stands-append_left q (exclusive_in item) (flat_map exclusive_in items) s);
-    of_shared = λ q s. h.of_shared q (stands-append_left q (shared_in item) (flat_map shared_in items) s);
+    of_exclusive = λ q s. h.of_exclusive q (exists-append_left q (exclusive_in item) (flat_map exclusive_in items) s);
+    of_shared = λ q s. h.of_shared q (exists-append_left q (shared_in item) (flat_map shared_in items) s);
   }),
   all_within fp items (record {
-    of_exclusive = λ q s. h.of_exclusive q (stands-append_right q (exclusive_in item) (flat_map exclusive_in items) s);
-    of_shared = λ q s. h.of_shared q (stands-append_right q (shared_in item) (flat_map shared_in items) s);
+    of_exclusive = λ q s. h.of_exclusive q (exists-append_right q (exclusive_in item) (flat_map exclusive_in items) s);
+    of_shared = λ q s. h.of_shared q (exists-append_right q (shared_in item) (flat_map shared_in items) s);
   }),
 )
 
 pub own_footprint : OwnFootprint
 own_footprint items =
     all_within (footprint_of items) items (record {
-      of_exclusive = contains_from_stands (flat_map exclusive_in items);
-      of_shared = contains_from_stands (flat_map shared_in items);
+      of_exclusive = contains_from_exists (flat_map exclusive_in items);
+      of_shared = contains_from_exists (flat_map shared_in items);
     })
 
 -- ---- the proper ancestors of what is leased
 
-pub ancestor_stands : (p q : Path) → is_at_or_below p q ≡ true → p ≢ q → q ≢ [] → stands q (ancestors p)
-ancestor_stands p q h other some = stands_from_Contains q (ancestors p) (ancestor_from_below p q h other some)
+pub ancestor_exists : (p q : Path) → is_at_or_below p q ≡ true → p ≢ q → q ≢ [] → exists q (ancestors p)
+ancestor_exists p q h other some = exists_from_Contains q (ancestors p) (ancestor_from_below p q h other some)
 
-pub ancestor_above : (p q : Path) → stands q (ancestors p) → (is_at_or_below p q ≡ true) × (p ≢ q) × (q ≢ [])
-ancestor_above p q h = below_ancestor p q (Contains_from_stands q (ancestors p) h)
+pub ancestor_above : (p q : Path) → exists q (ancestors p) → (is_at_or_below p q ≡ true) × (p ≢ q) × (q ≢ [])
+ancestor_above p q h = below_ancestor p q (Contains_from_exists q (ancestors p) h)
 
 -- of one item: a path that it names, or one above such a path
 abbrev named_in : Item → List Path
 named_in item = exclusive_in item ++ read_in item
 
-shared_ancestors : (item : Item) (p q : Path) → stands p (named_in item) → stands q (ancestors p) → stands q (shared_in item)
+shared_ancestors : (item : Item) (p q : Path) → exists p (named_in item) → exists q (ancestors p) → exists q (shared_in item)
 shared_ancestors item p q h a =
-    stands-append_right q (read_in item) (flat_map ancestors (named_in item)) (stands-flat_map ancestors (named_in item) p q h a)
+    exists-append_right q (read_in item) (flat_map ancestors (named_in item)) (exists-flat_map ancestors (named_in item) p q h a)
 
 -- an ancestor of an ancestor is one
-pub higher : (n p q : Path) → stands p (ancestors n) → stands q (ancestors p) → stands q (ancestors n)
+pub higher : (n p q : Path) → exists p (ancestors n) → exists q (ancestors p) → exists q (ancestors n)
 higher n p q first second =
     let low = ancestor_above n p first in
     let high = ancestor_above p q second in
@@ -84,66 +84,66 @@ higher n p q first second =
           let same : n ≡ q = (same_path-Decides n q).0 e in
           let back : is_at_or_below p n ≡ true = subst (λ x. is_at_or_below p x ≡ true) (sym same) high.0 in
           absurd (low.1 (at_or_below-antisym n p low.0 back))
-      | inr e ↦ ancestor_stands n q up (λ same. true≢false (sym ((same_path-Decides n q).1 same) ∙ e)) high.2
+      | inr e ↦ ancestor_exists n q up (λ same. true≢false (sym ((same_path-Decides n q).1 same) ∙ e)) high.2
     ]
 
-item_ancestors : (item : Item) (p q : Path) → stands p (exclusive_in item) ⊎ stands p (shared_in item) → stands q (ancestors p) → stands q (shared_in item)
-item_ancestors item p q (inl h) a = shared_ancestors item p q (stands-append_left p (exclusive_in item) (read_in item) h) a
+item_ancestors : (item : Item) (p q : Path) → exists p (exclusive_in item) ⊎ exists p (shared_in item) → exists q (ancestors p) → exists q (shared_in item)
+item_ancestors item p q (inl h) a = shared_ancestors item p q (exists-append_left p (exclusive_in item) (read_in item) h) a
 item_ancestors item p q (inr h) a =
-    elim (stands-append_cases p (read_in item) (flat_map ancestors (named_in item)) h) [
-      | inl r ↦ shared_ancestors item p q (stands-append_right p (exclusive_in item) (read_in item) r) a
+    elim (exists-append_cases p (read_in item) (flat_map ancestors (named_in item)) h) [
+      | inl r ↦ shared_ancestors item p q (exists-append_right p (exclusive_in item) (read_in item) r) a
       | inr b ↦
-          let found = stands_in-flat_map ancestors (named_in item) p b in
+          let found = exists_in-flat_map ancestors (named_in item) p b in
           shared_ancestors item found.0 q found.1 (higher found.0 p q found.2 a)
     ]
 
-pub list_ancestors : (items : List Item) (p q : Path) → stands p (flat_map exclusive_in items) ⊎ stands p (flat_map shared_in items) → stands q (ancestors p) →
-    stands q (flat_map shared_in items)
+pub list_ancestors : (items : List Item) (p q : Path) → exists p (flat_map exclusive_in items) ⊎ exists p (flat_map shared_in items) → exists q (ancestors p) →
+    exists q (flat_map shared_in items)
 list_ancestors [] p q (inl h) a = absurd (true≢false (sym h))
 list_ancestors [] p q (inr h) a = absurd (true≢false (sym h))
 list_ancestors (item ∷ items) p q (inl h) a =
-    elim (stands-append_cases p (exclusive_in item) (flat_map exclusive_in items) h) [
-      | inl first ↦ stands-append_left q (shared_in item) (flat_map shared_in items) (item_ancestors item p q (inl first) a)
-      | inr rest ↦ stands-append_right q (shared_in item) (flat_map shared_in items) (list_ancestors items p q (inl rest) a)
+    elim (exists-append_cases p (exclusive_in item) (flat_map exclusive_in items) h) [
+      | inl first ↦ exists-append_left q (shared_in item) (flat_map shared_in items) (item_ancestors item p q (inl first) a)
+      | inr rest ↦ exists-append_right q (shared_in item) (flat_map shared_in items) (list_ancestors items p q (inl rest) a)
     ]
 list_ancestors (item ∷ items) p q (inr h) a =
-    elim (stands-append_cases p (shared_in item) (flat_map shared_in items) h) [
-      | inl first ↦ stands-append_left q (shared_in item) (flat_map shared_in items) (item_ancestors item p q (inr first) a)
-      | inr rest ↦ stands-append_right q (shared_in item) (flat_map shared_in items) (list_ancestors items p q (inr rest) a)
+    elim (exists-append_cases p (shared_in item) (flat_map shared_in items) h) [
+      | inl first ↦ exists-append_left q (shared_in item) (flat_map shared_in items) (item_ancestors item p q (inr first) a)
+      | inr rest ↦ exists-append_right q (shared_in item) (flat_map shared_in items) (list_ancestors items p q (inr rest) a)
     ]
 
-list_names : (items : List Item) (p : Path) → AllByRecursion HasNames items → stands p (flat_map exclusive_in items) → p ≢ []
+list_names : (items : List Item) (p : Path) → AllByRecursion HasNames items → exists p (flat_map exclusive_in items) → p ≢ []
 list_names [] p all h = absurd (true≢false (sym h))
 list_names (item ∷ items) p all h =
-    elim (stands-append_cases p (exclusive_in item) (flat_map exclusive_in items) h) [
-      | inl first ↦ all_at (λ x. x ≢ []) (named_in item) p all.0 (stands-append_left p (exclusive_in item) (read_in item) first)
+    elim (exists-append_cases p (exclusive_in item) (flat_map exclusive_in items) h) [
+      | inl first ↦ all_at (λ x. x ≢ []) (named_in item) p all.0 (exists-append_left p (exclusive_in item) (read_in item) first)
       | inr rest ↦ list_names items p all.1 rest
     ]
 
-list_above : (items : List Item) (p q : Path) → set.contains (leased (footprint_of items)) p ≡ true → stands q (ancestors p) →
+list_above : (items : List Item) (p q : Path) → set.contains (leased (footprint_of items)) p ≡ true → exists q (ancestors p) →
     set.contains (footprint_of items).shared q ≡ true
 list_above items p q h a =
-    contains_from_stands (flat_map shared_in items) q
+    contains_from_exists (flat_map shared_in items) q
     (list_ancestors items p q
     (elim (union_cases (set.from_list (flat_map exclusive_in items)) (set.from_list (flat_map shared_in items)) p h) [
-      | inl e ↦ inl (stands_from_contains (flat_map exclusive_in items) p e)
-      | inr s ↦ inr (stands_from_contains (flat_map shared_in items) p s)
+      | inl e ↦ inl (exists_from_contains (flat_map exclusive_in items) p e)
+      | inr s ↦ inr (exists_from_contains (flat_map shared_in items) p s)
     ])
     a)
 
 pub has_ancestors : (items : List Item) → AllByRecursion HasNames items → HasAncestors (footprint_of items)
 has_ancestors items named = record {
   above = list_above items;
-  names = λ p h. list_names items p named (stands_from_contains (flat_map exclusive_in items) p h);
+  names = λ p h. list_names items p named (exists_from_contains (flat_map exclusive_in items) p h);
 }
 
 -- what was gathered of a list, as lists of the same paths none of which is the root, has their ancestors too
 pub gathered : (items : List Item) (xs ys : List Path) → SameSet xs (flat_map exclusive_in items) → SameSet ys (flat_map shared_in items) → NoneIsRoot xs →
     HasAncestors (of_lists xs ys)
 gathered items xs ys exclusive shared named = record {
-  above = subst (λ fp. (p q : Path) → set.contains (leased fp) p ≡ true → stands q (ancestors p) → set.contains fp.shared q ≡ true)
+  above = subst (λ fp. (p q : Path) → set.contains (leased fp) p ≡ true → exists q (ancestors p) → set.contains fp.shared q ≡ true)
       (λ i. record { exclusive = sym exclusive i; shared = sym shared i }) (list_above items);
-  names = λ p h. all_at (λ x. x ≢ []) xs p named (stands_from_contains xs p h);
+  names = λ p h. all_at (λ x. x ≢ []) xs p named (exists_from_contains xs p h);
 }
 
 -- ---- conflict by paths
@@ -173,7 +173,7 @@ met A B a b h =
         | inr e ↦
             union_right B.exclusive B.shared found.0
             (b.above found.1 found.0 found.3
-            (ancestor_stands found.1 found.0 found.4 (λ same. true≢false (sym ((same_path-Decides found.1 found.0).1 same) ∙ e)) (a.names found.0 found.2)))
+            (ancestor_exists found.1 found.0 found.4 (λ same. true≢false (sym ((same_path-Decides found.1 found.0).1 same) ∙ e)) (a.names found.0 found.2)))
       ],
     )
 

@@ -1,10 +1,10 @@
 -- What the map by path has, before and after a change.
---     holds_same, holds_kept       the same holders in other words;  the same rows in other maps
---     unwritten, holds_unwritten   a row was lent, and is as it was: of the map;  of both maps
---     under_changed, other_changed      one path has another row: under its hash, or among the others
---     under_written, under_removed      the path's own row under its hash has other holders, or is gone
---     under_is, under_there, other_is, other_there, other_none, free_none      which holders a row that is found has, and which path has no row
---     hash_here, hashes_kept       the rows are under the hashes of their paths
+--     holds_same, holds_kept       the same holders in other words;  the same records in other maps
+--     unwritten, holds_unwritten   a record was lent, and is as it was: of the map;  of both maps
+--     under_changed, other_changed      one path has another record: under its hash, or among the others
+--     under_written, under_removed      the path's own record under its hash has other holders, or is gone
+--     under_is, under_there, other_is, other_there, other_none, free_none      which holders a record that is found has, and which path has no record
+--     hash_here, hashes_kept       the records are under the hashes of their paths
 --     other_apart, other_absent    when a path is not the one under its hash
 --     under_once                   a path under its hash is not among the others
 --     when-..                      a holder more, at one path and at a path more
@@ -31,15 +31,15 @@ use Rattle.cfdp_paths.proofs.Comparing.{same_path-Decides}
 use Rattle.cfdp_leases.specs.declared.leased_paths.Holder.{Holder}
 use Rattle.cfdp_leases.specs.Leases.{is_same}
 use Rattle.cfdp_leases.specs.declared.leased_paths.Holders.{Holders}
-use Rattle.cfdp_leases.specs.declared.leased_paths.Row.{Row}
+use Rattle.cfdp_leases.specs.declared.leased_paths.LeasedPath.{LeasedPath}
 use Rattle.cfdp_leases.specs.declared.leased_paths.LeasedPaths.{LeasedPaths}
 use Rattle.cfdp_leases.specs.Footprint.{PathSet, Footprint, leased}
 use Rattle.cfdp_paths.specs.Hashes.{hash_of}
-use Rattle.cfdp_leases.specs.code.Holders.{AreFree, HasHash, Holds, HoldsSome, IsOtherPath, holders_in, others, own_row, holders_by_path, under_hash, unless_none, when}
-use Rattle.cfdp_leases.proofs.Sets.{path_cmp_total, Contains_from_stands, stands_from_Contains, stands}
+use Rattle.cfdp_leases.specs.code.Holders.{AreFree, HasHash, Holds, HoldsSome, IsOtherPath, holders_in, others, own_holders, holders_by_path, under_hash, unless_none, when}
+use Rattle.cfdp_leases.proofs.Sets.{path_cmp_total, Contains_from_exists, exists_from_Contains, exists}
 use Rattle.cfdp_actions.proofs.Order.{tied, same_path-symm, same_path-refl}
 
--- ---- rows
+-- ---- records
 
 unless_some : (xs ys : List Holder) → Some xs ≡ unless_none ys → xs ≡ ys
 unless_some xs [] e = absurd (cc)
@@ -53,9 +53,9 @@ pub some_pushed : (xs : List Holder) (h : Holder) → Some (xs ++ h ∷ []) ≡ 
 some_pushed [] h = refl
 some_pushed (x ∷ xs) h = refl
 
--- the row of those that are left
-pub row_left : (xs hs : List Holder) (n : ℕ) (none : Bool) → xs ≡ hs → n ≡ length xs → none ≡ (n == 0) → unless_none hs ≡ (if none then None else Some xs)
-row_left xs hs n none is len e = sym (ap unless_none is) ∙ by xs n none len e
+-- the record of those that are left
+pub path_left : (xs hs : List Holder) (n : ℕ) (none : Bool) → xs ≡ hs → n ≡ length xs → none ≡ (n == 0) → unless_none hs ≡ (if none then None else Some xs)
+path_left xs hs n none is len e = sym (ap unless_none is) ∙ by xs n none len e
   where
     by : (xs : List Holder) (n : ℕ) (none : Bool) → n ≡ length xs → none ≡ (n == 0) → unless_none xs ≡ (if none then None else Some xs)
     by [] n none len e = sym (ap (λ b. if b then None else Some []) (e ∙ eq-eqb n 0 len))
@@ -76,67 +76,68 @@ neither (Some x) p e = absurd (cc e)
 not_some : {A : Type 0} (P : Type 0) (o : Option A) → o ≡ None → IsSome o → P
 not_some P o none some = absurd (true≢false (sym some ∙ ap is_some none))
 
--- the row is the path's, if there is one
-abbrev pub IsOf : Path → Option Row → Type 0
+-- the record is the path's, if there is one
+abbrev pub IsOf : Path → Option LeasedPath → Type 0
 IsOf k None = Unit {0}
-IsOf k (Some row) = row.path ≡ k
+IsOf k (Some held_path) = held_path.path ≡ k
 
-own_here : (r : Option Row) (k : Path) → IsOf k r → own_row r k ≡ option_map (λ row. row.holders) r
+own_here : (r : Option LeasedPath) (k : Path) → IsOf k r → own_holders r k ≡ option_map (λ held_path. held_path.holders) r
 own_here None k of = refl
-own_here (Some row) k of = ap (λ b. cond b (Some row.holders) None) (ap (λ p. same_path p k) of ∙ same_path-refl k)
+own_here (Some held_path) k of = ap (λ b. cond b (Some held_path.holders) None) (ap (λ p. same_path p k) of ∙ same_path-refl k)
 
-own_apart : (r : Option Row) (k q : Path) → IsOf k r → same_path k q ≡ false → own_row r q ≡ None
+own_apart : (r : Option LeasedPath) (k q : Path) → IsOf k r → same_path k q ≡ false → own_holders r q ≡ None
 own_apart None k q of apart = refl
-own_apart (Some row) k q of apart = ap (λ b. cond b (Some row.holders) None) (ap (λ p. same_path p q) of ∙ apart)
+own_apart (Some held_path) k q of apart = ap (λ b. cond b (Some held_path.holders) None) (ap (λ p. same_path p q) of ∙ apart)
 
--- a path's row is under the path's hash
-hash_here : (r : Option Row) (k : Path) (h : ℕ) → hash_of k ≡ h → IsOf k r → HasHash h r
+-- a path's record is under the path's hash
+hash_here : (r : Option LeasedPath) (k : Path) (h : ℕ) → hash_of k ≡ h → IsOf k r → HasHash h r
 hash_here None k h hash of = tt
-hash_here (Some row) k h hash of = ap hash_of of ∙ hash
+hash_here (Some held_path) k h hash of = ap hash_of of ∙ hash
 
 pub holds_same : (paths : LeasedPaths) (holders now : Path → List Holder) → ((p : Path) → holders p ≡ now p) → Holds paths holders → Holds paths now
-holds_same paths holders now same held = record { rows = λ p. held.rows p ∙ ap unless_none (same p); once = held.once; hashes = held.hashes }
+holds_same paths holders now same held = record { by_hash = λ p. held.by_hash p ∙ ap unless_none (same p); once = held.once; hashes = held.hashes }
 
--- the row under the path's hash is another path's, or there is none
+-- the record under the path's hash is another path's, or there is none
 module _ (paths : LeasedPaths) (k : Path) (h : ℕ) (hash : h ≡ hash_of k) where
-  pub other_apart : (row : Row) → get nat_cmp paths.rows h ≡ Some row → same_path row.path k ≡ false → IsOtherPath paths k
-  other_apart row found apart = ap (λ r. own_row r k) (ap (get nat_cmp paths.rows) (sym hash) ∙ found) ∙ ap (λ b. cond b (Some row.holders) None) apart
+  pub other_apart : (held_path : LeasedPath) → get nat_cmp paths.by_hash h ≡ Some held_path → same_path held_path.path k ≡ false → IsOtherPath paths k
+  other_apart held_path found apart = ap (λ r. own_holders r k) (ap (get nat_cmp paths.by_hash) (sym hash) ∙ found)
+      ∙ ap (λ b. cond b (Some held_path.holders) None) apart
 
-  pub other_absent : get nat_cmp paths.rows h ≡ None → IsOtherPath paths k
-  other_absent none = ap (λ r. own_row r k) (ap (get nat_cmp paths.rows) (sym hash) ∙ none)
+  pub other_absent : get nat_cmp paths.by_hash h ≡ None → IsOtherPath paths k
+  other_absent none = ap (λ r. own_holders r k) (ap (get nat_cmp paths.by_hash) (sym hash) ∙ none)
 
 module _ (paths : LeasedPaths) (k : Path) (holders : Path → List Holder) (held : Holds paths holders) where
-  -- the row under the path's hash is its own
-  module _ (h : ℕ) (hash : h ≡ hash_of k) (row : Row) (found : get nat_cmp paths.rows h ≡ Some row) (own : row.path ≡ k) where
-    own_there : under_hash paths k ≡ Some row.holders
-    own_there = ap (λ r. own_row r k) (ap (get nat_cmp paths.rows) (sym hash) ∙ found) ∙ own_here (Some row) k own
+  -- the record under the path's hash is its own
+  module _ (h : ℕ) (hash : h ≡ hash_of k) (held_path : LeasedPath) (found : get nat_cmp paths.by_hash h ≡ Some held_path) (own : held_path.path ≡ k) where
+    own_there : under_hash paths k ≡ Some held_path.holders
+    own_there = ap (λ r. own_holders r k) (ap (get nat_cmp paths.by_hash) (sym hash) ∙ found) ∙ own_here (Some held_path) k own
 
-    pub under_is : Some (holders_in row.holders) ≡ unless_none (holders k)
-    under_is = sym (ap (λ o. option_map holders_in (option_or o (get path_cmp paths.others k))) own_there) ∙ held.rows k
+    pub under_is : Some (holders_in held_path.holders) ≡ unless_none (holders k)
+    under_is = sym (ap (λ o. option_map holders_in (option_or o (get path_cmp paths.others k))) own_there) ∙ held.by_hash k
 
-    pub under_there : holders_in row.holders ≡ holders k
-    under_there = unless_some (holders_in row.holders) (holders k) under_is
+    pub under_there : holders_in held_path.holders ≡ holders k
+    under_there = unless_some (holders_in held_path.holders) (holders k) under_is
 
     pub under_once : get path_cmp paths.others k ≡ None
     under_once = held.once k (ap is_some own_there)
 
   module _ (other : IsOtherPath paths k) where
     of_others : option_map holders_in (get path_cmp paths.others k) ≡ unless_none (holders k)
-    of_others = sym (ap (λ o. option_map holders_in (option_or o (get path_cmp paths.others k))) other) ∙ held.rows k
+    of_others = sym (ap (λ o. option_map holders_in (option_or o (get path_cmp paths.others k))) other) ∙ held.by_hash k
 
-    pub other_is : (row : Holders) → get path_cmp paths.others k ≡ Some row → Some (holders_in row) ≡ unless_none (holders k)
-    other_is row found = sym (ap (option_map holders_in) found) ∙ of_others
+    pub other_is : (held_path : Holders) → get path_cmp paths.others k ≡ Some held_path → Some (holders_in held_path) ≡ unless_none (holders k)
+    other_is held_path found = sym (ap (option_map holders_in) found) ∙ of_others
 
-    pub other_there : (row : Holders) → get path_cmp paths.others k ≡ Some row → holders_in row ≡ holders k
-    other_there row found = unless_some (holders_in row) (holders k) (other_is row found)
+    pub other_there : (held_path : Holders) → get path_cmp paths.others k ≡ Some held_path → holders_in held_path ≡ holders k
+    other_there held_path found = unless_some (holders_in held_path) (holders k) (other_is held_path found)
 
     pub other_none : get path_cmp paths.others k ≡ None → [] ≡ holders k
     other_none found = unless_empty (holders k) (sym (ap (option_map holders_in) found) ∙ of_others)
 
-  -- a path that nobody holds has no row
+  -- a path that nobody holds has no record
   pub free_none : holders k ≡ [] → (under_hash paths k ≡ None) × (get path_cmp paths.others k ≡ None)
   free_none free = neither (under_hash paths k) (get path_cmp paths.others k) (none_mapped holders_in (holders_by_path paths k)
-      (held.rows k ∙ ap unless_none free))
+      (held.by_hash k ∙ ap unless_none free))
 
 -- what is written back is what was there
 pub unwritten : {X : Type 0} (f g : ℕ → Option X) (h : ℕ) (x : X) → ((q : ℕ) → g q ≡ cond (is_eq (nat_cmp h q)) (Some x) (f q)) → f h ≡ Some x → (q : ℕ) → g q
@@ -154,44 +155,48 @@ abbrev HoldsAt : LeasedPaths → (Path → List Holder) → Path → Type 0
 HoldsAt paths holders p = (option_map holders_in (holders_by_path paths p) ≡ unless_none (holders p))
     × (IsSome (under_hash paths p) → get path_cmp paths.others p ≡ None)
 
-holds_each : (paths : LeasedPaths) (holders : Path → List Holder) → ((h : ℕ) → HasHash h (get nat_cmp paths.rows h)) → ((p : Path) → HoldsAt paths holders p) →
+holds_each : (paths : LeasedPaths) (holders : Path → List Holder) → ((h : ℕ) → HasHash h (get nat_cmp paths.by_hash h))
+    → ((p : Path) → HoldsAt paths holders p) →
     Holds paths holders
-holds_each paths holders hashes at = record { rows = λ p. (at p).0; once = λ p. (at p).1; hashes = hashes }
+holds_each paths holders hashes at = record { by_hash = λ p. (at p).0; once = λ p. (at p).1; hashes = hashes }
 
 module _ (old new : LeasedPaths) (holders : Path → List Holder) (held : Holds old holders) where
-  -- the rows under hashes are the same
-  hashes_kept : ((h : ℕ) → get nat_cmp new.rows h ≡ get nat_cmp old.rows h) → (h : ℕ) → HasHash h (get nat_cmp new.rows h)
-  hashes_kept rows h = subst (HasHash h) (sym (rows h)) (held.hashes h)
+  -- the records under hashes are the same
+  hashes_kept : ((h : ℕ) → get nat_cmp new.by_hash h ≡ get nat_cmp old.by_hash h) → (h : ℕ) → HasHash h (get nat_cmp new.by_hash h)
+  hashes_kept by_hash h = subst (HasHash h) (sym (by_hash h)) (held.hashes h)
 
-  -- both maps have the same rows
-  pub holds_kept : ((h : ℕ) → get nat_cmp new.rows h ≡ get nat_cmp old.rows h) → ((p : Path) → get path_cmp new.others p ≡ get path_cmp old.others p) →
+  -- both maps have the same records
+  pub holds_kept : ((h : ℕ) → get nat_cmp new.by_hash h ≡ get nat_cmp old.by_hash h) → ((p : Path) → get path_cmp new.others p ≡ get path_cmp old.others p) →
       Holds new holders
-  holds_kept rows others =
-      let under : (p : Path) → under_hash new p ≡ under_hash old p = λ p. ap (λ r. own_row r p) (rows (hash_of p)) in
+  holds_kept by_hash others =
+      let under : (p : Path) → under_hash new p ≡ under_hash old p = λ p. ap (λ r. own_holders r p) (by_hash (hash_of p)) in
       record {
-        rows = λ p. (λ i. option_map holders_in (option_or (under p i) (others p i))) ∙ held.rows p;
+        by_hash = λ p. (λ i. option_map holders_in (option_or (under p i) (others p i))) ∙ held.by_hash p;
         once = λ p some. others p ∙ held.once p (sym (ap is_some (under p)) ∙ some);
-        hashes = hashes_kept rows;
+        hashes = hashes_kept by_hash;
       }
 
-  -- a row was lent, and is as it was
-  pub holds_unwritten : (h : ℕ) (row : Row) → ((q : ℕ) → get nat_cmp new.rows q ≡ cond (is_eq (nat_cmp h q)) (Some row) (get nat_cmp old.rows q))
-      → get nat_cmp old.rows h ≡ Some row → ((p : Path) → get path_cmp new.others p ≡ get path_cmp old.others p) → Holds new holders
-  holds_unwritten h row update found = holds_kept (unwritten (get nat_cmp old.rows) (get nat_cmp new.rows) h row update found)
+  -- a record was lent, and is as it was
+  pub holds_unwritten : (h : ℕ) (held_path : LeasedPath)
+      → ((q : ℕ) → get nat_cmp new.by_hash q ≡ cond (is_eq (nat_cmp h q)) (Some held_path) (get nat_cmp old.by_hash q))
+      → get nat_cmp old.by_hash h ≡ Some held_path → ((p : Path) → get path_cmp new.others p ≡ get path_cmp old.others p) → Holds new holders
+  holds_unwritten h held_path update found = holds_kept (unwritten (get nat_cmp old.by_hash) (get nat_cmp new.by_hash) h held_path update found)
 
   module _ (k : Path) (now : Path → List Holder) (same : (q : Path) → same_path q k ≡ false → now q ≡ holders q) where
     apart_same : (q : Path) → same_path k q ≡ false → under_hash new q ≡ under_hash old q → get path_cmp new.others q ≡ get path_cmp old.others q →
         HoldsAt new now q
     apart_same q apart under others = (
-      (λ i. option_map holders_in (option_or (under i) (others i))) ∙ held.rows q ∙ sym (ap unless_none (same q (same_path-symm q k ∙ apart))),
+      (λ i. option_map holders_in (option_or (under i) (others i))) ∙ held.by_hash q ∙ sym (ap unless_none (same q (same_path-symm q k ∙ apart))),
       λ some. others ∙ held.once q (sym (ap is_some under) ∙ some),
     )
 
-    -- the path has another row under its hash, or none there any more
-    pub under_changed : (h : ℕ) → h ≡ hash_of k → (w : Option Row) → ((q : ℕ) → get nat_cmp new.rows q ≡ cond (is_eq (nat_cmp h q)) w (get nat_cmp old.rows q))
-        → ((p : Path) → get path_cmp new.others p ≡ get path_cmp old.others p) → IsOf k (get nat_cmp old.rows h) → IsOf k w → get path_cmp old.others k ≡ None
-        → option_map holders_in (option_map (λ row. row.holders) w) ≡ unless_none (now k) → Holds new now
-    under_changed h hash w rows others before after none row =
+    -- the path has another record under its hash, or none there any more
+    pub under_changed : (h : ℕ) → h ≡ hash_of k → (w : Option LeasedPath)
+        → ((q : ℕ) → get nat_cmp new.by_hash q ≡ cond (is_eq (nat_cmp h q)) w (get nat_cmp old.by_hash q))
+        → ((p : Path) → get path_cmp new.others p ≡ get path_cmp old.others p) → IsOf k (get nat_cmp old.by_hash h) → IsOf k w
+        → get path_cmp old.others k ≡ None
+        → option_map holders_in (option_map (λ held_path. held_path.holders) w) ≡ unless_none (now k) → Holds new now
+    under_changed h hash w by_hash others before after none held_path =
         holds_each new now hashes (λ q. elim (cases_Bool (same_path k q)) [
           | inl here ↦ subst (HoldsAt new now) ((same_path-Decides k q).0 here) own
           | inr apart ↦ apart_same q apart (elsewhere q apart) (others q)
@@ -200,21 +205,21 @@ module _ (old new : LeasedPaths) (holders : Path → List Holder) (held : Holds 
         own : HoldsAt new now k
         own =
             let under : under_hash new k ≡ option_map (λ r. r.holders) w =
-            ap (λ r. own_row r k)
-            (ap (get nat_cmp new.rows) (sym hash) ∙ rows h ∙ ap (λ o. cond (is_eq o) w (get nat_cmp old.rows h)) (tied_itself nat_cmp_total h))
+            ap (λ r. own_holders r k)
+            (ap (get nat_cmp new.by_hash) (sym hash) ∙ by_hash h ∙ ap (λ o. cond (is_eq o) w (get nat_cmp old.by_hash h)) (tied_itself nat_cmp_total h))
             ∙ own_here w k after in
             let gone : get path_cmp new.others k ≡ None = others k ∙ none in (
-              (λ i. option_map holders_in (option_or (under i) (gone i))) ∙ ap (option_map holders_in) (or_none (option_map (λ r. r.holders) w)) ∙ row,
+              (λ i. option_map holders_in (option_or (under i) (gone i))) ∙ ap (option_map holders_in) (or_none (option_map (λ r. r.holders) w)) ∙ held_path,
               λ some. gone,
             )
 
-        hashes : (q : ℕ) → HasHash q (get nat_cmp new.rows q)
+        hashes : (q : ℕ) → HasHash q (get nat_cmp new.by_hash q)
         hashes q =
             elim (cases_Bool (is_eq (nat_cmp h q))) [
               | inl tie ↦
-                  subst (HasHash q) (sym (rows q ∙ ap (λ b. cond b w (get nat_cmp old.rows q)) tie))
+                  subst (HasHash q) (sym (by_hash q ∙ ap (λ b. cond b w (get nat_cmp old.by_hash q)) tie))
                   (hash_here w k q (sym hash ∙ nat_cmp-IsAntisymmetric h q (tied (nat_cmp h q) tie)) after)
-              | inr differs ↦ subst (HasHash q) (sym (rows q ∙ ap (λ b. cond b w (get nat_cmp old.rows q)) differs)) (held.hashes q)
+              | inr differs ↦ subst (HasHash q) (sym (by_hash q ∙ ap (λ b. cond b w (get nat_cmp old.by_hash q)) differs)) (held.hashes q)
             ]
 
         elsewhere : (q : Path) → same_path k q ≡ false → under_hash new q ≡ under_hash old q
@@ -222,44 +227,44 @@ module _ (old new : LeasedPaths) (holders : Path → List Holder) (held : Holds 
             elim (cases_Bool (is_eq (nat_cmp h (hash_of q)))) [
               | inl tie ↦
                   let same_hash : h ≡ hash_of q = nat_cmp-IsAntisymmetric h (hash_of q) (tied (nat_cmp h (hash_of q)) tie) in
-                  ap (λ r. own_row r q) (rows (hash_of q) ∙ ap (λ b. cond b w (get nat_cmp old.rows (hash_of q))) tie) ∙ own_apart w k q after apart
-                  ∙ sym (own_apart (get nat_cmp old.rows (hash_of q)) k q (subst (λ x. IsOf k (get nat_cmp old.rows x)) same_hash before) apart)
-              | inr differs ↦ ap (λ r. own_row r q) (rows (hash_of q) ∙ ap (λ b. cond b w (get nat_cmp old.rows (hash_of q))) differs)
+                  ap (λ r. own_holders r q) (by_hash (hash_of q) ∙ ap (λ b. cond b w (get nat_cmp old.by_hash (hash_of q))) tie) ∙ own_apart w k q after apart
+                  ∙ sym (own_apart (get nat_cmp old.by_hash (hash_of q)) k q (subst (λ x. IsOf k (get nat_cmp old.by_hash x)) same_hash before) apart)
+              | inr differs ↦ ap (λ r. own_holders r q) (by_hash (hash_of q) ∙ ap (λ b. cond b w (get nat_cmp old.by_hash (hash_of q))) differs)
             ]
 
-    -- the path has another row among the others, or none there any more
-    pub other_changed : (w : Option Holders) → ((h : ℕ) → get nat_cmp new.rows h ≡ get nat_cmp old.rows h)
+    -- the path has another record among the others, or none there any more
+    pub other_changed : (w : Option Holders) → ((h : ℕ) → get nat_cmp new.by_hash h ≡ get nat_cmp old.by_hash h)
         → ((p : Path) → get path_cmp new.others p ≡ cond (is_eq (path_cmp k p)) w (get path_cmp old.others p)) → IsOtherPath old k
         → option_map holders_in w ≡ unless_none (now k) → Holds new now
-    other_changed w rows others other row =
-        holds_each new now (hashes_kept rows) (λ q. elim (cases_Bool (same_path k q)) [
+    other_changed w by_hash others other held_path =
+        holds_each new now (hashes_kept by_hash) (λ q. elim (cases_Bool (same_path k q)) [
           | inl here ↦ subst (HoldsAt new now) ((same_path-Decides k q).0 here) own
           | inr apart ↦ apart_same q apart (under q) (others q ∙ ap (λ b. cond b w (get path_cmp old.others q)) apart)
         ])
       where
         under : (q : Path) → under_hash new q ≡ under_hash old q
-        under q = ap (λ r. own_row r q) (rows (hash_of q))
+        under q = ap (λ r. own_holders r q) (by_hash (hash_of q))
 
         own : HoldsAt new now k
         own =
             let found : get path_cmp new.others k ≡ w = others k ∙ ap (λ b. cond b w (get path_cmp old.others k)) (same_path-refl k) in
             let none : under_hash new k ≡ None = under k ∙ other in
-            ((λ i. option_map holders_in (option_or (none i) (found i))) ∙ row, not_some (get path_cmp new.others k ≡ None) (under_hash new k) none)
+            ((λ i. option_map holders_in (option_or (none i) (found i))) ∙ held_path, not_some (get path_cmp new.others k ≡ None) (under_hash new k) none)
 
-    -- the row under the path's hash is its own, and has other holders, or is gone
-    module _ (h : ℕ) (hash : h ≡ hash_of k) (row : Row) (found : get nat_cmp old.rows h ≡ Some row) (own : row.path ≡ k)
+    -- the record under the path's hash is its own, and has other holders, or is gone
+    module _ (h : ℕ) (hash : h ≡ hash_of k) (held_path : LeasedPath) (found : get nat_cmp old.by_hash h ≡ Some held_path) (own : held_path.path ≡ k)
         (others : (p : Path) → get path_cmp new.others p ≡ get path_cmp old.others p) where
-      pub under_written : (after : Holders) → ((q : ℕ) → get nat_cmp new.rows q
-          ≡ cond (is_eq (nat_cmp h q)) (Some (record { path = row.path; holders = after })) (get nat_cmp old.rows q))
+      pub under_written : (after : Holders) → ((q : ℕ) → get nat_cmp new.by_hash q
+          ≡ cond (is_eq (nat_cmp h q)) (Some (record { path = held_path.path; holders = after })) (get nat_cmp old.by_hash q))
           → Some (holders_in after) ≡ unless_none (now k) → Holds new now
-      under_written after rows now_has =
-          under_changed h hash (Some (record { path = row.path; holders = after })) rows others (subst (IsOf k) (sym found) own) own
-          (under_once old k holders held h hash row found own) now_has
+      under_written after by_hash now_has =
+          under_changed h hash (Some (record { path = held_path.path; holders = after })) by_hash others (subst (IsOf k) (sym found) own) own
+          (under_once old k holders held h hash held_path found own) now_has
 
-      pub under_removed : ((q : ℕ) → get nat_cmp new.rows q ≡ cond (is_eq (nat_cmp h q)) None (get nat_cmp old.rows q)) → None ≡ unless_none (now k) →
+      pub under_removed : ((q : ℕ) → get nat_cmp new.by_hash q ≡ cond (is_eq (nat_cmp h q)) None (get nat_cmp old.by_hash q)) → None ≡ unless_none (now k) →
           Holds new now
-      under_removed rows now_has =
-          under_changed h hash None rows others (subst (IsOf k) (sym found) own) tt (under_once old k holders held h hash row found own) now_has
+      under_removed by_hash now_has =
+          under_changed h hash None by_hash others (subst (IsOf k) (sym found) own) tt (under_once old k holders held h hash held_path found own) now_has
 
 -- ---- one holder more
 
@@ -276,10 +281,10 @@ when_either false true h apart = refl
 when_either false false h apart = refl
 
 -- a path that comes before another one in strict order is not that one
-before_apart : (xs : List Path) (i : ℕ) (x p : Path) → IsStrictlySortedBy path_cmp xs → i < length xs → x ≡ get_or xs i x → stands p (take i xs) → same_path p x
+before_apart : (xs : List Path) (i : ℕ) (x p : Path) → IsStrictlySortedBy path_cmp xs → i < length xs → x ≡ get_or xs i x → exists p (take i xs) → same_path p x
     ≡ false
 before_apart xs i x p sorted within read before =
-    let found = Contains_from_stands p (take i xs) before in
+    let found = Contains_from_exists p (take i xs) before in
     let earlier : found.0 < i = omega (arith, found.1, length-take {A = Path}) in
     let at : get_or xs found.0 x ≡ p = sym (get_or-take i xs found.0 x earlier) ∙ get_or_default (take i xs) found.0 x p found.1 ∙ found.2 in
     let less : path_cmp (get_or xs found.0 x) (get_or xs i x) ≡ Less = Less-from_sorted path_cmp xs found.0 i x sorted earlier within in
@@ -291,7 +296,7 @@ pub free_yet : (xs : List Path) (i : ℕ) (x : Path) (h : Holder) (holders : Pat
     → AreFree (λ p. list_any (same_path p) xs) holders → holders x ++ when (list_any (same_path x) (take i xs)) h ≡ []
 free_yet xs i x h holders sorted within read free =
     when_not (list_any (same_path x) (take i xs)) h (holders x) (not_yet (list_any (same_path x) (take i xs)) refl)
-    ∙ free x (stands_from_Contains x xs (i, within, sym read))
+    ∙ free x (exists_from_Contains x xs (i, within, sym read))
   where
     not_yet : (b : Bool) → list_any (same_path x) (take i xs) ≡ b → b ≡ false
     not_yet true there = absurd (true≢false (sym (same_path-refl x) ∙ before_apart xs i x x sorted within read there))
@@ -426,7 +431,7 @@ pub some_wider : (id : TransactionId) (at wide : Path → Bool) (middle holders 
 some_wider id at wide middle holders paths some kept same =
     record {
       now = some.now;
-      rows = some.rows;
+      by_hash = some.by_hash;
       kept = λ p. some.kept p ∙ kept p;
       elsewhere = λ p none. let parts = same p none in some.elsewhere p parts.0 ∙ parts.1;
     }

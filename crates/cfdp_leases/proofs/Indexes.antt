@@ -15,7 +15,7 @@ use Rattle.cfdp_paths.specs.Paths.{Path}
 use Rattle.cfdp_leases.specs.Footprint.{PathSet, Footprint, leased, is_conflict}
 use Rattle.cfdp_leases.specs.code.Footprint.{HasAncestors, has_any}
 use Rattle.cfdp_leases.specs.Leases.{Grants, first_conflict}
-use Rattle.cfdp_leases.proofs.Sets.{by_truth, any_at, any_from, contains_from_stands, stands_from_contains, union_left, union_right, union_cases}
+use Rattle.cfdp_leases.proofs.Sets.{by_truth, any_at, any_from, contains_from_exists, exists_from_contains, union_left, union_right, union_cases}
 use Rattle.cfdp_leases.proofs.Conflict.{conflict_by_paths}
 
 -- ---- where a test first holds
@@ -80,12 +80,12 @@ first_more of gs xs i x within read =
 -- ---- the first conflict
 
 any_both : (s t : PathSet) (xs : List Path) (p : Path) → set.from_list xs ≡ t → set.contains t p ≡ true → set.contains s p ≡ true → has_any s xs ≡ true
-any_both s t xs p paths there has = any_at (set.contains s) xs p (stands_from_contains xs p (ap (λ u. set.contains u p) paths ∙ there)) has
+any_both s t xs p paths there has = any_at (set.contains s) xs p (exists_from_contains xs p (ap (λ u. set.contains u p) paths ∙ there)) has
 
 both_of : (s t : PathSet) (xs : List Path) → set.from_list xs ≡ t → has_any s xs ≡ true → (p : Path) × (set.contains t p ≡ true) × (set.contains s p ≡ true)
 both_of s t xs paths any =
     let found = any_from (set.contains s) xs any in
-    (found.0, sym (ap (λ u. set.contains u found.0) paths) ∙ contains_from_stands xs found.0 found.1, found.2)
+    (found.0, sym (ap (λ u. set.contains u found.0) paths) ∙ contains_from_exists xs found.0 found.1, found.2)
 
 -- two footprints conflict where one of them has an exclusive path of the other
 pub conflict_by_lists : (A B : Footprint) (xs ys : List Path) → HasAncestors A → HasAncestors B → set.from_list xs ≡ B.exclusive → set.from_list ys ≡ B.shared

@@ -100,9 +100,12 @@ elsewhere s id (m ∷ live) l kept found =
                 (subst (λ k. AllByRecursion (λ n. n.key ≢ k.key) live) this kept.1),
           )
       | inr fails ↦
-          let behind : find (λ n. is_same n.transaction id) live ≡ Some l = sym (ap (λ b. cond b (Some m) (find (λ n. is_same n.transaction id) live)) fails)
-          ∙ found in
-          ((λ _ same. all_found (λ n. n.key ≢ m.key) (λ n. is_same n.transaction id) live l kept.1 behind (sym same)), elsewhere s id live l kept.2 behind)
+          let following : find (λ n. is_same n.transaction id) live ≡ Some l = sym (ap (λ b. cond b (Some m) (find (λ n. is_same n.transaction id) live)) fails)
+          ∙ found in (
+            (λ _ same. all_found (λ n. n.key ≢ m.key) (λ n. is_same n.transaction id) live l kept.1 following (sym same)),
+            elsewhere s id live l kept.2
+                following,
+          )
     ]
 
 pub grants-filter : (s t : Slab Footprint) (key : ℕ) (id : TransactionId) (live : List LiveGrant) → Updates s t key None
@@ -241,7 +244,7 @@ footprints-same s t (l ∷ live) same kept = (ap is_some (same l.key) ∙ kept.0
 -- room was made, and the map has the same holders
 pub kept_same : (s t : Slab Footprint) (live now : List LiveGrant) (before paths : LeasedPaths) → ((key : ℕ) → get t key ≡ get s key) → now ≡ live
     → AreKept s live before → Holds paths (holders_at (grants_of s live)) → AreKept t now paths
-kept_same s t live now before paths same lists kept rows =
+kept_same s t live now before paths same lists kept are_held =
     subst (λ ls. AreKept t ls paths) (sym lists)
     (let grants = grants-same s t live same in
     record {
@@ -249,7 +252,7 @@ kept_same s t live now before paths same lists kept rows =
       no_others = λ key some. kept.no_others key (ap is_some (sym (same key)) ∙ some);
       rooted = subst (AllByRecursion (λ g. HasAncestors g.1)) grants kept.rooted;
       apart = subst AreApart grants kept.apart;
-      rows = subst (λ gs. Holds paths (holders_at gs)) grants rows;
+      are_held = subst (λ gs. Holds paths (holders_at gs)) grants are_held;
     })
 
 pub grants_admitted : (s t : Slab Footprint) (live : List LiveGrant) (new : LiveGrant) (fp : Footprint) → HaveFootprints s live → get s new.key ≡ None →
@@ -264,7 +267,7 @@ pub kept_admitted : (s t : Slab Footprint) (live : List LiveGrant) (new : LiveGr
     ≡ None
     → Updates s t new.key (Some fp) → HasAncestors fp → first_conflict (grants_of s live) fp ≡ None → holds (grants_of s live) new.transaction ≡ false
     → Holds paths (λ p. holders_at (grants_of s live) p ++ holders_of new.transaction fp p) → AreKept t (live ++ new ∷ []) paths
-kept_admitted s t live new fp before paths kept none update ancestors free unheld rows =
+kept_admitted s t live new fp before paths kept none update ancestors free unheld are_held =
     let gs = grants_of s live in
     let grants = sym (grants_admitted s t live new fp kept.kept none update) in
     record {
@@ -272,11 +275,11 @@ kept_admitted s t live new fp before paths kept none update ancestors free unhel
       no_others = others-push s t new fp live kept.no_others update;
       rooted = subst (AllByRecursion (λ g. HasAncestors g.1)) grants (all_push (λ g. HasAncestors g.1) gs (new.transaction, fp) kept.rooted ancestors);
       apart = subst AreApart grants (apart_push gs (new.transaction, fp) kept.apart free unheld);
-      rows = subst (λ ks. Holds paths (holders_at ks)) grants
+      are_held = subst (λ ks. Holds paths (holders_at ks)) grants
           (holds_same paths (λ p. holders_at gs p ++ holders_of new.transaction fp p) (holders_at (gs ++ (new.transaction, fp) ∷ []))
           (λ p. sym (flat_map-append (λ g. holders_of g.0 g.1 p) gs ((new.transaction, fp) ∷ [])
           ∙ ap (λ hs. holders_at gs p ++ hs) (append-nil (holders_of new.transaction fp p))))
-          rows);
+          are_held);
     }
 
 -- ---- a release
@@ -316,7 +319,7 @@ pub kept_released : (s t : Slab Footprint) (live : List LiveGrant) (id : Transac
     → find (λ m. is_same m.transaction id) live ≡ Some l → get s l.key ≡ Some fp → Updates s t l.key None
     → Holds paths (λ p. left id (set.contains (leased fp) p) (holders_at (grants_of s live) p)) →
     AreKept t (filter (λ m. not (is_same m.transaction id)) live) paths
-kept_released s t live id l fp before paths kept found has update rows =
+kept_released s t live id l fp before paths kept found has update are_held =
     let gs = grants_of s live in
     let apart_keys = elsewhere s id live l kept.kept found in
     let grants = sym (grants-filter s t l.key id live update apart_keys) in
@@ -326,9 +329,9 @@ kept_released s t live id l fp before paths kept found has update rows =
       no_others = others-filter s t l.key id live kept.no_others update (own_key s id live l kept.apart found);
       rooted = subst (AllByRecursion (λ g. HasAncestors g.1)) grants (all_filter (λ g. HasAncestors g.1) (λ g. not (is_same g.0 id)) gs kept.rooted);
       apart = subst AreApart grants (apart_filter (λ g. not (is_same g.0 id)) gs kept.apart);
-      rows = subst (λ ks. Holds paths (holders_at ks)) grants
+      are_held = subst (λ ks. Holds paths (holders_at ks)) grants
           (holds_same paths (λ p. left id (set.contains (leased fp) p) (holders_at gs p)) (holders_at (without_grant gs id))
-          (λ p. released gs id (l.transaction, fp) p kept.apart there) rows);
+          (λ p. released gs id (l.transaction, fp) p kept.apart there) are_held);
     }
 
 -- the last one is released, and no path has a holder
@@ -336,13 +339,13 @@ pub kept_emptied : (s t : Slab Footprint) (live : List LiveGrant) (id : Transact
     AreKept s live before
     → find (λ m. is_same m.transaction id) live ≡ Some l → get s l.key ≡ Some fp → Updates s t l.key None
     → filter (λ m. not (is_same m.transaction id)) live ≡ [] → Holds paths (λ p. []) → AreKept t (filter (λ m. not (is_same m.transaction id)) live) paths
-kept_emptied s t live id l fp before paths kept found has update last rows =
+kept_emptied s t live id l fp before paths kept found has update last are_held =
     let gs = grants_of s live in
     let none = grants-filter s t l.key id live update (elsewhere s id live l kept.kept found) in
     kept_released s t live id l fp before paths kept found has update
     (holds_same paths (λ p. []) (λ p. left id (set.contains (leased fp) p) (holders_at gs p))
     (λ p. sym (released gs id (l.transaction, fp) p kept.apart (grant_there s live id l fp found has)
-    ∙ ap (λ ks. holders_at ks p) (sym none ∙ ap (grants_of t) last))) rows)
+    ∙ ap (λ ks. holders_at ks p) (sym none ∙ ap (grants_of t) last))) are_held)
 
 pub none_of : {A : Type 0} (xs : List A) → (length xs == 0) ≡ true → xs ≡ []
 none_of [] e = refl

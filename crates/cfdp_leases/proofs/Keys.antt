@@ -1,7 +1,7 @@
 -- Rows keep each key of the filestore a path.
 --     IsKeyed change           what the change makes exist, if anything, is at a path
 --     keys_after               such changes keep the keys paths
---     keyed_settled            the new paths of a tree that moves, where none is too deep
+--     keyed_arriving           the new paths of a tree that moves, where none is too deep
 --     keyed_create .. keyed_row          the changes of each row are such
 --     keys_stay_paths
 use Rattle.std.proofs.Common.{◌≡◌, refl, sym, ◌∙◌, ap, subst, ℕ, ◌+◌, ◌≤◌, Bool, true, false, cond, inl, inr, List, [], ◌∷◌, ◌++◌, length, arith}
@@ -15,7 +15,7 @@ use Rattle.cfdp_paths.specs.Paths.{Path, IsPath, same_path, is_at_or_below, reba
 use Rattle.cfdp_paths.proofs.Comparing.{same_path-Decides}
 use Rattle.cfdp_paths.proofs.Below.{length-rebased, length-at_or_below, IsPath-rebased}
 use Rattle.cfdp_actions.specs.Filestore.{Node, Directory, File, Filestore, node_at, staged_in, Change, Becomes, Stages, changed, after, has_entries, parent_is_good, tree_at}
-use Rattle.cfdp_actions.specs.Actions.{Item, Install, Perform, Request, CreateFile, DeleteFile, RenameFile, AppendFile, ReplaceFile, CreateDirectory, RemoveDirectory, DenyFile, DenyDirectory, refused, succeeds, create, delete_file, rename, is_tree_too_deep, vacating, settled, append, replace, remove_directory, deny_file, deny_directory, install, table, free_row, is_barred, denied, row}
+use Rattle.cfdp_actions.specs.Actions.{Item, Install, Perform, Request, CreateFile, DeleteFile, RenameFile, AppendFile, ReplaceFile, CreateDirectory, RemoveDirectory, DenyFile, DenyDirectory, refused, succeeds, create, delete_file, rename, is_tree_too_deep, vacating, arriving, append, replace, remove_directory, deny_file, deny_directory, install, table, free_row, is_barred, denied, row}
 use Rattle.cfdp_leases.specs.Laws.{KeysArePaths, NamesPaths, KeysStayPaths}
 use Rattle.cfdp_leases.proofs.ChangeFrame.{node_at-changed, all-append}
 use Rattle.cfdp_leases.proofs.Rooted.{Of, tree_at-of}
@@ -56,16 +56,16 @@ keyed_vacated : (es : List (Path × Node)) → AreKeyed (vacating es)
 keyed_vacated [] = tt
 keyed_vacated (e ∷ es) = (tt, keyed_vacated es)
 
-keyed_settled : (F : Filestore) (p q : Path) (es : List (Path × Node)) → KeysArePaths F → IsPath q → AllByRecursion (Of F p) es → is_tree_too_deep p q es
+keyed_arriving : (F : Filestore) (p q : Path) (es : List (Path × Node)) → KeysArePaths F → IsPath q → AllByRecursion (Of F p) es → is_tree_too_deep p q es
     ≡ false →
-    AreKeyed (settled p q es)
-keyed_settled F p q [] keys to each deep = tt
-keyed_settled F p q (e ∷ es) keys to each deep =
+    AreKeyed (arriving p q es)
+keyed_arriving F p q [] keys to each deep = tt
+keyed_arriving F p q (e ∷ es) keys to each deep =
     let parts = or_parts (nat_lt 8 (length (rebased p q e.0))) (is_tree_too_deep p q es) deep in
     let short : length (rebased p q e.0) ≤ 8 = ltb-false _ _ parts.0 in
     let above : length p ≤ length e.0 = length-at_or_below e.0 p each.0.0 in
     let room : length e.0 + length q ≤ 8 + length p = omega (arith, length-rebased p q e.0, short, above) in
-    (IsPath-rebased p q e.0 room above to (keys e.0 (ap is_some each.0.1)), keyed_settled F p q es keys to each.1 parts.1)
+    (IsPath-rebased p q e.0 room above to (keys e.0 (ap is_some each.0.1)), keyed_arriving F p q es keys to each.1 parts.1)
 
 -- ---- rows
 
@@ -91,9 +91,9 @@ keyed_rename F p q (Some x) None false below es keys to each = tt
 keyed_rename F p q (Some x) None true true es keys to each = tt
 keyed_rename F p q (Some x) None true false es keys to each =
     (elim (is_tree_too_deep p q es) as (λ deep. is_tree_too_deep p q es ≡ deep → AreKeyed (if deep then refused (NotAllowed action.RenameFile)
-    else succeeds action.RenameFile (vacating es ++ settled p q es) 0 0 0).changes) [
+    else succeeds action.RenameFile (vacating es ++ arriving p q es) 0 0 0).changes) [
       | true ↦ λ is. tt
-      | false ↦ λ is. all-append IsKeyed (vacating es) (settled p q es) (keyed_vacated es) (keyed_settled F p q es keys to each is)
+      | false ↦ λ is. all-append IsKeyed (vacating es) (arriving p q es) (keyed_vacated es) (keyed_arriving F p q es keys to each is)
     ]) refl
 
 keyed_append : (p : Path) (x y : Option Node) → IsPath p → AreKeyed (append p x y).changes

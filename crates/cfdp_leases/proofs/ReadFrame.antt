@@ -13,8 +13,8 @@ use Rattle.cfdp_status.specs.declared.action.Action.TheVariants as action
 use Rattle.cfdp_leases.specs.Items.{content, step_bound}
 use Rattle.cfdp_leases.specs.Footprint.{exclusive_in, read_in, shared_in, Footprint, is_exclusive, is_covered, IsWithin}
 use Rattle.cfdp_leases.specs.Laws.{IsAlike, FrameOfReads}
-use Rattle.cfdp_leases.proofs.Sets.{path_cmp_total, stands, stands-append_left, stands-append_right, all_at, stands-flat_map, any_in-at, any_in-from}
-use Rattle.cfdp_leases.proofs.Conflict.{ancestor_stands}
+use Rattle.cfdp_leases.proofs.Sets.{path_cmp_total, exists, exists-append_left, exists-append_right, all_at, exists-flat_map, any_in-at, any_in-from}
+use Rattle.cfdp_leases.proofs.Conflict.{ancestor_exists}
 use Rattle.cfdp_actions.proofs.StoreLaws.{alike as same_test}
 use Rattle.cfdp_actions.proofs.Order.{same_path-refl}
 use Rattle.cfdp_paths.proofs.InOrder.{path_antisym}
@@ -29,20 +29,20 @@ pub covered_exclusive : (fp : Footprint) (p : Path) → is_exclusive fp p ≡ tr
 covered_exclusive fp p h = or_left _ _ h
 
 -- a name of the item, read or changed
-pub covered_read : (fp : Footprint) (item : Item) (p : Path) → IsWithin fp item → stands p (read_in item) → is_covered fp p ≡ true
+pub covered_read : (fp : Footprint) (item : Item) (p : Path) → IsWithin fp item → exists p (read_in item) → is_covered fp p ≡ true
 covered_read fp item p w h =
-    all_at (λ x. is_covered fp x ≡ true) (shared_in item) p w.shared (stands-append_left p (read_in item)
+    all_at (λ x. is_covered fp x ≡ true) (shared_in item) p w.shared (exists-append_left p (read_in item)
     (flat_map ancestors (exclusive_in item ++ read_in item)) h)
 
 -- the parent of a name, the root apart
-pub covered_parent : (fp : Footprint) (item : Item) (p : Path) → IsWithin fp item → stands p (exclusive_in item ++ read_in item) → parent p ≢ [] →
+pub covered_parent : (fp : Footprint) (item : Item) (p : Path) → IsWithin fp item → exists p (exclusive_in item ++ read_in item) → parent p ≢ [] →
     is_covered fp (parent p) ≡ true
 covered_parent fp item p w h some =
     let other : p ≢ parent p = λ same. parent_other p (λ none. some (ap parent none)) same in
-    let above : stands (parent p) (ancestors p) = ancestor_stands p (parent p) (parent_at_or_below p) other some in
+    let above : exists (parent p) (ancestors p) = ancestor_exists p (parent p) (parent_at_or_below p) other some in
     all_at (λ x. is_covered fp x ≡ true) (shared_in item) (parent p) w.shared
-    (stands-append_right (parent p) (read_in item) (flat_map ancestors (exclusive_in item ++ read_in item))
-    (stands-flat_map ancestors (exclusive_in item ++ read_in item) p (parent p) h above))
+    (exists-append_right (parent p) (read_in item) (flat_map ancestors (exclusive_in item ++ read_in item))
+    (exists-flat_map ancestors (exclusive_in item ++ read_in item) p (parent p) h above))
   where
     parent_other : (p : Path) → p ≢ [] → p ≢ parent p
     parent_other [] some same = some refl
@@ -75,43 +75,43 @@ module _ (fp : Footprint) (F G : Filestore) (slot : ℕ) (alike : IsAlike fp slo
       ap (λ m. not (finite.len m == 0)) (same_kept F G (λ q. is_below q p) (λ q below.
       node_alike q (exclusive_below fp p q h (and_parts (is_at_or_below q p) _ below).0)))
 
-  good_alike : (item : Item) (p : Path) → IsWithin fp item → stands p (exclusive_in item ++ read_in item) → parent_is_good F p ≡ parent_is_good G p
+  good_alike : (item : Item) (p : Path) → IsWithin fp item → exists p (exclusive_in item ++ read_in item) → parent_is_good F p ≡ parent_is_good G p
   good_alike item p w h = ap (λ b. not (is_root p) && b) (at (parent p) (covered_parent fp item p w h))
     where
       at : (a : Path) → (a ≢ [] → is_covered fp a ≡ true) → is_good F a ≡ is_good G a
       at [] c = refl
       at (n ∷ a) c = ap is_directory (alike.kept (n ∷ a) (c (λ e. cc)))
 
-  head_stands : (p : Path) (ps : List Path) → stands p (p ∷ ps)
-  head_stands p ps = or_left _ _ (same_path-refl p)
+  head_exists : (p : Path) (ps : List Path) → exists p (p ∷ ps)
+  head_exists p ps = or_left _ _ (same_path-refl p)
 
-  second_stands : (p q : Path) (ps : List Path) → stands q (p ∷ q ∷ ps)
-  second_stands p q ps = or_right (same_path q p) _ (or_left _ _ (same_path-refl q))
+  second_exists : (p q : Path) (ps : List Path) → exists q (p ∷ q ∷ ps)
+  second_exists p q ps = or_right (same_path q p) _ (or_left _ _ (same_path-refl q))
 
-  read_alike : (item : Item) (q : Path) → IsWithin fp item → stands q (read_in item) → node_at F q ≡ node_at G q
+  read_alike : (item : Item) (q : Path) → IsWithin fp item → exists q (read_in item) → node_at F q ≡ node_at G q
   read_alike item q w h = alike.kept q (covered_read fp item q w h)
 
   table_alike : (request : Request) → IsWithin fp (Perform request) → table F request ≡ table G request
   unfolding table
   table_alike (CreateFile p) w = λ i. create action.CreateFile (File []) p (node_alike p w.exclusive.0 i)
-      (good_alike (Perform (CreateFile p)) p w (head_stands p []) i)
+      (good_alike (Perform (CreateFile p)) p w (head_exists p []) i)
   table_alike (DeleteFile p) w = ap (delete_file p) (node_alike p w.exclusive.0)
   table_alike (RenameFile p q) w =
       λ i. rename p q (node_alike p w.exclusive.0 i) (node_alike q w.exclusive.1.0 i)
-      (good_alike (Perform (RenameFile p q)) q w (second_stands p q []) i) (is_at_or_below q p) (tree_alike p w.exclusive.0 i)
+      (good_alike (Perform (RenameFile p q)) q w (second_exists p q []) i) (is_at_or_below q p) (tree_alike p w.exclusive.0 i)
   table_alike (AppendFile p q) w =
-      λ i. append p (node_alike p w.exclusive.0 i) (read_alike (Perform (AppendFile p q)) q w (head_stands q []) i)
+      λ i. append p (node_alike p w.exclusive.0 i) (read_alike (Perform (AppendFile p q)) q w (head_exists q []) i)
   table_alike (ReplaceFile p q) w =
-      λ i. replace p (same_path p q) (node_alike p w.exclusive.0 i) (read_alike (Perform (ReplaceFile p q)) q w (head_stands q []) i)
+      λ i. replace p (same_path p q) (node_alike p w.exclusive.0 i) (read_alike (Perform (ReplaceFile p q)) q w (head_exists q []) i)
   table_alike (CreateDirectory p) w = λ i. create action.CreateDirectory Directory p (node_alike p w.exclusive.0 i)
-      (good_alike (Perform (CreateDirectory p)) p w (head_stands p []) i)
+      (good_alike (Perform (CreateDirectory p)) p w (head_exists p []) i)
   table_alike (RemoveDirectory p) w = λ i. remove_directory p (node_alike p w.exclusive.0 i) (entries_alike p w.exclusive.0 i)
   table_alike (DenyFile p) w = ap (deny_file p) (node_alike p w.exclusive.0)
   table_alike (DenyDirectory p) w = λ i. deny_directory p (node_alike p w.exclusive.0 i) (entries_alike p w.exclusive.0 i)
 
   free_row_alike : (item : Item) → IsWithin fp item → free_row F slot item ≡ free_row G slot item
   unfolding free_row
-  free_row_alike (Install p) w = λ i. install slot p (alike.staged i) (node_alike p w.exclusive.0 i) (good_alike (Install p) p w (head_stands p []) i)
+  free_row_alike (Install p) w = λ i. install slot p (alike.staged i) (node_alike p w.exclusive.0 i) (good_alike (Install p) p w (head_exists p []) i)
   free_row_alike (Perform request) w = table_alike request w
 
   barred_alike : (prefixes : List Path) (item : Item) → IsWithin fp item → is_barred prefixes F item ≡ is_barred prefixes G item
@@ -128,10 +128,10 @@ module _ (fp : Footprint) (F G : Filestore) (slot : ℕ) (alike : IsAlike fp slo
   bound_alike (Perform (CreateFile p)) w = refl
   bound_alike (Perform (DeleteFile p)) w = ap (λ node. 1 + content node) (node_alike p w.exclusive.0)
   bound_alike (Perform (RenameFile p q)) w = refl
-  bound_alike (Perform (AppendFile p q)) w = ap (λ node. 2 * content node) (read_alike (Perform (AppendFile p q)) q w (head_stands q []))
+  bound_alike (Perform (AppendFile p q)) w = ap (λ node. 2 * content node) (read_alike (Perform (AppendFile p q)) q w (head_exists q []))
   bound_alike (Perform (ReplaceFile p q)) w =
       λ i. if (same_path p q) then 0 else (content (node_alike p w.exclusive.0 i)
-      + 2 * content (read_alike (Perform (ReplaceFile p q)) q w (head_stands q []) i))
+      + 2 * content (read_alike (Perform (ReplaceFile p q)) q w (head_exists q []) i))
   bound_alike (Perform (CreateDirectory p)) w = refl
   bound_alike (Perform (RemoveDirectory p)) w = refl
   bound_alike (Perform (DenyFile p)) w = ap weight (node_alike p w.exclusive.0)

@@ -1,7 +1,7 @@
 -- Rows keep the filestore rooted: each path's parent stays the root or a directory.
 --     IsParent F a             the path is the root or a directory
 --     rooted_becomes           one change keeps the filestore rooted
---     settled_at, vacated_at   what is at a path after a directory was moved
+--     arriving_at, vacated_at  what is at a path after a directory was moved
 --     stays_rooted
 use Rattle.std.proofs.Common.{◌≡◌, ◌≢◌, refl, sym, ◌∙◌, ap, subst, ℕ, zero, suc, ◌≤◌, Bool, true, false, cond, ◌||◌, ◌⊎◌, inl, inr, List, [], ◌∷◌, ◌++◌, map, length, drop, arith}
 use Rattle.std.specs.FinMap.Entries.{below_all, is_sorted, find}
@@ -10,7 +10,7 @@ use Rattle.std.specs.Cmp.{tied_itself}
 use Rattle.std.specs.declared.cmp.Ordering.{Ordering}
 use Rattle.cfdp_status.specs.declared.action.Action.TheVariants as action
 use Rattle.cfdp_status.specs.declared.status.Status.TheVariants.{NotAllowed}
-use Rattle.cfdp_actions.specs.Actions.{Item, Install, Perform, Request, CreateFile, DeleteFile, RenameFile, AppendFile, ReplaceFile, CreateDirectory, RemoveDirectory, DenyFile, DenyDirectory, refused, succeeds, create, delete_file, rename, is_tree_too_deep, vacating, settled, append, replace, remove_directory, deny_file, deny_directory, install, table, free_row, is_barred, denied, row}
+use Rattle.cfdp_actions.specs.Actions.{Item, Install, Perform, Request, CreateFile, DeleteFile, RenameFile, AppendFile, ReplaceFile, CreateDirectory, RemoveDirectory, DenyFile, DenyDirectory, refused, succeeds, create, delete_file, rename, is_tree_too_deep, vacating, arriving, append, replace, remove_directory, deny_file, deny_directory, install, table, free_row, is_barred, denied, row}
 use Rattle.cfdp_leases.specs.Laws.{StaysRooted}
 use Rattle.std.specs.Prelude.{Option, Some, None, is_some, if◌then◌else◌}
 use Rattle.std.specs.List.{list_any, AllByRecursion}
@@ -23,7 +23,7 @@ use Rattle.cfdp_paths.specs.Paths.{Path, path_cmp, same_path, is_at_or_below, is
 use Rattle.cfdp_paths.proofs.Comparing.{same_path-Decides}
 use Rattle.cfdp_paths.proofs.Below.{at_or_below-trans, at_or_below-append, at_or_below-antisym, append_from_at_or_below, parent_at_or_below, parent_below, is_below-Decides, parent_of_below}
 use Rattle.cfdp_actions.specs.Filestore.{Node, Directory, File, Filestore, node_at, staged_in, Becomes, Stages, changed, after, inside, has_entries, is_directory, is_good, parent_is_good, IsRooted, tree_at}
-use Rattle.cfdp_leases.proofs.Sets.{path_cmp_total, stands}
+use Rattle.cfdp_leases.proofs.Sets.{path_cmp_total, exists}
 use Rattle.cfdp_leases.proofs.ReadFrame.{get_kept}
 use Rattle.cfdp_leases.proofs.ChangeFrame.{node_at-changed, keys_pass, tree_below}
 use Rattle.cfdp_paths.proofs.InOrder.{true_from_T}
@@ -154,7 +154,7 @@ tree_at-of F p =
     (tree_at F p) (tree_below F p) (found_each (tree_at F p) (true_from_T _ (finite.entries_sorted kept)))
 
 -- what is at or below p is a key of the tree
-key_since : (F : Filestore) (p x : Path) → is_at_or_below x p ≡ true → is_some (node_at F x) ≡ true → stands x (map (λ (e : Entry). e.0) (tree_at F p))
+key_since : (F : Filestore) (p x : Path) → is_at_or_below x p ≡ true → is_some (node_at F x) ≡ true → exists x (map (λ (e : Entry). e.0) (tree_at F p))
 key_since F p x below there =
     let kept = finite.retain_keys F.nodes (λ q. is_at_or_below q p) in
     sym (finite.contains_key-keys kept x)
@@ -176,12 +176,12 @@ vacated_at F (e ∷ es) x =
     either false b y = refl
 
 -- at x is an entry's node, where x is where the entry goes, or else what was there
-settled_at : (Q : Entry → Type 0) (F : Filestore) (p q : Path) (es : List Entry) (x : Path) → AllByRecursion Q es →
-    ((e : Entry) × Q e × (rebased p q e.0 ≡ x) × (node_at (after F (settled p q es)) x ≡ Some e.1))
-    ⊎ ((node_at (after F (settled p q es)) x ≡ node_at F x) × AllByRecursion (λ (e : Entry). rebased p q e.0 ≢ x) es)
-settled_at Q F p q [] x all = inr (refl, tt)
-settled_at Q F p q (e ∷ es) x all =
-    elim (settled_at Q (changed F (Becomes (rebased p q e.0) (Some e.1))) p q es x all.1) [
+arriving_at : (Q : Entry → Type 0) (F : Filestore) (p q : Path) (es : List Entry) (x : Path) → AllByRecursion Q es →
+    ((e : Entry) × Q e × (rebased p q e.0 ≡ x) × (node_at (after F (arriving p q es)) x ≡ Some e.1))
+    ⊎ ((node_at (after F (arriving p q es)) x ≡ node_at F x) × AllByRecursion (λ (e : Entry). rebased p q e.0 ≢ x) es)
+arriving_at Q F p q [] x all = inr (refl, tt)
+arriving_at Q F p q (e ∷ es) x all =
+    elim (arriving_at Q (changed F (Becomes (rebased p q e.0) (Some e.1))) p q es x all.1) [
       | inl later ↦ inl later
       | inr none ↦
           elim (cases_Bool (same_path x (rebased p q e.0))) [
@@ -232,12 +232,12 @@ parent-append [] (n ∷ r) some = refl
 parent-append (m ∷ []) (n ∷ r) some = refl
 parent-append (m ∷ l ∷ q) (n ∷ r) some = ap (λ y. m ∷ y) (parent-append (l ∷ q) (n ∷ r) some)
 
-none_stands : (P : Path → Type 0) (es : List Entry) (x : Path) → AllByRecursion (λ (e : Entry). P e.0) es → stands x (map (λ (e : Entry). e.0) es) → P x
-none_stands P [] x all h = absurd (true≢false (sym h))
-none_stands P (e ∷ es) x all h =
+none_exists : (P : Path → Type 0) (es : List Entry) (x : Path) → AllByRecursion (λ (e : Entry). P e.0) es → exists x (map (λ (e : Entry). e.0) es) → P x
+none_exists P [] x all h = absurd (true≢false (sym h))
+none_exists P (e ∷ es) x all h =
     elim (or_cases (same_path x e.0) (list_any (same_path x) (map (λ (f : Entry). f.0) es)) h) [
       | inl same ↦ subst P (sym ((same_path-Decides x e.0).0 same)) all.0
-      | inr rest ↦ none_stands P es x all.1 rest
+      | inr rest ↦ none_exists P es x all.1 rest
     ]
 
 -- p, which exists, is moved to q, which does not, has a parent, and is not at or below p
@@ -249,7 +249,7 @@ pub record IsMove (F : Filestore) (p q : Path) : Type 0 where
   pub apart : is_at_or_below q p ≡ false
 
 abbrev pub moved : Filestore → Path → Path → Filestore
-moved F p q = after F (vacating (tree_at F p) ++ settled p q (tree_at F p))
+moved F p q = after F (vacating (tree_at F p) ++ arriving p q (tree_at F p))
 
 module _ (F : Filestore) (p q : Path) (move : IsMove F p q) where
   named_p : p ≢ []
@@ -265,9 +265,9 @@ module _ (F : Filestore) (p q : Path) (move : IsMove F p q) where
       × AllByRecursion (λ (e : Entry). rebased p q e.0 ≢ x) (tree_at F p))
   moved_at x =
       let es = tree_at F p in
-      let split : node_at (moved F p q) x ≡ node_at (after (after F (vacating es)) (settled p q es)) x =
-      ap (λ G. node_at G x) (after-append F (vacating es) (settled p q es)) in
-      elim (settled_at (Of F p) (after F (vacating es)) p q es x (tree_at-of F p)) [
+      let split : node_at (moved F p q) x ≡ node_at (after (after F (vacating es)) (arriving p q es)) x =
+      ap (λ G. node_at G x) (after-append F (vacating es) (arriving p q es)) in
+      elim (arriving_at (Of F p) (after F (vacating es)) p q es x (tree_at-of F p)) [
         | inl found ↦ inl (found.0, found.1, found.2, split ∙ found.3)
         | inr none ↦ inr (split ∙ none.0 ∙ vacated_at F es x, none.1)
       ]
@@ -295,7 +295,7 @@ module _ (F : Filestore) (p q : Path) (move : IsMove F p q) where
             let from : found.0.0 ≡ p ++ r = append_from_at_or_below found.0.0 p found.1.0 ∙ ap (λ y. p ++ y) rest in
             ap is_directory (found.3 ∙ sym found.1.1 ∙ ap (node_at F) from) ∙ directory
         | inr none ↦
-            absurd (none_stands (λ y. rebased p q y ≢ q ++ r) (tree_at F p) (p ++ r) none.1
+            absurd (none_exists (λ y. rebased p q y ≢ q ++ r) (tree_at F p) (p ++ r) none.1
             (key_since F p (p ++ r) (at_or_below-append p r) (is_some_since (node_at F (p ++ r)) directory)) goes)
       ]
 
@@ -421,7 +421,7 @@ module _ (F : Filestore) (rooted : IsRooted F) where
   rooted_rename p q (Some x) None true false a b c d =
       let es = tree_at F p in
       elim (is_tree_too_deep p q es) as (λ deep. IsRooted (after F (if deep then refused (NotAllowed action.RenameFile)
-      else succeeds action.RenameFile (vacating es ++ settled p q es) 0 0 0).changes)) [
+      else succeeds action.RenameFile (vacating es ++ arriving p q es) 0 0 0).changes)) [
         | true ↦ rooted
         | false ↦ rooted_moved F p q (record { rooted = rooted; there = ap is_some a; absent = b; good = c; apart = d })
       ]

@@ -1,5 +1,5 @@
 -- Membership of paths in lists and in finite sets.
---     stands q xs                  the path is one of the list
+--     exists q xs                  the path is one of the list
 --     path_cmp_total                                what `FinSet` and `FinMap` ask of the order of paths
 --     all_from, all_at             `AllByRecursion` by membership
 --     any_in-from, any_in-at       whether a path of a set passes a test
@@ -30,19 +30,19 @@ by_truth false false f g = refl
 -- ---- lists
 
 -- the path is one of the list
-abbrev pub stands : Path → List Path → Type 0
-stands q xs = list_any (same_path q) xs ≡ true
+abbrev pub exists : Path → List Path → Type 0
+exists q xs = list_any (same_path q) xs ≡ true
 
-pub stands-append_left : (q : Path) (xs ys : List Path) → stands q xs → stands q (xs ++ ys)
-stands-append_left q xs ys h = list_any-append (same_path q) xs ys ∙ or_left _ (list_any (same_path q) ys) h
+pub exists-append_left : (q : Path) (xs ys : List Path) → exists q xs → exists q (xs ++ ys)
+exists-append_left q xs ys h = list_any-append (same_path q) xs ys ∙ or_left _ (list_any (same_path q) ys) h
 
-pub stands-append_right : (q : Path) (xs ys : List Path) → stands q ys → stands q (xs ++ ys)
-stands-append_right q xs ys h = list_any-append (same_path q) xs ys ∙ or_right (list_any (same_path q) xs) _ h
+pub exists-append_right : (q : Path) (xs ys : List Path) → exists q ys → exists q (xs ++ ys)
+exists-append_right q xs ys h = list_any-append (same_path q) xs ys ∙ or_right (list_any (same_path q) xs) _ h
 
-pub stands-append_cases : (q : Path) (xs ys : List Path) → stands q (xs ++ ys) → stands q xs ⊎ stands q ys
-stands-append_cases q xs ys h = or_cases _ _ (sym (list_any-append (same_path q) xs ys) ∙ h)
+pub exists-append_cases : (q : Path) (xs ys : List Path) → exists q (xs ++ ys) → exists q xs ⊎ exists q ys
+exists-append_cases q xs ys h = or_cases _ _ (sym (list_any-append (same_path q) xs ys) ∙ h)
 
-pub any_at : (test : Path → Bool) (xs : List Path) (q : Path) → stands q xs → test q ≡ true → list_any test xs ≡ true
+pub any_at : (test : Path → Bool) (xs : List Path) (q : Path) → exists q xs → test q ≡ true → list_any test xs ≡ true
 any_at test [] q h t = absurd (true≢false (sym h))
 any_at test (x ∷ xs) q h t =
     elim (or_cases (same_path q x) (list_any (same_path q) xs) h) [
@@ -50,7 +50,7 @@ any_at test (x ∷ xs) q h t =
       | inr r ↦ or_right (test x) _ (any_at test xs q r t)
     ]
 
-pub any_from : (test : Path → Bool) (xs : List Path) → list_any test xs ≡ true → (q : Path) × stands q xs × (test q ≡ true)
+pub any_from : (test : Path → Bool) (xs : List Path) → list_any test xs ≡ true → (q : Path) × exists q xs × (test q ≡ true)
 any_from test [] h = absurd (true≢false (sym h))
 any_from test (x ∷ xs) h =
     elim (or_cases (test x) (list_any test xs) h) [
@@ -58,7 +58,7 @@ any_from test (x ∷ xs) h =
       | inr r ↦ let found = any_from test xs r in (found.0, or_right (same_path found.0 x) _ found.1, found.2)
     ]
 
-pub all_at : (P : Path → Type 0) (xs : List Path) (q : Path) → AllByRecursion P xs → stands q xs → P q
+pub all_at : (P : Path → Type 0) (xs : List Path) (q : Path) → AllByRecursion P xs → exists q xs → P q
 all_at P [] q all h = absurd (true≢false (sym h))
 all_at P (x ∷ xs) q all h =
     elim (or_cases (same_path q x) (list_any (same_path q) xs) h) [
@@ -66,47 +66,47 @@ all_at P (x ∷ xs) q all h =
       | inr r ↦ all_at P xs q all.1 r
     ]
 
-pub all_from : (P : Path → Type 0) (xs : List Path) → ((q : Path) → stands q xs → P q) → AllByRecursion P xs
+pub all_from : (P : Path → Type 0) (xs : List Path) → ((q : Path) → exists q xs → P q) → AllByRecursion P xs
 all_from P [] each = tt
 all_from P (x ∷ xs) each =
     (each x (or_left _ _ (same_path-refl x)), all_from P xs (λ q h. each q (or_right (same_path q x) _ h)))
 
-pub stands-flat_map : (f : Path → List Path) (xs : List Path) (x q : Path) → stands x xs → stands q (f x) → stands q (flat_map f xs)
-stands-flat_map f [] x q h g = absurd (true≢false (sym h))
-stands-flat_map f (y ∷ xs) x q h g =
+pub exists-flat_map : (f : Path → List Path) (xs : List Path) (x q : Path) → exists x xs → exists q (f x) → exists q (flat_map f xs)
+exists-flat_map f [] x q h g = absurd (true≢false (sym h))
+exists-flat_map f (y ∷ xs) x q h g =
     elim (or_cases (same_path x y) (list_any (same_path x) xs) h) [
-      | inl e ↦ stands-append_left q (f y) (flat_map f xs) (subst (λ z. stands q (f z)) ((same_path-Decides x y).0 e) g)
-      | inr r ↦ stands-append_right q (f y) (flat_map f xs) (stands-flat_map f xs x q r g)
+      | inl e ↦ exists-append_left q (f y) (flat_map f xs) (subst (λ z. exists q (f z)) ((same_path-Decides x y).0 e) g)
+      | inr r ↦ exists-append_right q (f y) (flat_map f xs) (exists-flat_map f xs x q r g)
     ]
 
-pub stands_in-flat_map : (f : Path → List Path) (xs : List Path) (q : Path) → stands q (flat_map f xs) → (x : Path) × stands x xs × stands q (f x)
-stands_in-flat_map f [] q h = absurd (true≢false (sym h))
-stands_in-flat_map f (y ∷ xs) q h =
-    elim (stands-append_cases q (f y) (flat_map f xs) h) [
+pub exists_in-flat_map : (f : Path → List Path) (xs : List Path) (q : Path) → exists q (flat_map f xs) → (x : Path) × exists x xs × exists q (f x)
+exists_in-flat_map f [] q h = absurd (true≢false (sym h))
+exists_in-flat_map f (y ∷ xs) q h =
+    elim (exists-append_cases q (f y) (flat_map f xs) h) [
       | inl g ↦ (y, or_left _ _ (same_path-refl y), g)
-      | inr r ↦ let found = stands_in-flat_map f xs q r in (found.0, or_right (same_path found.0 y) _ found.1, found.2)
+      | inr r ↦ let found = exists_in-flat_map f xs q r in (found.0, or_right (same_path found.0 y) _ found.1, found.2)
     ]
 
-pub stands_from_Contains : (q : Path) (xs : List Path) → Contains xs q → stands q xs
-stands_from_Contains q [] (k, within, e) = absurd (omega arith)
-stands_from_Contains q (x ∷ xs) (zero, within, e) = or_left _ _ ((same_path-Decides q x).1 (sym e))
-stands_from_Contains q (x ∷ xs) (suc k, within, e) = or_right (same_path q x) _ (stands_from_Contains q xs (k, omega arith, e))
+pub exists_from_Contains : (q : Path) (xs : List Path) → Contains xs q → exists q xs
+exists_from_Contains q [] (k, within, e) = absurd (omega arith)
+exists_from_Contains q (x ∷ xs) (zero, within, e) = or_left _ _ ((same_path-Decides q x).1 (sym e))
+exists_from_Contains q (x ∷ xs) (suc k, within, e) = or_right (same_path q x) _ (exists_from_Contains q xs (k, omega arith, e))
 
-pub Contains_from_stands : (q : Path) (xs : List Path) → stands q xs → Contains xs q
-Contains_from_stands q [] h = absurd (true≢false (sym h))
-Contains_from_stands q (x ∷ xs) h =
+pub Contains_from_exists : (q : Path) (xs : List Path) → exists q xs → Contains xs q
+Contains_from_exists q [] h = absurd (true≢false (sym h))
+Contains_from_exists q (x ∷ xs) h =
     elim (or_cases (same_path q x) (list_any (same_path q) xs) h) [
       | inl e ↦ (zero, omega arith, sym ((same_path-Decides q x).0 e))
-      | inr r ↦ let found = Contains_from_stands q xs r in (suc found.0, omega (arith, found.1), found.2)
+      | inr r ↦ let found = Contains_from_exists q xs r in (suc found.0, omega (arith, found.1), found.2)
     ]
 
 -- ---- finite sets
 
-pub contains_from_stands : (xs : List Path) (q : Path) → stands q xs → set.contains (set.from_list {R = path_cmp} xs) q ≡ true
-contains_from_stands xs q h = set.contains-from_list path_cmp_total xs q ∙ h
+pub contains_from_exists : (xs : List Path) (q : Path) → exists q xs → set.contains (set.from_list {R = path_cmp} xs) q ≡ true
+contains_from_exists xs q h = set.contains-from_list path_cmp_total xs q ∙ h
 
-pub stands_from_contains : (xs : List Path) (q : Path) → set.contains (set.from_list {R = path_cmp} xs) q ≡ true → stands q xs
-stands_from_contains xs q h = sym (set.contains-from_list path_cmp_total xs q) ∙ h
+pub exists_from_contains : (xs : List Path) (q : Path) → set.contains (set.from_list {R = path_cmp} xs) q ≡ true → exists q xs
+exists_from_contains xs q h = sym (set.contains-from_list path_cmp_total xs q) ∙ h
 
 pub any_in-at : (s : PathSet) (test : Path → Bool) (q : Path) → set.contains s q ≡ true → test q ≡ true → any_in s test ≡ true
 any_in-at s test q h t = any_at test (set.items s) q (sym (set.contains-items s q) ∙ h) t
@@ -118,8 +118,8 @@ any_in-from s test h = let found = any_from test (set.items s) h in (found.0, se
 pub any_in-from_list : (test : Path → Bool) (xs : List Path) → any_in (set.from_list xs) test ≡ list_any test xs
 any_in-from_list test xs =
     by_truth _ _
-    (λ h. let found = any_in-from (set.from_list xs) test h in any_at test xs found.0 (stands_from_contains xs found.0 found.1) found.2)
-    (λ h. let found = any_from test xs h in any_in-at (set.from_list xs) test found.0 (contains_from_stands xs found.0 found.1) found.2)
+    (λ h. let found = any_in-from (set.from_list xs) test h in any_at test xs found.0 (exists_from_contains xs found.0 found.1) found.2)
+    (λ h. let found = any_from test xs h in any_in-at (set.from_list xs) test found.0 (contains_from_exists xs found.0 found.1) found.2)
 
 pub union_left : (s t : PathSet) (q : Path) → set.contains s q ≡ true → set.contains (set.union s t) q ≡ true
 union_left s t q h = set.contains-union path_cmp_total s t q ∙ or_left _ _ h

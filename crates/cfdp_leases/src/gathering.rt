@@ -137,9 +137,9 @@ fn add_above(
     }
 }
 
-/// Adds the proper ancestors of a path to paths that have those of each. Looks for its parent at the index `guess`
-/// first, and returns the index at which it is then, or the guess where it has none. Cost: that of `find_parent`, and
-/// where the parent is not there that of `insert_ancestors`. No ancestor is searched for twice.
+/// Adds the proper ancestors of a path. `paths` has the ancestors of each of its paths already. The search for the
+/// parent begins at index `guess`; returned is the parent's index, or `guess` if the path has none. Cost: that of
+/// `find_parent`, and if the parent is not there that of `insert_ancestors`. No ancestor is searched for twice.
 fn add_ancestors(
     alloc: Global,
     paths: &mut Vec<Path>,

@@ -84,7 +84,7 @@ impl Holders {
 
 /// A leased path and its holders.
 #[derive(Debug, Drop)]
-struct Row {
+struct LeasedPath {
     path: Path,
     holders: Holders,
 }
@@ -96,8 +96,8 @@ struct Row {
 #[derive(Debug, Drop)]
 pub(crate) struct LeasedPaths {
     /// By hash, one path that has it.
-    rows: BTreeMap<u64, Row>,
-    /// The paths that came while another path with their hash was in `rows`. No path is in both.
+    by_hash: BTreeMap<u64, LeasedPath>,
+    /// The paths that came while another path with their hash was in `by_hash`. No path is in both.
     others: BTreeMap<Path, Holders>,
 }
 
@@ -107,7 +107,7 @@ impl LeasedPaths {
         ensures { Holds result (λ _. []) }
     {
         LeasedPaths {
-            rows: BTreeMap::new(alloc),
+            by_hash: BTreeMap::new(alloc),
             others: BTreeMap::new(alloc),
         }
     }
@@ -117,8 +117,8 @@ impl LeasedPaths {
     pub(crate) fn first(&self, path: &Path) -> Option<Holder>
         ensures { (holders : Names → List Holder) → Holds self.now holders → result ≡ slice_get (holders path.now) 0 }
     {
-        match self.rows.get(&path.hash()) {
-            Some(row) if row.path == *path => row.holders.first(),
+        match self.by_hash.get(&path.hash()) {
+            Some(held_path) if held_path.path == *path => held_path.holders.first(),
             _ => self.others.get(path)?.first(),
         }
     }
@@ -162,7 +162,7 @@ impl LeasedPaths {
     {
         self.drop_all(footprint.exclusive());
         self.remove_all(footprint.shared(), transaction);
-        give_back(&mut self.rows);
+        give_back(&mut self.by_hash);
         give_back(&mut self.others);
     }
 
@@ -170,7 +170,7 @@ impl LeasedPaths {
     pub(crate) fn clear(&mut self)
         ensures { Holds self.new (λ _. []) }
     {
-        self.rows.clear();
+        self.by_hash.clear();
         self.others.clear();
     }
 
@@ -227,9 +227,9 @@ impl LeasedPaths {
         let hash = path.hash();
         let path = path.copy(alloc)?;
         let holders = Holders::One(holder);
-        match self.rows.entry(hash)? {
+        match self.by_hash.entry(hash)? {
             Entry::Vacant(slot) => {
-                slot.insert(Row { path, holders });
+                slot.insert(LeasedPath { path, holders });
             }
             Entry::Occupied(_) => {
                 self.others.insert(path, holders)?;
@@ -258,35 +258,35 @@ impl LeasedPaths {
             → OnOk result (Holds self.new (λ p. holders p ++ when (same_path p path.now) holder)) }
         ensures err { (holders : Names → List Holder) → Holds self.old holders → OnErr result (Holds self.new holders) }
     {
-        // `entry` may take memory where no row is under the hash, and a path that is among the others needs no row.
+        // `entry` may take memory where no path is under the hash, and a path that is among the others needs none.
         if self.others.is_empty() {
-            return self.add_to_rows(alloc, path, holder);
+            return self.add_by_hash(alloc, path, holder);
         }
-        match self.rows.get_mut(&path.hash()) {
-            Some(row) if row.path == *path => row.holders.add(alloc, holder),
+        match self.by_hash.get_mut(&path.hash()) {
+            Some(held_path) if held_path.path == *path => held_path.holders.add(alloc, holder),
             _ => self.add_other(alloc, path, holder),
         }
     }
 
-    /// Adds a holder to a path that is not in `others`, after those that it has. Cost: one search in `rows`; the path
-    /// is copied where nobody holds it yet.
-    fn add_to_rows(&mut self, alloc: Global, path: &Path, holder: Holder) -> Result<(), Memory>
+    /// Adds a holder to a path that is not in `others`, after those that it has. Cost: one search in `by_hash`; the
+    /// path is copied where nobody holds it yet.
+    fn add_by_hash(&mut self, alloc: Global, path: &Path, holder: Holder) -> Result<(), Memory>
         requires { get path_cmp self.old.others path.now ≡ None }
         ensures ok { (holders : Names → List Holder) → Holds self.old holders
             → OnOk result (Holds self.new (λ p. holders p ++ when (same_path p path.now) holder)) }
         ensures err { (holders : Names → List Holder) → Holds self.old holders → OnErr result (Holds self.new holders) }
     {
-        match self.rows.entry(path.hash())? {
+        match self.by_hash.entry(path.hash())? {
             Entry::Vacant(slot) => {
                 let path = path.copy(alloc)?;
                 let holders = Holders::One(holder);
-                slot.insert(Row { path, holders });
+                slot.insert(LeasedPath { path, holders });
                 Ok(())
             }
             Entry::Occupied(slot) => {
-                let row = slot.into_mut();
-                if row.path == *path {
-                    return row.holders.add(alloc, holder);
+                let held_path = slot.into_mut();
+                if held_path.path == *path {
+                    return held_path.holders.add(alloc, holder);
                 }
                 self.others.insert(path.copy(alloc)?, Holders::One(holder))?;
                 Ok(())
@@ -294,7 +294,7 @@ impl LeasedPaths {
         }
     }
 
-    /// Adds a holder to a path that is not in `rows`, after those that it has.
+    /// Adds a holder to a path that is not in `by_hash`, after those that it has.
     fn add_other(&mut self, alloc: Global, path: &Path, holder: Holder) -> Result<(), Memory>
         requires { IsOtherPath self.old path.now }
         ensures ok { (holders : Names → List Holder) → Holds self.old holders
@@ -323,9 +323,9 @@ impl LeasedPaths {
             → Holds self.new (λ p. if same_path p path.now then [] else holders p) }
     {
         let hash = path.hash();
-        match self.rows.get(&hash) {
-            Some(row) if row.path == *path => {
-                let _ = self.rows.remove(&hash);
+        match self.by_hash.get(&hash) {
+            Some(held_path) if held_path.path == *path => {
+                let _ = self.by_hash.remove(&hash);
             }
             _ => {
                 let _ = self.others.remove(path);
@@ -350,18 +350,18 @@ impl LeasedPaths {
             → Holds self.new (λ p. if same_path p path.now then others transaction (holders p) else holders p) }
     {
         let hash = path.hash();
-        match self.rows.get_mut(&hash) {
-            Some(row) if row.path == *path => {
-                if row.holders.remove(transaction) {
-                    self.rows.remove(&hash);
+        match self.by_hash.get_mut(&hash) {
+            Some(held_path) if held_path.path == *path => {
+                if held_path.holders.remove(transaction) {
+                    self.by_hash.remove(&hash);
                 }
             }
             _ => self.remove_other(path, transaction),
         }
     }
 
-    /// Takes the leases of a transaction away from a path that is not in `rows`, and the path where nobody else holds
-    /// it.
+    /// Takes the leases of a transaction away from a path that is not in `by_hash`, and the path where nobody else
+    /// holds it.
     fn remove_other(&mut self, path: &Path, transaction: TransactionId)
         requires { IsOtherPath self.old path.now }
         ensures { (holders : Names → List Holder) → Holds self.old holders

@@ -203,19 +203,19 @@ or_small (x ∷ xs) (y ∷ ys) a b = (or_lt 4 x y a.0 b.0, or_small xs ys a.1 b.
 -- ---- more pairs
 
 module _ (word sub : List ℕ) (i m : ℕ) (digits : Type 0) (next : ArePairs (drop (2 * i) word) sub m digits) where
-  behind_at : (j k : ℕ) → 2 * i + j ≡ k → value_of (get_or (drop (2 * i) word) j 0) ≡ value_of (get_or word k 0)
-  behind_at j k e = ap value_of (get_or-drop (2 * i) word j 0 ∙ ap (λ (n : ℕ). get_or word n 0) e)
+  following_at : (j k : ℕ) → 2 * i + j ≡ k → value_of (get_or (drop (2 * i) word) j 0) ≡ value_of (get_or word k 0)
+  following_at j k e = ap value_of (get_or-drop (2 * i) word j 0 ∙ ap (λ (n : ℕ). get_or word n 0) e)
 
   next_spelled : digits → (k : ℕ) → i ≤ k → k < i + m → get_or sub (k - i) 0 ≡ octet_at word k
   next_spelled few k from to =
       next.spelled few (k - i) (omega arith)
-      ∙ ap (λ (x : ℕ). x * 16 + value_of (get_or (drop (2 * i) word) (2 * (k - i) + 1) 0)) (behind_at (2 * (k - i)) (2 * k) (omega arith))
-      ∙ ap (λ (x : ℕ). value_of (get_or word (2 * k) 0) * 16 + x) (behind_at (2 * (k - i) + 1) (2 * k + 1) (omega arith))
+      ∙ ap (λ (x : ℕ). x * 16 + value_of (get_or (drop (2 * i) word) (2 * (k - i) + 1) 0)) (following_at (2 * (k - i)) (2 * k) (omega arith))
+      ∙ ap (λ (x : ℕ). value_of (get_or word (2 * k) 0) * 16 + x) (following_at (2 * (k - i) + 1) (2 * k + 1) (omega arith))
 
   next_good : ((k : ℕ) → k < 2 * (i + m) → value_of (get_or word k 0) < 16) → digits
   next_good all =
       let P : ℕ → Type 0 = λ n. n < 16 in
-      next.good (λ k h. subst P (sym (behind_at k (2 * i + k) refl)) (all (2 * i + k) (omega arith)))
+      next.good (λ k h. subst P (sym (following_at k (2 * i + k) refl)) (all (2 * i + k) (omega arith)))
 
   -- also where pairs from i on were decoded already
   pub pairs_more : (room post : List ℕ) (n : ℕ) (before whole : Type 0) → ArePairs word room n before → i ≤ n → n ≤ i + m → i ≤ length room
@@ -236,7 +236,7 @@ module _ (word sub : List ℕ) (i m : ℕ) (digits : Type 0) (next : ArePairs (d
         ];
         tested = λ few k h. elim (cases_lt k (2 * i)) [
           | inl earlier ↦ pairs.tested (both few).0 k (omega arith)
-          | inr after ↦ subst P (behind_at (k - 2 * i) k (omega arith)) (next.tested (both few).1 (k - 2 * i) (omega arith))
+          | inr after ↦ subst P (following_at (k - 2 * i) k (omega arith)) (next.tested (both few).1 (k - 2 * i) (omega arith))
         ];
         good = λ all. join (pairs.good (λ k h. all k (omega arith))) (next_good all);
       }

@@ -28,12 +28,12 @@ words_of-parts (octet ∷ word) parts n = let some : is_word (octet ∷ word) �
 pub words_of-last : (word : List ℕ) → All (λ octet. is_space octet ≡ false) word → 0 < length word → words_of word ≡ word ∷ []
 words_of-last word h n = ap (filter is_word) (slice_split_none is_space word h) ∙ words_of-parts word [] n
 
-pub words_of-first : (word behind : List ℕ) → All (λ octet. is_space octet ≡ false) word → 0 < length word
-    → words_of (word ++ 32 ∷ behind) ≡ word ∷ words_of (32 ∷ behind)
-words_of-first word behind h n =
-    ap (filter is_word) (slice_split_at is_space word 32 behind h refl)
-    ∙ words_of-parts word (slice_split is_space behind) n
-    ∙ ap (λ words. word ∷ words) (sym (words_of-space behind))
+pub words_of-first : (word following : List ℕ) → All (λ octet. is_space octet ≡ false) word → 0 < length word
+    → words_of (word ++ 32 ∷ following) ≡ word ∷ words_of (32 ∷ following)
+words_of-first word following h n =
+    ap (filter is_word) (slice_split_at is_space word 32 following h refl)
+    ∙ words_of-parts word (slice_split is_space following) n
+    ∙ ap (λ words. word ∷ words) (sym (words_of-space following))
 
 -- up to the first space, if there is one
 pub words_of-at : (line : List ℕ) (at : ℕ) → get_or line 0 0 ≢ 32 → at < length line

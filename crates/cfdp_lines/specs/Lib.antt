@@ -1,4 +1,5 @@
 pub mod Answers
+pub mod Cutting
 pub mod FaultTexts
 pub mod Hexadecimal
 pub mod Lines

@@ -103,7 +103,7 @@ fn decode_pairs(word: &[u8], room: &mut [u8]) -> u8
 }
 
 /// How many pairs of digits a piece of a word has. The last piece has fewer than twice as many.
-const PIECE: usize = 1024;
+const PIECE_PAIRS: usize = 1024;
 
 /// Decodes a word into room for as many octets as it has pairs of digits, by pieces. A bad digit is found at the end of
 /// its piece, which has fewer than 2,048 pairs. Nothing is decoded after that piece.
@@ -117,8 +117,8 @@ pub(crate) fn decode_into(word: &[u8], room: &mut [u8]) -> Result<(), LineFault>
         return Err(LineFault::Bad);
     }
     let mut start = 0;
-    'pieces: while room.len() - start >= 2 * PIECE {
-        let end = start + PIECE;
+    'pieces: while room.len() - start >= 2 * PIECE_PAIRS {
+        let end = start + PIECE_PAIRS;
         if decode_pairs(&word[2 * start..2 * end], &mut room[start..end]) >= 16 {
             return Err(LineFault::Bad);
         }

@@ -2,9 +2,11 @@
 //!
 //! Octets are read some ten thousand at a time. Answers are held back: they are written when 64 KiB of them are full,
 //! before each read of input, and at the end. What a line does is a [`Script`]'s to say; why a run can stop before its
-//! end is said here. So are the words of a line, and the numbers and octets that they spell.
+//! end is said here. So is where octets are cut into lines, and so are the words of a line, and the numbers and octets
+//! that they spell.
 #![tactic(auto)]
 
+mod cutting;
 mod digits;
 mod fault_lines;
 mod faults;
@@ -15,6 +17,7 @@ mod session;
 mod whole_run;
 mod words;
 
+pub use cutting::{OpenLine, first_line};
 pub use fault_lines::{LinkLine, RunLine};
 pub use faults::{LineFault, LinkFault, RunFault};
 pub use hexadecimal::{decode_line, decode_within, decode_words};

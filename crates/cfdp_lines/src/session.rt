@@ -2,7 +2,7 @@
 ghost use Rattle.std.specs.Prelude.{◌≡◌, ◌≢◌, ◌↔◌, ℕ, ◌+◌, ◌<◌, ◌≤◌, ◌^◌, true, List, [], ◌∷◌, ◌++◌, length, take, Option, Some, None, IfOk, OnOk, OnErr, Err};
 ghost use Rattle.std.specs.Io.KnownBytes.{Appends, Keeps};
 ghost use Rattle.cfdp_lines.specs.Answers.{AnswersLine, Adds};
-ghost use Rattle.cfdp_lines.specs.Lines.{IsOneLine, line_limit};
+ghost use Rattle.cfdp_lines.specs.Cutting.{IsOpenLine};
 ghost use Rattle.cfdp_lines.specs.Report.{line_answer, wrote, empty_report, stopped_at};
 ghost use Rattle.cfdp_lines.specs.Session.{StopsBad};
 ghost use Rattle.cfdp_lines.specs.code.Session.{RefusesMemory, Runs, RunsBad, RunsPart, RunsLost, Finishes, FinishesBad, FinishesLost};
@@ -11,11 +11,11 @@ ghost use Rattle.cfdp_streams.specs.code.Streams.{Spills};
 ghost use Rattle.cfdp_lines.specs.declared.faults.RunFault.TheVariants.{Read, Write, Memory, BadLine};
 ghost use Rattle.cfdp_lines.specs.declared.faults.LineFault.TheVariants.{Bad};
 
+use crate::cutting::OpenLine;
 use crate::faults::{LineFault, RunFault};
-use crate::limits::{COMMENT, LINE_LIMIT, NEWLINE};
+use crate::limits::{COMMENT, LINE_LIMIT};
 use crate::script::Script;
 use cfdp_streams::{ScriptOut, write_all};
-use memchr::memchr;
 use std::alloc::Global;
 
 /// How much text is held back at most before it is written, in octets, the answer to the last line apart.
@@ -26,12 +26,11 @@ const FULL: usize = 65_536;
 #[derive(Drop)]
 pub(crate) struct LineSession<S> {
     pub(crate) script: S,
-    pub(crate) line: Vec<u8>,
+    pub(crate) line: OpenLine,
     /// The number of that line, counted from 1.
     pub(crate) number: u64,
     pub(crate) text: Vec<u8>,
-    ghost one_line: { IsOneLine line.items },
-    ghost within: { length line.items ≤ line_limit },
+    ghost whole: { IsOpenLine line },
 }
 
 /// Runs a line, and appends its text. A line that is bad or too long is reported even where memory is refused.
@@ -61,13 +60,13 @@ impl<S: Script> LineSession<S> {
     /// Before the first octet.
     pub(crate) fn new(alloc: Global, script: S) -> Self
         ensures script { result.script ≡ script }
-        ensures line { result.line.items ≡ [] }
+        ensures line { result.line ≡ [] }
         ensures number { result.number ≡ 1 }
         ensures text { result.text.items ≡ [] }
     {
         LineSession {
             script,
-            line: Vec::new(alloc),
+            line: OpenLine::new(alloc),
             number: 1,
             text: Vec::new(alloc),
         }
@@ -86,66 +85,6 @@ impl<S: Script> LineSession<S> {
         }
     }
 
-    /// Runs the line that was read, and appends its text to what is to be written.
-    fn run_line(&mut self, alloc: Global) -> Result<(), LineFault>
-        ensures line { self.new.line ≡ self.old.line }
-        ensures number { self.new.number ≡ self.old.number }
-        ensures ok { OnOk result (AnswersLine (line_answer S.answer) (S.state self.old.script) (S.state self.new.script)
-            self.old.line.items self.old.text.items self.new.text.items) }
-        ensures bad { (result ≡ Err Bad) ↔ (line_answer S.answer (S.state self.old.script) self.old.line.items ≡ None) }
-        ensures kept { OnErr result (self.new.text.items ≡ self.old.text.items) }
-    {
-        answer_line(&mut self.script, alloc, &self.line, &mut self.text)
-    }
-
-    /// Runs a line that is whole in the octets that came. It is not copied.
-    fn run_whole(&mut self, alloc: Global, line: &[u8]) -> Result<(), LineFault>
-        requires { self.old.number + 1 < 2 ^ 64 }
-        ensures ok { OnOk result (AnswersLine (line_answer S.answer) (S.state self.old.script) (S.state self.new.script)
-            line.now self.old.text.items self.new.text.items) }
-        ensures line { self.new.line ≡ self.old.line }
-        ensures number { OnOk result (self.new.number ≡ self.old.number + 1) }
-        ensures bad { (result ≡ Err Bad) ↔ (line_answer S.answer (S.state self.old.script) line.now ≡ None) }
-        ensures kept { OnErr result (self.new.text.items ≡ self.old.text.items) }
-        ensures same { OnErr result (self.new.number ≡ self.old.number) }
-    {
-        answer_line(&mut self.script, alloc, line, &mut self.text)?;
-        self.number += 1;
-        Ok(())
-    }
-
-    /// Takes some octets of the line that is being read. Too many are reported even where memory is refused.
-    fn gather(&mut self, part: &[u8]) -> Result<(), LineFault>
-        requires { IsOneLine part.now }
-        ensures script { self.new.script ≡ self.old.script }
-        ensures number { self.new.number ≡ self.old.number }
-        ensures text { self.new.text ≡ self.old.text }
-        ensures ok { OnOk result (self.new.line.items ≡ self.old.line.items ++ part.now) }
-        ensures bad { (result ≡ Err Bad) ↔ (line_limit < length self.old.line.items + length part.now) }
-    {
-        if part.len() > LINE_LIMIT - self.line.len() {
-            return Err(LineFault::Bad);
-        }
-        Ok(self.line.extend_from_slice(part)?)
-    }
-
-    /// The line that was read ends here, and is run.
-    fn end_line(&mut self, alloc: Global) -> Result<(), LineFault>
-        requires { self.old.number + 1 < 2 ^ 64 }
-        ensures ok { OnOk result (AnswersLine (line_answer S.answer) (S.state self.old.script) (S.state self.new.script)
-            self.old.line.items self.old.text.items self.new.text.items) }
-        ensures line { OnOk result (self.new.line.items ≡ []) }
-        ensures number { OnOk result (self.new.number ≡ self.old.number + 1) }
-        ensures bad { (result ≡ Err Bad) ↔ (line_answer S.answer (S.state self.old.script) self.old.line.items ≡ None) }
-        ensures kept { OnErr result (self.new.text.items ≡ self.old.text.items) }
-        ensures same { OnErr result (self.new.number ≡ self.old.number) }
-    {
-        self.run_line(alloc)?;
-        self.line.clear();
-        self.number += 1;
-        Ok(())
-    }
-
     /// Takes the next octets of the script up to the next newline, or all where there is none, and returns how many;
     /// a line that ends is run. Only a line that did not come whole is copied.
     fn take(&mut self, alloc: Global, octets: &[u8]) -> Result<usize, LineFault>
@@ -160,23 +99,19 @@ impl<S: Script> LineSession<S> {
         ensures bad { result ≡ Err Bad → StopsBad S.answer (session_reading S.state self.old) octets.now []
             self.old.number }
         // Of a line that came whole, or is too long already, a bad one is reported even where memory is refused.
-        ensures refused { result ≡ Err LineFault.Memory → self.old.line.items ≡ []
+        ensures refused { result ≡ Err LineFault.Memory → self.old.line ≡ []
             → StopsBad S.answer (session_reading S.state self.old) octets.now [] self.old.number → ⊥ }
         ensures kept { OnErr result (self.new.text.items ≡ self.old.text.items) }
         ensures same { OnErr result (self.new.number ≡ self.old.number) }
     {
-        let Some(at) = memchr(NEWLINE, octets) else {
-            self.gather(octets)?;
+        let Some(end) = self.line.take(octets)? else {
             return Ok(octets.len());
         };
-        let line = &octets[..at];
-        if self.line.is_empty() {
-            self.run_whole(alloc, line)?;
-            return Ok(at + 1);
-        }
-        self.gather(line)?;
-        self.end_line(alloc)?;
-        Ok(at + 1)
+        let line = self.line.ended(octets, end);
+        answer_line(&mut self.script, alloc, line, &mut self.text)?;
+        self.line.clear();
+        self.number += 1;
+        Ok(end + 1)
     }
 
     /// Writes the text that was held back.
@@ -231,7 +166,7 @@ impl<S: Script> LineSession<S> {
             octets.now n (W.contents writer.old) (W.contents writer.new) }
         ensures memory { result ≡ Err Memory → RunsPart S.answer (session_reading S.state self.old)
             octets.now (W.contents writer.old) (W.contents writer.new) }
-        // Memory was refused to a line that is not bad, as far as it came whole.
+        // Memory was refused, and the line so far is not bad.
         ensures refused { result ≡ Err Memory → RefusesMemory S.answer (session_reading S.state self.old) octets.now }
         ensures write { result ≡ Err Write → RunsLost S.answer (session_reading S.state self.old)
             octets.now (W.contents writer.old) (W.contents writer.new) }
@@ -267,17 +202,18 @@ impl<S: Script> LineSession<S> {
             n (W.contents writer.old) (W.contents writer.new) }
         ensures memory { result ≡ Err Memory → Keeps (W.contents writer.old) (W.contents writer.new) }
         ensures refused { result ≡ Err Memory
-            → line_answer S.answer (S.state self.old.script) self.old.line.items ≡ None → ⊥ }
+            → line_answer S.answer (S.state self.old.script) self.old.line ≡ None → ⊥ }
         ensures write { result ≡ Err Write → FinishesLost S.answer (session_reading S.state self.old)
             (W.contents writer.old) (W.contents writer.new) }
         ensures well { result ≢ Err Write → W.failed writer.new ≡ W.failed writer.old }
         ensures fails { result ≡ Err Write → W.failed writer.new ≡ true }
         ensures never_reads { result ≢ Err Read }
     {
-        if self.line.is_empty() {
+        let line = self.line.octets();
+        if line.is_empty() {
             return Ok(());
         }
-        match self.run_line(alloc) {
+        match answer_line(&mut self.script, alloc, line, &mut self.text) {
             Ok(()) => self.flush(writer),
             Err(fault) => Err(self.fault(fault)),
         }

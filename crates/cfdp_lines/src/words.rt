@@ -37,8 +37,8 @@ pub fn next_word<'a>(line: &mut &'a [u8]) -> Option<&'a [u8]>
         *line = &[];
         return Some(rest);
     };
-    let (word, behind) = rest.split_at(end);
-    *line = behind;
+    let (word, following) = rest.split_at(end);
+    *line = following;
     Some(word)
 }
 

@@ -106,24 +106,24 @@ files_from-bad file stage said script scripts line read =
     ap (λ (r : Result Reading ℕ). files_then file said r (λ after more. files_from (file + 1) after more scripts)) read
 
 -- a bad line in the file that comes next is the first one
-pub bad_behind : {X : Type 0} (octets : X → List ℕ) (file : ℕ) (stage : ReplayStage) (said : List (List Said)) (all : List X) (one : X)
+pub bad_following : {X : Type 0} (octets : X → List ℕ) (file : ℕ) (stage : ReplayStage) (said : List (List Said)) (all : List X) (one : X)
     (script : List ℕ) (fault : LinkFault) → file < length all → one ≡ get_or all file one → script ≡ octets one
     → files_from file stage said (map octets (drop file all)) ≡ link_files (map octets all)
     → ((more : List (List ℕ)) → IsBadFile (files_from file stage said (script ∷ more)) fault) → IsBadFile (link_files (map octets all)) fault
-bad_behind octets file stage said all one script fault within at is reads bad =
+bad_following octets file stage said all one script fault within at is reads bad =
     let rest = map octets (drop (suc file) all) in
     let first : script ∷ rest ≡ map octets (drop file all) =
     ap (λ (s : List ℕ). s ∷ rest) (is ∙ ap octets at) ∙ sym (ap (map octets) (drop-cons all file one within)) in
     subst (λ (read : Result Files (ℕ × ℕ)). IsBadFile read fault) (ap (files_from file stage said) first ∙ reads) (bad rest)
 
 -- one file more, of which only what may be handed in is said
-pub heard_behind : {X : Type 0} (said : X → List Said) (files more : List X) (file : X) → more ≡ files ++ file ∷ []
+pub heard_following : {X : Type 0} (said : X → List Said) (files more : List X) (file : X) → more ≡ files ++ file ∷ []
     → AllByRecursion IsHeard (said file) → AllByRecursion (λ f. AllByRecursion IsHeard (said f)) files
     → AllByRecursion (λ f. AllByRecursion IsHeard (said f)) more
-heard_behind {X = X} said files more file grown last before =
-    subst (AllByRecursion (λ f. AllByRecursion IsHeard (said f))) (sym grown) (all_behind files before)
+heard_following {X = X} said files more file grown last before =
+    subst (AllByRecursion (λ f. AllByRecursion IsHeard (said f))) (sym grown) (all_following files before)
   where
-    all_behind : (fs : List X) → AllByRecursion (λ f. AllByRecursion IsHeard (said f)) fs
+    all_following : (fs : List X) → AllByRecursion (λ f. AllByRecursion IsHeard (said f)) fs
         → AllByRecursion (λ f. AllByRecursion IsHeard (said f)) (fs ++ file ∷ [])
-    all_behind [] known = (last, tt)
-    all_behind (f ∷ fs) known = (known.0, all_behind fs known.1)
+    all_following [] known = (last, tt)
+    all_following (f ∷ fs) known = (known.0, all_following fs known.1)

@@ -7,7 +7,7 @@ use Rattle.std.proofs.lemmas.List.Folds.{list_any-append}
 use Rattle.cfdp_transactions.specs.declared.event.Event.{Event}
 use Rattle.cfdp_transactions.specs.World.{World}
 use Rattle.cfdp_transactions.specs.Writable.{IsReadable, FitsReply, OutcomesFit}
-use Rattle.cfdp_engine.specs.declared.entry.JournalEntry.{JournalEntry}
+use Rattle.cfdp_engine.specs.declared.journal_entry.JournalEntry.{JournalEntry}
 use Rattle.cfdp_engine.specs.declared.receipt.Receipt.{Receipt}
 use Rattle.cfdp_engine.specs.Journal.{IsHistory, journal_events, replies_of}
 use Rattle.cfdp_engine.specs.Seats.{Seated, receipts_in, is_number_taken, SeatsDiffer, AreEntered, AllEntered, IsReconciled}
@@ -94,22 +94,22 @@ pass_one J number place e (r ∷ rs) at entered readable =
 -- ---- what a seat was informed of, and what the journal has of it
 
 -- of these entries, those of each seat have the events of its receipts
-abbrev Told : List JournalEntry → List Seated → Type 0
-Told rest seats = AllByRecursion (λ s. events_by rest s ≡ receipt_events s.receipts) seats
+abbrev AreReceipted : List JournalEntry → List Seated → Type 0
+AreReceipted rest seats = AllByRecursion (λ s. events_by rest s ≡ receipt_events s.receipts) seats
 
-told_other : (e : JournalEntry) (rest : List JournalEntry) (s : Seated) (left : List Receipt) → s.receipts ≡ left → (e.seat ≢ s.number)
+other_receipts : (e : JournalEntry) (rest : List JournalEntry) (s : Seated) (left : List Receipt) → s.receipts ≡ left → (e.seat ≢ s.number)
     → events_by rest (record { number = s.number; receipts = left }) ≡ receipt_events left → events_by (e ∷ rest) s ≡ receipt_events s.receipts
-told_other e rest s left same other told =
+other_receipts e rest s left same other stated =
     let others = filter (λ (x : JournalEntry). x.seat == s.number) rest in
-    ap (λ (b : Bool). journal_events (cond b (e ∷ others) others)) (ne_eqb e.seat s.number other) ∙ told ∙ ap receipt_events (sym same)
+    ap (λ (b : Bool). journal_events (cond b (e ∷ others) others)) (ne_eqb e.seat s.number other) ∙ stated ∙ ap receipt_events (sym same)
 
-told_own : (e : JournalEntry) (rest : List JournalEntry) (s : Seated) (left : List Receipt) → receipt_events s.receipts ≡ e.event ∷ receipt_events left →
+own_receipt : (e : JournalEntry) (rest : List JournalEntry) (s : Seated) (left : List Receipt) → receipt_events s.receipts ≡ e.event ∷ receipt_events left →
     (e.seat ≡ s.number)
     → events_by rest (record { number = s.number; receipts = left }) ≡ receipt_events left → events_by (e ∷ rest) s ≡ receipt_events s.receipts
-told_own e rest s left same own told =
+own_receipt e rest s left same own stated =
     let others = filter (λ (x : JournalEntry). x.seat == s.number) rest in
     ap (λ (b : Bool). journal_events (cond b (e ∷ others) others)) (eq-eqb e.seat s.number own)
-    ∙ ap (λ (events : List Event). e.event ∷ events) told
+    ∙ ap (λ (events : List Event). e.event ∷ events) stated
     ∙ sym same
 
 -- ---- all seats
@@ -126,36 +126,36 @@ record Passes (J : List JournalEntry) (place : ℕ) (e : JournalEntry) (seats : 
   differ : Differ left
   none : (number : ℕ) → NoneHas number seats → NoneHas number left
   either : (receipts_in seats ≡ receipts_in left) ⊎ ((receipts_in seats ≡ receipts_in left + 1) × (NoneHas e.seat seats → ⊥) × IsReadable e.event)
-  foreign : (rest : List JournalEntry) → NoneHas e.seat seats → Told rest left → Told (e ∷ rest) seats
-  own : (rest : List JournalEntry) → receipts_in seats ≡ receipts_in left + 1 → Told rest left → Told (e ∷ rest) seats
+  foreign : (rest : List JournalEntry) → NoneHas e.seat seats → AreReceipted rest left → AreReceipted (e ∷ rest) seats
+  own : (rest : List JournalEntry) → receipts_in seats ≡ receipts_in left + 1 → AreReceipted rest left → AreReceipted (e ∷ rest) seats
 
 pass_foreign : (J : List JournalEntry) (place : ℕ) (e : JournalEntry) (s : Seated) (ss : List Seated) (one : PassesOne J s.number place e s.receipts)
     (more : Passes J place e ss) (rest : List JournalEntry) → NoneHas e.seat (s ∷ ss)
-    → Told rest (record { number = s.number; receipts = one.left } ∷ more.left) → Told (e ∷ rest) (s ∷ ss)
-pass_foreign J place e s ss one more rest none told =
+    → AreReceipted rest (record { number = s.number; receipts = one.left } ∷ more.left) → AreReceipted (e ∷ rest) (s ∷ ss)
+pass_foreign J place e s ss one more rest none stated =
     elim one.either [
-      | inl same ↦ (told_other e rest s one.left same (λ is. none.0 (sym is)) told.0, more.foreign rest none.1 told.1)
+      | inl same ↦ (other_receipts e rest s one.left same (λ is. none.0 (sym is)) stated.0, more.foreign rest none.1 stated.1)
       | inr here ↦ absurd (none.0 (sym here.1))
     ]
 
 pass_own : (J : List JournalEntry) (place : ℕ) (e : JournalEntry) (s : Seated) (ss : List Seated) → NoneHas s.number ss
     → (one : PassesOne J s.number place e s.receipts) (more : Passes J place e ss) (rest : List JournalEntry)
     → receipts_in (s ∷ ss) ≡ length one.left + receipts_in more.left + 1
-    → Told rest (record { number = s.number; receipts = one.left } ∷ more.left) → Told (e ∷ rest) (s ∷ ss)
-pass_own J place e s ss apart one more rest counted told =
+    → AreReceipted rest (record { number = s.number; receipts = one.left } ∷ more.left) → AreReceipted (e ∷ rest) (s ∷ ss)
+pass_own J place e s ss apart one more rest counted stated =
     elim one.either [
       | inl same ↦
           let long : length s.receipts ≡ length one.left = ap length same in
           elim more.either [
             | inl others ↦ absurd (omega arith)
             | inr other ↦ (
-              told_other e rest s one.left same (λ is. other.1 (subst (λ (n : ℕ). NoneHas n ss) (sym is) apart)) told.0,
-              more.own rest other.0 told.1,
+              other_receipts e rest s one.left same (λ is. other.1 (subst (λ (n : ℕ). NoneHas n ss) (sym is) apart)) stated.0,
+              more.own rest other.0 stated.1,
             )
           ]
       | inr here ↦ (
-        told_own e rest s one.left here.3 here.1 told.0,
-        more.foreign rest (subst (λ (n : ℕ). NoneHas n ss) (sym here.1) apart) told.1,
+        own_receipt e rest s one.left here.3 here.1 stated.0,
+        more.foreign rest (subst (λ (n : ℕ). NoneHas n ss) (sym here.1) apart) stated.1,
       )
     ]
 
@@ -187,8 +187,8 @@ pass J place e [] at entered readable apart =
       differ = tt;
       none = λ number n. tt;
       either = inl refl;
-      foreign = λ rest none told. tt;
-      own = λ rest counted told. tt;
+      foreign = λ rest none stated. tt;
+      own = λ rest counted stated. tt;
     }
 pass J place e (s ∷ ss) at entered readable apart =
     let one = pass_one J s.number place e s.receipts at entered.0 readable.0 in
@@ -207,10 +207,10 @@ pass J place e (s ∷ ss) at entered readable apart =
 -- ---- all indexes
 
 -- after the last index there is no receipt
-none_behind : (J : List JournalEntry) (number place : ℕ) (rs : List Receipt) → ((i : ℕ) → slice_get J (place + i) ≡ None)
+none_following : (J : List JournalEntry) (number place : ℕ) (rs : List Receipt) → ((i : ℕ) → slice_get J (place + i) ≡ None)
     → AreEntered J number place rs → length rs ≡ 0
-none_behind J number place [] end entered = refl
-none_behind J number place (r ∷ rs) end entered =
+none_following J number place [] end entered = refl
+none_following J number place (r ∷ rs) end entered =
     let rises = entered.0.rises in
     let at : place + (r.place - place) ≡ r.place = omega arith in
     let none : slice_get J r.place ≡ None = subst (λ (i : ℕ). slice_get J i ≡ None) at (end (r.place - place)) in
@@ -220,7 +220,7 @@ none_left : (J : List JournalEntry) (place : ℕ) (seats : List Seated) → ((i 
     ≡ 0
 none_left J place [] end entered = refl
 none_left J place (s ∷ ss) end entered =
-    let one = none_behind J s.number place s.receipts end entered.0 in
+    let one = none_following J s.number place s.receipts end entered.0 in
     let more = none_left J place ss end entered.1 in omega arith
 
 -- there are at most as many receipts as entries are left, and if there are as many, each of these is one of them
@@ -257,31 +257,31 @@ no_receipts : (rs : List Receipt) → length rs ≡ 0 → receipt_events rs ≡ 
 no_receipts [] none = refl
 no_receipts (r ∷ rs) none = absurd (omega arith)
 
-none_told : (seats : List Seated) → receipts_in seats ≡ 0 → Told [] seats
-none_told [] none = tt
-none_told (s ∷ ss) none = (sym (no_receipts s.receipts (omega arith)), none_told ss (omega arith))
+none_receipted : (seats : List Seated) → receipts_in seats ≡ 0 → AreReceipted [] seats
+none_receipted [] none = tt
+none_receipted (s ∷ ss) none = (sym (no_receipts s.receipts (omega arith)), none_receipted ss (omega arith))
 
 -- if there are as many, each seat's entries are its receipts
-told : (J : List JournalEntry) (place : ℕ) (rest : List JournalEntry) (seats : List Seated) → ((i : ℕ) → slice_get J (place + i) ≡ slice_get rest i)
-    → EachFrom J place seats → AllByRecursion HasReadable seats → Differ seats → receipts_in seats ≡ length rest → Told rest seats
-told J place [] seats at entered readable apart all = none_told seats all
-told J place (e ∷ rest) seats at entered readable apart all =
+stated : (J : List JournalEntry) (place : ℕ) (rest : List JournalEntry) (seats : List Seated) → ((i : ℕ) → slice_get J (place + i) ≡ slice_get rest i)
+    → EachFrom J place seats → AllByRecursion HasReadable seats → Differ seats → receipts_in seats ≡ length rest → AreReceipted rest seats
+stated J place [] seats at entered readable apart all = none_receipted seats all
+stated J place (e ∷ rest) seats at entered readable apart all =
     let p = pass J place e seats (subst (λ (i : ℕ). slice_get J i ≡ Some e) (add-zero place) (at 0)) entered readable apart in
-    let behind : (i : ℕ) → slice_get J (place + 1 + i) ≡ slice_get rest i =
+    let following : (i : ℕ) → slice_get J (place + 1 + i) ≡ slice_get rest i =
     λ i. let next : place + 1 + i ≡ place + suc i = omega arith in ap (λ (k : ℕ). slice_get J k) next ∙ at (suc i) in
-    let few = (covered J (place + 1) rest p.left behind p.entered p.readable p.differ).few in
+    let few = (covered J (place + 1) rest p.left following p.entered p.readable p.differ).few in
     elim p.either [
       | inl same ↦ absurd (omega arith)
       | inr here ↦
           let counted = here.0 in
-          p.own rest counted (told J (place + 1) rest p.left behind p.entered p.readable p.differ (omega arith))
+          p.own rest counted (stated J (place + 1) rest p.left following p.entered p.readable p.differ (omega arith))
     ]
 
 from_first : (J : List JournalEntry) (i : ℕ) → slice_get J (0 + i) ≡ slice_get J i
 from_first J i = let same : 0 + i ≡ i = omega arith in ap (λ (k : ℕ). slice_get J k) same
 
 -- what the seats were informed of is what the journal has of them
-handed_by : (J : List JournalEntry) (number : ℕ) (files : List (List Said)) (seats : List Seated) (dropped : List ℕ) → Told J seats
+handed_by : (J : List JournalEntry) (number : ℕ) (files : List (List Said)) (seats : List Seated) (dropped : List ℕ) → AreReceipted J seats
     → AreHanded (λ s. receipt_events s.receipts) number files seats dropped → AreHanded (events_by J) number files seats dropped
 handed_by J number [] [] [] known handed = tt
 handed_by J number (said ∷ files) (seat ∷ seats) (dropped ∷ others) known handed = (
@@ -295,7 +295,7 @@ handed_in : (J : List JournalEntry) (files : List (List Said)) (seats : List Sea
     → AllByRecursion HasReadable seats → AreHanded (λ s. receipt_events s.receipts) 0 files seats dropped → AreHanded (events_by J) 0 files seats dropped
 handed_in J files seats dropped reconciled readable handed =
     handed_by J 0 files seats dropped
-    (told J 0 J seats (from_first J) (each_from J seats reconciled.entered) readable (differ [] seats reconciled.apart) (sym reconciled.counted))
+    (stated J 0 J seats (from_first J) (each_from J seats reconciled.entered) readable (differ [] seats reconciled.apart) (sym reconciled.counted))
     handed
 
 -- where the seats are those that were asked

@@ -24,9 +24,9 @@ config_is a b same =
     let store = first_so (same_store a b) (same_counts a b) rest in
     let counts = second_so (same_store a b) (same_counts a b) rest in
     let blocks = number_is _ _ (first_so (a.blocks == b.blocks) ((a.cap == b.cap) && same_paths a.prefixes b.prefixes) store) in
-    let behind = second_so (a.blocks == b.blocks) ((a.cap == b.cap) && same_paths a.prefixes b.prefixes) store in
-    let cap = number_is _ _ (first_so (a.cap == b.cap) (same_paths a.prefixes b.prefixes) behind) in
-    let prefixes = paths_are _ _ (second_so (a.cap == b.cap) (same_paths a.prefixes b.prefixes) behind) in
+    let following = second_so (a.blocks == b.blocks) ((a.cap == b.cap) && same_paths a.prefixes b.prefixes) store in
+    let cap = number_is _ _ (first_so (a.cap == b.cap) (same_paths a.prefixes b.prefixes) following) in
+    let prefixes = paths_are _ _ (second_so (a.cap == b.cap) (same_paths a.prefixes b.prefixes) following) in
     let checks = number_is _ _ (first_so (a.checks == b.checks) (a.journal == b.journal) counts) in
     let journal = number_is _ _ (second_so (a.checks == b.checks) (a.journal == b.journal) counts) in
     λ i. record { entity = entity i; blocks = blocks i; cap = cap i; checks = checks i; journal = journal i; prefixes = prefixes i }

@@ -9,7 +9,7 @@
 use Rattle.std.specs.Prelude.{ℕ, ◌+◌, List, [], ◌∷◌, ◌++◌, length, codes}
 use Rattle.cfdp_transactions.specs.Events.{about}
 use Rattle.cfdp_transactions.specs.World.{World}
-use Rattle.cfdp_engine.specs.declared.entry.JournalEntry.{JournalEntry}
+use Rattle.cfdp_engine.specs.declared.journal_entry.JournalEntry.{JournalEntry}
 use Rattle.cfdp_engine.specs.Seats.{Seated}
 use Rattle.cfdp_texts.specs.Replies.{number_text, labelled, word, line, reply_line, listing_text}
 

@@ -24,7 +24,7 @@ use Rattle.std.specs.List.{AllByRecursion}
 use Rattle.cfdp_transactions.specs.declared.event.Event.{Event}
 use Rattle.cfdp_transactions.specs.World.{World}
 use Rattle.cfdp_transactions.specs.Writable.{IsReadable}
-use Rattle.cfdp_engine.specs.declared.entry.JournalEntry.{JournalEntry}
+use Rattle.cfdp_engine.specs.declared.journal_entry.JournalEntry.{JournalEntry}
 use Rattle.cfdp_engine.specs.Journal.{IsHistory, journal_events}
 use Rattle.cfdp_engine.specs.Seats.{Seated, IsReconciled}
 use Rattle.cfdp_engine.specs.Sharing.{receipt_events}

@@ -1,19 +1,18 @@
 //! The lines of the files of `links`: what each says to a worker.
-ghost use Rattle.std.specs.Prelude.{◌≡◌, ◌↔◌, ◌<◌, ◌≤◌, ◌∷◌, length, map, IfOk, IfErr, OnOk, OnErr, Err, Ok, Some, None};
+ghost use Rattle.std.specs.Prelude.{◌≡◌, ◌↔◌, ◌≤◌, length, map, IfOk, IfErr, OnOk, OnErr, Err, Ok, Some, None};
 ghost use Rattle.cfdp_commands.specs.Commands.{command_of};
 ghost use Rattle.cfdp_links.specs.code.Linked.{AddsLine, IsBadLine};
-ghost use Rattle.cfdp_lines.specs.Lines.{input_limit, lines_of};
+ghost use Rattle.cfdp_lines.specs.Lines.{input_limit};
 ghost use Rattle.cfdp_links.specs.Links.{Happened, file_said, link_answer, said_by, said_of};
 ghost use Rattle.cfdp_links.specs.code.Links.{said_in};
 ghost use Rattle.cfdp_lines.specs.Report.{line_answer};
 ghost use Rattle.cfdp_commands.specs.Stages.{setup_of};
 ghost use Rattle.cfdp_lines.specs.declared.faults.LineFault.TheVariants.{Bad};
 
-use cfdp_commands::{Command, Room, Setup, read_command};
+use cfdp_commands::{Command, CommandRoom, Setup, read_command};
 use cfdp_engine::Message;
-use cfdp_lines::{COMMENT, LINE_LIMIT, LineFault, LinkFault, NEWLINE};
+use cfdp_lines::{COMMENT, LINE_LIMIT, LineFault, LinkFault, first_line};
 use cfdp_transactions::Event;
-use memchr::memchr;
 use std::alloc::Global;
 use std::sync::Arc;
 
@@ -72,7 +71,7 @@ fn read_words(
     alloc: Global,
     setup: &mut Setup,
     line: &[u8],
-    room: &mut Room,
+    room: &mut CommandRoom,
 ) -> Result<Option<Message>, LineFault>
     ensures ok { IfOk result (λ message. link_answer (setup_of setup.old) line.now
         ≡ Some (setup_of setup.new, said_in message)) }
@@ -90,7 +89,7 @@ fn read_line(
     alloc: Global,
     setup: &mut Setup,
     line: &[u8],
-    room: &mut Room,
+    room: &mut CommandRoom,
 ) -> Result<Option<Message>, LineFault>
     ensures ok { IfOk result (λ message. line_answer link_answer (setup_of setup.old) line.now
         ≡ Some (setup_of setup.new, said_in message)) }
@@ -105,24 +104,12 @@ fn read_line(
     read_words(alloc, setup, line, room)
 }
 
-/// The first line of some octets, and what is after it.
-fn first_line(octets: &[u8]) -> (&[u8], &[u8])
-    requires { 0 < length octets.now }
-    ensures lines { lines_of octets.now ≡ result.0.now ∷ lines_of result.1.now }
-    ensures shorter { length result.1.now < length octets.now }
-{
-    let Some(end) = memchr(NEWLINE, octets) else {
-        return (octets, &[]);
-    };
-    (&octets[..end], &octets[end + 1..])
-}
-
 /// Appends what a line says.
 fn add_line(
     alloc: Global,
     setup: &mut Setup,
     line: &[u8],
-    room: &mut Room,
+    room: &mut CommandRoom,
     messages: &mut Vec<Message>,
 ) -> Result<(), LineFault>
     ensures ok { OnOk result (AddsLine (setup_of setup.old) (setup_of setup.new) line.now
@@ -158,17 +145,17 @@ pub(crate) fn read_file(
     ensures bad { IfErr result (λ fault. IsBadLine (file_said (setup_of setup.old) script.now) file fault) }
 {
     let mut messages = Vec::new(alloc);
-    let mut room = Room::new(alloc);
+    let mut room = CommandRoom::new(alloc);
     let mut rest = script;
     let mut number = 1u64;
     'lines: while !rest.is_empty() {
-        let (line, behind) = first_line(rest);
+        let (line, following) = first_line(rest);
         match add_line(alloc, setup, line, &mut room, &mut messages) {
             Ok(()) => {}
             Err(LineFault::Bad) => return Err(LinkFault::BadLine(file, number)),
             Err(LineFault::Memory) => return Err(LinkFault::Memory),
         }
-        rest = behind;
+        rest = following;
         number += 1;
     }
     Ok(messages)

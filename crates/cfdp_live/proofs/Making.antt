@@ -19,19 +19,19 @@ use Rattle.cfdp_reports.proofs.Sending.{drop_at}
 use Rattle.cfdp_transactions.proofs.Promises.ItemOrder.{or_assoc}
 
 abbrev out : List (List ℕ) → List ℕ → Bool → Out
-out sent told ended = record { sent = sent; told = told; ended = ended }
+out sent reported ended = record { sent = sent; reported = reported; ended = ended }
 
 pub more-nothing : (a : Out) → with_more a nothing ≡ a
 more-nothing a =
-    ap (λ (s : List (List ℕ)). out s (a.told ++ []) (a.ended || false)) (append-nil a.sent)
-    ∙ ap (λ (t : List ℕ). out a.sent t (a.ended || false)) (append-nil a.told)
-    ∙ ap (λ (e : Bool). out a.sent a.told e) (or-false a.ended)
+    ap (λ (s : List (List ℕ)). out s (a.reported ++ []) (a.ended || false)) (append-nil a.sent)
+    ∙ ap (λ (t : List ℕ). out a.sent t (a.ended || false)) (append-nil a.reported)
+    ∙ ap (λ (e : Bool). out a.sent a.reported e) (or-false a.ended)
 
 pub more-assoc : (a b c : Out) → with_more (with_more a b) c ≡ with_more a (with_more b c)
 more-assoc a b c =
-    ap (λ (s : List (List ℕ)). out s ((a.told ++ b.told) ++ c.told) ((a.ended || b.ended) || c.ended)) (append_assoc a.sent b.sent c.sent)
-    ∙ ap (λ (t : List ℕ). out (a.sent ++ (b.sent ++ c.sent)) t ((a.ended || b.ended) || c.ended)) (append_assoc a.told b.told c.told)
-    ∙ ap (λ (e : Bool). out (a.sent ++ (b.sent ++ c.sent)) (a.told ++ (b.told ++ c.told)) e) (or_assoc a.ended b.ended c.ended)
+    ap (λ (s : List (List ℕ)). out s ((a.reported ++ b.reported) ++ c.reported) ((a.ended || b.ended) || c.ended)) (append_assoc a.sent b.sent c.sent)
+    ∙ ap (λ (t : List ℕ). out (a.sent ++ (b.sent ++ c.sent)) t ((a.ended || b.ended) || c.ended)) (append_assoc a.reported b.reported c.reported)
+    ∙ ap (λ (e : Bool). out (a.sent ++ (b.sent ++ c.sent)) (a.reported ++ (b.reported ++ c.reported)) e) (or_assoc a.ended b.ended c.ended)
 
 -- ---- several inputs, and others after them
 
@@ -109,7 +109,7 @@ passes_end left now R start all before made_so none h =
 -- ---- the PDUs of an answer
 
 sent-assoc : (o : Out) (a b : List (List ℕ)) → with_sent (with_sent o a) b ≡ with_sent o (a ++ b)
-sent-assoc o a b = ap (λ (s : List (List ℕ)). out s o.told o.ended) (append_assoc o.sent a b)
+sent-assoc o a b = ap (λ (s : List (List ℕ)). out s o.reported o.ended) (append_assoc o.sent a b)
 
 pub sent_next : (mib : Mib) (pdus : List (List ℕ)) (n : ℕ) (octets : List ℕ) (start now later : Out) → slice_get pdus n ≡ Some octets →
     with_sent now (map (as_sent mib) (drop n pdus)) ≡ start → later ≡ with_sent now (as_sent mib octets ∷ []) →

@@ -24,14 +24,14 @@ use Rattle.cfdp_transactions.specs.declared.reply.Reply.TheVariants.{Refused}
 
 pub record Out : Type 0 where
   pub sent : List (List ℕ)
-  pub told : List ℕ
+  pub reported : List ℕ
   pub ended : Bool
 
 abbrev pub nothing : Out
-nothing = record { sent = []; told = []; ended = false }
+nothing = record { sent = []; reported = []; ended = false }
 
 abbrev pub with_more : Out → Out → Out
-with_more a b = record { sent = a.sent ++ b.sent; told = a.told ++ b.told; ended = a.ended || b.ended }
+with_more a b = record { sent = a.sent ++ b.sent; reported = a.reported ++ b.reported; ended = a.ended || b.ended }
 
 abbrev pub is_end : Indication → Bool
 is_end (TransactionFinished id end) = true
@@ -45,7 +45,7 @@ refusal_line became = []
 abbrev pub made_of_answer : Mib → AnswerFields → Out
 made_of_answer mib a = record {
   sent = map (as_sent mib) (answer_pdus a);
-  told = indication_lines a.indications ++ refusal_line a.became;
+  reported = indication_lines a.indications ++ refusal_line a.became;
   ended = list_any is_end a.indications;
 }
 

@@ -6,7 +6,7 @@ ghost use Rattle.cfdp_receiver.specs.StateMachine.{answer_in};
 ghost use Rattle.cfdp_receiver.specs.Sent.{longest_sealed};
 ghost use Rattle.cfdp_receiver.specs.State.{Expire, Finish, Work};
 ghost use Rattle.cfdp_receiver.specs.Turning.{parts};
-ghost use Rattle.cfdp_transactions.specs.Settling.{most_settled};
+ghost use Rattle.cfdp_transactions.specs.MostSettled.{most_settled};
 ghost use Rattle.cfdp_run.specs.Playing.{heard_inputs, is_nothing, most_timers, passing, settled_after, settling};
 ghost use Rattle.cfdp_live.specs.Living.{MakesOut, made_of_answer, with_more};
 

@@ -11,7 +11,7 @@ ghost use Rattle.cfdp_live.specs.Living.{Out, made_of_answer, is_end, nothing, r
 ghost use Rattle.cfdp_live.specs.code.Living.{with_sent};
 
 use cfdp_receiver::{Answer, Became, Indication, Receiver};
-use cfdp_reports::push_told;
+use cfdp_reports::push_indications;
 use cfdp_status::TransactionId;
 use cfdp_texts::write_reply;
 use cfdp_transactions::Reply;
@@ -81,7 +81,7 @@ impl Model for Output {
 
     ghost Value = { Out };
 
-    ghost view = { λ o. record { sent = vector_octets o.pdus.items; told = o.lines.items; ended = o.has_ended } };
+    ghost view = { λ o. record { sent = vector_octets o.pdus.items; reported = o.lines.items; ended = o.has_ended } };
 }
 
 impl Output {
@@ -105,7 +105,7 @@ impl Output {
 
     /// The lines of indications and of refusals of transactions, in order, as `cfdp run` writes them.
     pub fn lines(&self) -> &[u8]
-        ensures { result.now ≡ self.now.told }
+        ensures { result.now ≡ self.now.reported }
     {
         &self.lines
     }
@@ -168,7 +168,7 @@ impl Output {
             (made_of_answer receiver.now.state.mib (answer_in receiver.now answer.now))) }
     {
         self.push_pdus(alloc, receiver, answer, room)?;
-        push_told(answer, &mut self.lines)?;
+        push_indications(answer, &mut self.lines)?;
         push_refusal(alloc, answer.became(), &mut self.lines)?;
         self.has_ended = self.has_ended || has_end(answer);
         Ok(())

@@ -11,9 +11,9 @@
 
 mod channel;
 mod fault;
+mod lossy_receiver;
 mod random;
 mod sender;
-mod station;
 mod tally;
 mod transfers;
 

@@ -9,7 +9,7 @@ use crate::fault::{LossyFault, LossyFinding};
 use crate::random::LossyRandom;
 use cfdp_crc::{seal, unseal};
 use cfdp_directives::{
-    Ack, Directive, Range, TransactionStatus, read_directive, read_nak, write_ack,
+    Ack, Directive, NakRange, TransactionStatus, read_directive, read_nak, write_ack,
 };
 use cfdp_pdus::checksum_type::MODULAR_CHECKSUM;
 use cfdp_pdus::condition::NO_ERROR;
@@ -253,7 +253,7 @@ impl LossySender {
     }
 
     /// Sends a part of the file, in its pieces.
-    fn send_part(&self, alloc: Global, range: Range, out: &mut Pdus) -> Result<(), LossyFault> {
+    fn send_part(&self, alloc: Global, range: NakRange, out: &mut Pdus) -> Result<(), LossyFault> {
         let (Ok(from), Ok(to)) = (u32::try_from(range.0), u32::try_from(range.1)) else {
             return Err(LossyFault::Wrong(LossyFinding::AsksBeyond));
         };

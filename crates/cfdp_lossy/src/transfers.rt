@@ -2,9 +2,9 @@
 
 use crate::channel::{Channel, Loss, Mode, Toward};
 use crate::fault::{LossyFault, LossyFinding};
+use crate::lossy_receiver::{Context, LossyReceiver};
 use crate::random::LossyRandom;
 use crate::sender::{LossySender, Pdus, SenderPlan};
-use crate::station::{Context, Station};
 use crate::tally::{Tally, count};
 use cfdp_pdus::condition::NO_ERROR;
 use cfdp_pdus::file_status::RETAINED;
@@ -25,7 +25,7 @@ pub struct LossyTransfers {
     mode: Mode,
     random: LossyRandom,
     now: u64,
-    station: Station,
+    lossy_receiver: LossyReceiver,
     /// What was counted.
     pub tally: Tally,
 }
@@ -34,12 +34,12 @@ impl LossyTransfers {
     /// Before the first transfer of this seed.
     pub fn new(alloc: Global, mode: Mode, seed: u64) -> Result<LossyTransfers, LossyFault> {
         let mut random = LossyRandom::new(seed);
-        let station = Station::new(alloc, &mut random, mode)?;
+        let lossy_receiver = LossyReceiver::new(alloc, &mut random, mode)?;
         Ok(LossyTransfers {
             mode,
             random,
             now: 0,
-            station,
+            lossy_receiver,
             tally: Tally::new(),
         })
     }
@@ -48,7 +48,7 @@ impl LossyTransfers {
     pub fn run(&mut self, alloc: Global, transfers: u32) -> Result<(), LossyFault> {
         for number in 0..transfers {
             if number % STRIDE == 0 {
-                self.station = Station::new(alloc, &mut self.random, self.mode)?;
+                self.lossy_receiver = LossyReceiver::new(alloc, &mut self.random, self.mode)?;
             }
             self.transfer(alloc, number)?;
             count(&mut self.tally.transfers);
@@ -62,7 +62,7 @@ impl LossyTransfers {
         alloc: Global,
         number: u32,
     ) -> Result<(SenderPlan, LossySender, Channel), LossyFault> {
-        let begins_log = self.station.begins_log();
+        let begins_log = self.lossy_receiver.begins_log();
         let mut plan = SenderPlan::new(&mut self.random, number, begins_log);
         let mut loss = Loss::OneIn(self.random.below(6).saturating_add(2));
         let mut may_lose = self.random.below(7);
@@ -82,13 +82,13 @@ impl LossyTransfers {
     /// Runs a transfer.
     fn transfer(&mut self, alloc: Global, number: u32) -> Result<(), LossyFault> {
         let (plan, mut sender, mut channel) = self.begin(alloc, number)?;
-        self.station.begin(&plan);
+        self.lossy_receiver.begin(&plan);
         self.until_quiet(alloc, &mut sender, &mut channel)?;
         match self.mode {
             Mode::Lossy => self.check_rounds(&sender, &channel)?,
             Mode::Wild => self.send_again(alloc, &mut sender, &mut channel)?,
         }
-        if self.station.compare(alloc, &plan, sender.file())? {
+        if self.lossy_receiver.compare(alloc, &plan, sender.file())? {
             count(&mut self.tally.complete);
         } else if self.mode == Mode::Lossy {
             return Err(LossyFault::Wrong(LossyFinding::Incomplete));
@@ -98,7 +98,7 @@ impl LossyTransfers {
 
     /// All rounds of a lossy channel: of EOF PDUs, of NAK sequences and of Finished PDUs.
     fn check_rounds(&self, sender: &LossySender, channel: &Channel) -> Result<(), LossyFault> {
-        let seen = self.station.seen();
+        let seen = self.lossy_receiver.seen();
         let rounds = sender
             .eofs
             .saturating_add(seen.rounds)
@@ -146,7 +146,7 @@ impl LossyTransfers {
             };
             self.now = next.max(self.now.saturating_add(1));
         }
-        if sender.is_closed && self.station.is_closed() && channel.deadline().is_none() {
+        if sender.is_closed && self.lossy_receiver.is_closed() && channel.deadline().is_none() {
             Ok(())
         } else {
             Err(LossyFault::Wrong(LossyFinding::NotClosed))
@@ -158,7 +158,7 @@ impl LossyTransfers {
         let moments = [
             channel.deadline(),
             sender.deadline(self.now),
-            self.station.deadline(),
+            self.lossy_receiver.deadline(),
         ];
         moments.iter().copied().flatten().min()
     }
@@ -184,7 +184,7 @@ impl LossyTransfers {
             tally: &mut self.tally,
             out: &mut pdus,
         };
-        self.station.pass(&mut context)?;
+        self.lossy_receiver.pass(&mut context)?;
         self.send(channel, Toward::Sender, pdus)
     }
 
@@ -207,7 +207,7 @@ impl LossyTransfers {
                 tally: &mut self.tally,
                 out: &mut pdus,
             };
-            self.station.receive(&mut context, octets)?;
+            self.lossy_receiver.receive(&mut context, octets)?;
             self.send(channel, Toward::Sender, pdus)?;
         }
         Err(LossyFault::Wrong(LossyFinding::Restless))

@@ -44,16 +44,17 @@ no_other : (Q : ℕ → Type 0) (node root : ℕ) → root ≢ node → (Q root 
 no_other Q node root other apart (inl e) = other e
 no_other Q node root other apart (inr q) = apart q
 
-record Behind (Q : ℕ → Type 0) (node : ℕ) (rest l before after : List ℕ) (root : ℕ) (r : List ℕ) : Type 0 where
+record Following (Q : ℕ → Type 0) (node : ℕ) (rest l before after : List ℕ) (root : ℕ) (r : List ℕ) : Type 0 where
   back : List ℕ
   after_is : after ≡ back ++ root ∷ r
   left_is : l ≡ before ++ node ∷ back
   all : All Q back
 
-behind : (Q : ℕ → Type 0) (node root : ℕ) (rest l before after r : List ℕ) → root ≢ node → node ∷ after ≡ rest ++ root ∷ r → l ≡ before ++ rest → All Q after →
-    Behind Q node rest l before after root r
-behind Q node root [] l before after r other e left_is more = absurd (other (cc))
-behind Q node root (x ∷ rest) l before after r other e left_is more =
+following : (Q : ℕ → Type 0) (node root : ℕ) (rest l before after r : List ℕ) → root ≢ node → node ∷ after ≡ rest ++ root ∷ r → l ≡ before ++ rest
+    → All Q after →
+    Following Q node rest l before after root r
+following Q node root [] l before after r other e left_is more = absurd (other (cc))
+following Q node root (x ∷ rest) l before after r other e left_is more =
     let head : x ≡ node = cc in let tail : after ≡ rest ++ root ∷ r = cc in
     record { back = rest; after_is = tail; left_is = left_is ∙ (λ i. before ++ head i ∷ rest); all = All_left Q rest root r (subst (All Q) tail more) }
 
@@ -173,7 +174,7 @@ module _ {old new : List Links} {order a b less : Order} (is : IsOrder old order
       let R : ℕ → Type 0 = λ k. (k ≡ node) ⊎ Q k in
       let all = All-cons R node after (inl refl) (All-weaker Q R (λ k q. inr q) after back) in
       let s = split_left P R (nodes old a) order.root (nodes old b) before (node ∷ after) (sym o.listed ∙ parted) front all apart in
-      let t = behind Q node order.root s.rest (nodes old a) before after (nodes old b) other s.after_is s.left_is back in
+      let t = following Q node order.root s.rest (nodes old a) before after (nodes old b) other s.after_is s.left_is back in
       left_listed balanced ∙ (λ i. removed t.back t.left_is t.all i ++ order.root ∷ nodes old b)
       ∙ append_assoc before t.back (order.root ∷ nodes old b) ∙ (λ i. before ++ sym t.after_is i)
 

@@ -6,9 +6,9 @@ use Rattle.std.proofs.lemmas.List.Elements.{All-head, All-tail, All-cons, All-ni
 use Rattle.std.specs.Prelude.{All}
 
 -- a node that is within a list
-All_middle : (P : ℕ → Type 0) (l : List ℕ) (x : ℕ) (r : List ℕ) → All P (l ++ x ∷ r) → P x
-All_middle P [] x r all = All-head P x r all
-All_middle P (y ∷ l) x r all = All_middle P l x r (All-tail P y (l ++ x ∷ r) all)
+pub All_at : (P : ℕ → Type 0) (l : List ℕ) (x : ℕ) (r : List ℕ) → All P (l ++ x ∷ r) → P x
+All_at P [] x r all = All-head P x r all
+All_at P (y ∷ l) x r all = All_at P l x r (All-tail P y (l ++ x ∷ r) all)
 
 pub All_front : (P : ℕ → Type 0) (l r : List ℕ) → All P (l ++ r) → All P l
 All_front P [] r all = All-nil P
@@ -24,9 +24,6 @@ All_left P l x r all = All_front P l (x ∷ r) all
 pub All_right : (P : ℕ → Type 0) (l : List ℕ) (x : ℕ) (r : List ℕ) → All P (l ++ x ∷ r) → All P r
 All_right P l x r all = All-tail P x r (All_back P l (x ∷ r) all)
 
-pub All_at : (P : ℕ → Type 0) (l : List ℕ) (x : ℕ) (r : List ℕ) → All P (l ++ x ∷ r) → P x
-All_at = All_middle
-
 pub record SplitRight (P : ℕ → Type 0) (l : List ℕ) (x : ℕ) (r before after : List ℕ) : Type 0 where
   pub rest : List ℕ
   pub before_is : before ≡ l ++ x ∷ rest
@@ -41,7 +38,7 @@ same_tail e = cc
 
 pub split_right : (P Q : ℕ → Type 0) (l : List ℕ) (x : ℕ) (r before after : List ℕ) → l ++ x ∷ r ≡ before ++ after → All P before → All Q after → (Q x → ⊥) →
     SplitRight P l x r before after
-split_right P Q l x r [] after e less more apart = absurd (apart (All_middle Q l x r (subst (All Q) (sym e) more)))
+split_right P Q l x r [] after e less more apart = absurd (apart (All_at Q l x r (subst (All Q) (sym e) more)))
 split_right P Q [] x r (y ∷ before) after e less more apart = record {
   rest = before;
   before_is = (λ i. sym (same_head e) i ∷ before);

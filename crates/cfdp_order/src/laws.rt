@@ -28,8 +28,8 @@ pub fn other_orders_stay()
     ensures { OtherOrdersStay }
 {}
 
-/// The nodes of a list, of which those before what is sought come first, split there. So do those of a list, of which
-/// those after what is sought come last.
+/// A list in which every node less than the key comes first can be split at the first that is not less. A list in which
+/// every greater node comes last can be split at the first greater one.
 pub fn splits_of_sorted()
     ensures { SplitsOfSorted }
 {}

@@ -263,13 +263,13 @@ module _ {X : Type 0} where
   -- ---- whether the path has an entry
 
   -- no entry at or after the path
-  pub none_behind : (k : Path) (es : List (Path × X)) → length es ≤ rank k es → find path_cmp k es ≡ None
-  none_behind k [] h = refl
-  none_behind k (f ∷ es) h =
+  pub none_following : (k : Path) (es : List (Path × X)) → length es ≤ rank k es → find path_cmp k es ≡ None
+  none_following k [] h = refl
+  none_following k (f ∷ es) h =
       elim (path_cmp k f.0) as (λ o. path_cmp k f.0 ≡ o → find path_cmp k (f ∷ es) ≡ None) [
         | Less ↦ λ p. absurd (omega (arith, rank-less k f es p))
         | Equal ↦ λ p. absurd (omega (arith, rank-equal k f es p))
-        | Greater ↦ λ p. find-greater k f es p ∙ none_behind k es (omega (arith, rank-greater k f es p))
+        | Greater ↦ λ p. find-greater k f es p ∙ none_following k es (omega (arith, rank-greater k f es p))
       ] refl
 
   -- another one at its index

@@ -26,7 +26,7 @@ use Rattle.cfdp_paths.specs.code.PathMaps.{IsPieceOf, rank, spread, with_paths}
 use Rattle.cfdp_paths.proofs.Comparing.{path_cmp-total}
 use Rattle.cfdp_paths.proofs.Below.{append_from_at_or_below, at_or_below-append}
 use Rattle.cfdp_paths.proofs.InOrder.{path_antisym, less_by, less_back, greater_back, put-less, put-greater, below_before, ordered-put, ordered-where}
-use Rattle.cfdp_paths.proofs.Pieces.{between_below, below_not_before, BeginsAt, begins_at_rank, sorted_behind, tree_split, tree_between}
+use Rattle.cfdp_paths.proofs.Pieces.{between_below, below_not_before, BeginsAt, begins_at_rank, sorted_following, tree_split, tree_between}
 
 -- ---- rotations
 
@@ -85,14 +85,15 @@ module _ {Y : Type 0} (ys : List Y) (start end : ℕ) (order : start ≤ end) (w
       ∙ ap (λ (xs : List Y). take end ys ++ xs) (take_at (drop end ys) (take end ys) more long)
       ∙ take-append-drop end ys
 
-pub put_in : {Y : Type 0} (ys ms zs : List Y) (start behind : ℕ) → start ≤ length ys → behind ≡ length ys - start → zs ≡ (drop start ys ++ take start ys) ++ ms
-    → drop behind zs ++ take behind zs ≡ take start ys ++ (ms ++ drop start ys)
-put_in {Y} ys ms zs start behind within count same =
-    let long : length (drop start ys) ≡ behind = omega (arith, count, length-drop start ys) in
+pub put_in : {Y : Type 0} (ys ms zs : List Y) (start following : ℕ) → start ≤ length ys → following ≡ length ys - start
+    → zs ≡ (drop start ys ++ take start ys) ++ ms
+    → drop following zs ++ take following zs ≡ take start ys ++ (ms ++ drop start ys)
+put_in {Y} ys ms zs start following within count same =
+    let long : length (drop start ys) ≡ following = omega (arith, count, length-drop start ys) in
     let zs_is : zs ≡ drop start ys ++ (take start ys ++ ms) = same ∙ append_assoc (drop start ys) (take start ys) ms in
-    ap (λ (xs : List Y). drop behind xs ++ take behind xs) zs_is
-    ∙ ap (λ (xs : List Y). xs ++ take behind (drop start ys ++ (take start ys ++ ms))) (drop_at (drop start ys) (take start ys ++ ms) behind long)
-    ∙ ap (λ (xs : List Y). (take start ys ++ ms) ++ xs) (take_at (drop start ys) (take start ys ++ ms) behind long)
+    ap (λ (xs : List Y). drop following xs ++ take following xs) zs_is
+    ∙ ap (λ (xs : List Y). xs ++ take following (drop start ys ++ (take start ys ++ ms))) (drop_at (drop start ys) (take start ys ++ ms) following long)
+    ∙ ap (λ (xs : List Y). (take start ys ++ ms) ++ xs) (take_at (drop start ys) (take start ys ++ ms) following long)
     ∙ append_assoc (take start ys) ms (drop start ys)
 
 -- ---- the order after a move
@@ -169,11 +170,11 @@ module _ {X : Type 0} where
   AllBefore k [] = Unit {0}
   AllBefore k (a ∷ as') = (path_cmp k a.0 ≡ Greater) × AllBefore k as'
 
-  put_behind : (k : Path) (v : X) (front back : List (Path × X)) → AllBefore k front → below_all path_cmp k back ≡ true → put path_cmp k v (front ++ back)
+  put_between : (k : Path) (v : X) (front back : List (Path × X)) → AllBefore k front → below_all path_cmp k back ≡ true → put path_cmp k v (front ++ back)
       ≡ front ++ (k, v) ∷ back
-  put_behind k v [] [] before below = refl
-  put_behind k v [] (b ∷ back) before below = put-less k v b back (less_by _ (and_parts (is_lt (path_cmp k b.0)) (below_all path_cmp k back) below).0)
-  put_behind k v (a ∷ front) back before below = put-greater k v a (front ++ back) before.0 ∙ ap (λ ys. a ∷ ys) (put_behind k v front back before.1 below)
+  put_between k v [] [] before below = refl
+  put_between k v [] (b ∷ back) before below = put-less k v b back (less_by _ (and_parts (is_lt (path_cmp k b.0)) (below_all path_cmp k back) below).0)
+  put_between k v (a ∷ front) back before below = put-greater k v a (front ++ back) before.0 ∙ ap (λ ys. a ∷ ys) (put_between k v front back before.1 below)
 
   before_more : (k : Path) (front : List (Path × X)) (m : Path × X) → AllBefore k front → path_cmp k m.0 ≡ Greater → AllBefore k (front ++ m ∷ [])
   before_more k [] m before last = (last, tt)
@@ -194,7 +195,7 @@ module _ {X : Type 0} where
   puts_between front [] back s fit = refl
   puts_between front (m ∷ ms) back s fit =
       let parts = and_parts (below_all path_cmp m.0 ms) (is_sorted path_cmp ms) s in
-      ap (λ ys. puts ys ms) (put_behind m.0 m.1 front back fit.0 fit.1 ∙ sym (append_assoc front (m ∷ []) back))
+      ap (λ ys. puts ys ms) (put_between m.0 m.1 front back fit.0 fit.1 ∙ sym (append_assoc front (m ∷ []) back))
       ∙ puts_between (front ++ m ∷ []) ms back parts.1 (fit_more front ms back m fit.2 parts.0)
       ∙ append_assoc front (m ∷ []) (ms ++ back)
 
@@ -213,10 +214,10 @@ module _ {X : Type 0} where
   some_spread : (q : Path) (e : Path × X) (es : List (Path × X)) → is_at_or_below e.0 q ≡ true → spread q (e ∷ es) ≡ 0 → ⊥
   some_spread q e es is none = let more : spread q (e ∷ es) ≡ suc (spread q es) = rw is (omega arith) in omega arith
 
-  back_behind : (q m : Path) (es : List (Path × X)) → is_sorted path_cmp es ≡ true → BeginsAt q es → spread q es ≡ 0 → is_at_or_below m q ≡ true →
+  back_is_apart : (q m : Path) (es : List (Path × X)) → is_sorted path_cmp es ≡ true → BeginsAt q es → spread q es ≡ 0 → is_at_or_below m q ≡ true →
       below_all path_cmp m es ≡ true
-  back_behind q m [] s begins none h = refl
-  back_behind q m (e ∷ es) s begins none h =
+  back_is_apart q m [] s begins none h = refl
+  back_is_apart q m (e ∷ es) s begins none h =
       let parts = and_parts (below_all path_cmp e.0 es) (is_sorted path_cmp es) s in
       let out : is_at_or_below e.0 q ≡ false = false_from_ne_true (is_at_or_below e.0 q) (λ is. some_spread q e es is none) in
       let less : is_lt (path_cmp m e.0) ≡ true =
@@ -230,7 +231,7 @@ module _ {X : Type 0} where
   fits_all q es (m ∷ ms) s none all =
       let of_all = and_parts (is_at_or_below m.0 q) (list_all (λ e. is_at_or_below e.0 q) ms) all in (
         front_before q m.0 es of_all.0,
-        back_behind q m.0 (drop (rank q es) es) (sorted_behind q es (rank q es) s) (begins_at_rank q es) none of_all.0,
+        back_is_apart q m.0 (drop (rank q es) es) (sorted_following q es (rank q es) s) (begins_at_rank q es) none of_all.0,
         fits_all q es ms s none of_all.1,
       )
 

@@ -66,8 +66,8 @@ below_not_before (m ∷ q) (n ∷ p) h =
     rw same (below_not_before q p parts.1)
 
 -- after what is not at or below p nothing is
-not_below_behind : (p x y : Path) → is_lt (path_cmp x p) ≡ false → is_at_or_below x p ≡ false → path_cmp x y ≡ Less → is_at_or_below y p ≡ false
-not_below_behind p x y a b less = false_from_ne_true (is_at_or_below y p) (λ h. true≢false (sym (between_below p x y a (after_not_before x y less) h) ∙ b))
+not_below_following : (p x y : Path) → is_lt (path_cmp x p) ≡ false → is_at_or_below x p ≡ false → path_cmp x y ≡ Less → is_at_or_below y p ≡ false
+not_below_following p x y a b less = false_from_ne_true (is_at_or_below y p) (λ h. true≢false (sym (between_below p x y a (after_not_before x y less) h) ∙ b))
 
 module _ {X : Type 0} (p : Path) where
   -- the first entry, if there is one, is not before p
@@ -84,7 +84,7 @@ module _ {X : Type 0} (p : Path) where
   none_left x [] a b h = (refl, refl)
   none_left x (e ∷ es) a b h =
       let parts = and_parts (is_lt (path_cmp x e.0)) (below_all path_cmp x es) h in
-      let isnt = not_below_behind p x e.0 a b (less_by _ parts.0) in
+      let isnt = not_below_following p x e.0 a b (less_by _ parts.0) in
       let rest = none_left x es a b parts.1 in
       rw isnt (rest.0, ap (λ ys. e ∷ ys) rest.1)
 
@@ -139,20 +139,21 @@ module _ {X : Type 0} (p : Path) where
         | false ↦ λ isnt. let none = rank-out e es isnt in rw none isnt
       ] refl
 
-  pub sorted_behind : (es : List (Path × X)) (n : ℕ) → is_sorted path_cmp es ≡ true → is_sorted path_cmp (drop n es) ≡ true
-  sorted_behind [] zero s = refl
-  sorted_behind [] (suc n) s = refl
-  sorted_behind (e ∷ es) zero s = s
-  sorted_behind (e ∷ es) (suc n) s = sorted_behind es n (and_parts (below_all path_cmp e.0 es) (is_sorted path_cmp es) s).1
+  pub sorted_following : (es : List (Path × X)) (n : ℕ) → is_sorted path_cmp es ≡ true → is_sorted path_cmp (drop n es) ≡ true
+  sorted_following [] zero s = refl
+  sorted_following [] (suc n) s = refl
+  sorted_following (e ∷ es) zero s = s
+  sorted_following (e ∷ es) (suc n) s = sorted_following es n (and_parts (below_all path_cmp e.0 es) (is_sorted path_cmp es) s).1
 
   pub tree_split : (es : List (Path × X)) → is_sorted path_cmp es ≡ true
-      → let behind = drop (rank p es) es in (tree_in p es ≡ take (spread p behind) behind)
-      × (rest_in p es ≡ take (rank p es) es ++ drop (spread p behind) behind)
+      → let following = drop (rank p es) es in (tree_in p es ≡ take (spread p following) following)
+      × (rest_in p es ≡ take (rank p es) es ++ drop (spread p following) following)
   tree_split [] s = (refl, refl)
   tree_split (e ∷ es) s =
       let parts = and_parts (below_all path_cmp e.0 es) (is_sorted path_cmp es) s in
-      elim (is_lt (path_cmp e.0 p)) as (λ b. is_lt (path_cmp e.0 p) ≡ b → let behind = drop (rank p (e ∷ es)) (e ∷ es) in
-      (tree_in p (e ∷ es) ≡ take (spread p behind) behind) × (rest_in p (e ∷ es) ≡ take (rank p (e ∷ es)) (e ∷ es) ++ drop (spread p behind) behind)) [
+      elim (is_lt (path_cmp e.0 p)) as (λ b. is_lt (path_cmp e.0 p) ≡ b → let following = drop (rank p (e ∷ es)) (e ∷ es) in
+      (tree_in p (e ∷ es) ≡ take (spread p following) following)
+      × (rest_in p (e ∷ es) ≡ take (rank p (e ∷ es)) (e ∷ es) ++ drop (spread p following) following)) [
         | true ↦ λ is.
             let more = rank-in e es is in
             let out = tree-out e es (false_from_ne_true (is_at_or_below e.0 p) (λ h. true≢false (sym is ∙ below_not_before e.0 p h))) in
@@ -189,21 +190,21 @@ module _ {X : Type 0} (p : Path) where
       (between start (length es) es) count
       → IsPieceOf p es start (start + count)
   piece_of q es start count sought index within few point =
-      let behind : between start (length es) es ≡ drop start es = between_to_end es start (length es) (omega arith) in
+      let following : between start (length es) es ≡ drop start es = between_to_end es start (length es) (omega arith) in
       let spread_is = prefix_len_of_point (λ (e : Path × X). is_at_or_below e.0 p) (between start (length es) es) count few point in
       record {
         begins = index ∙ ap (λ r. rank r es) sought;
-        ends = ap (λ m. start + m) (spread_is ∙ ap (spread p) behind);
-        within = omega (arith, few, ap length behind, length-drop start es);
+        ends = ap (λ m. start + m) (spread_is ∙ ap (spread p) following);
+        within = omega (arith, few, ap length following, length-drop start es);
       }
 
-  pub behind_parted : (q : Path) (es : List (Path × X)) (start : ℕ) → q ≡ p → start ≡ rank q es → is_sorted path_cmp es ≡ true
+  pub piece_from_rank : (q : Path) (es : List (Path × X)) (start : ℕ) → q ≡ p → start ≡ rank q es → is_sorted path_cmp es ≡ true
       → IsPartitionedBy (λ e. is_at_or_below e.0 p) (between start (length es) es)
-  behind_parted q es start sought index s =
+  piece_from_rank q es start sought index s =
       let begins : start ≡ rank p es = index ∙ ap (λ r. rank r es) sought in
-      let behind : drop start es ≡ between start (length es) es = sym (between_to_end es start (length es) (omega arith)) in
-      subst (IsPartitionedBy (λ e. is_at_or_below e.0 p)) behind
-      (spreads_parted (drop start es) (sorted_behind es start s) (subst (λ m. BeginsAt (drop m es)) (sym begins) (begins_at_rank es)))
+      let following : drop start es ≡ between start (length es) es = sym (between_to_end es start (length es) (omega arith)) in
+      subst (IsPartitionedBy (λ e. is_at_or_below e.0 p)) following
+      (spreads_parted (drop start es) (sorted_following es start s) (subst (λ m. BeginsAt (drop m es)) (sym begins) (begins_at_rank es)))
 
   pub tree_between : (es fs : List (Path × X)) (start end : ℕ) → is_sorted path_cmp es ≡ true → fs ≡ es → IsPieceOf p fs start end → between start end es
       ≡ tree_in p es

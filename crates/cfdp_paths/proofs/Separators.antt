@@ -1,7 +1,7 @@
 -- The names of a path in one buffer, with the octet 0 between them.
 --     some_names, depth-names_of                       a buffer holds one name at least;  one more than it has separators
 --     path_cmp-names_of, same_path-names_of            the order by names is the order of the buffers
---     at_or_below-names_of, begins_.., behind          what is at or below a path begins with its octets, up to a separator
+--     at_or_below-names_of, begins_.., following       what is at or below a path begins with its octets, up to a separator
 --     names_of-cut, cut_there, cut_nowhere             the names before and after a separator
 --     some_separator, cut_last                         two names have a separator;  the names before the last one
 --     names_of-next, names_of-last                     the first name, up to the first separator;  the last one, where there is none
@@ -290,19 +290,19 @@ names_of-last octets none =
     slice_split_none is_separator octets
     (All-from_get_or (λ x. is_separator x ≡ false) octets 0 (λ i less. false_from_ne_true (is_separator (get_or octets i 0)) (none i (omega arith) less)))
 
-pub names_of-next : (octets : List ℕ) (index behind : ℕ) → behind ≡ index + 1 → index < length octets
+pub names_of-next : (octets : List ℕ) (index following : ℕ) → following ≡ index + 1 → index < length octets
     → ((k : ℕ) → 0 ≤ k → k < index → is_separator (get_or octets k 0) ≡ true → ⊥) → is_separator (get_or octets index 0) ≡ true
-    → names_of octets ≡ take index octets ∷ names_of (take (length octets - behind) (drop behind octets))
-names_of-next octets index behind e within none here =
+    → names_of octets ≡ take index octets ∷ names_of (take (length octets - following) (drop following octets))
+names_of-next octets index following e within none here =
     let whole : take index octets ++ 0 ∷ drop (suc index) octets ≡ octets =
     ap (λ x. take index octets ++ x ∷ drop (suc index) octets) (sym (eqb-true (get_or octets index 0) 0 here))
     ∙ ap (λ o. take index octets ++ o) (sym (drop-cons octets index 0 within)) ∙ take-append-drop index octets in
     let alone = names_of-last (take index octets) (λ k low less at.
     (let inside : k < index = omega (arith, less, length-take index octets) in
     none k low inside (ap is_separator (sym (get_or-take index octets k 0 inside)) ∙ at))) in
-    let rest : drop (suc index) octets ≡ take (length octets - behind) (drop behind octets) =
-    (let next : suc index ≡ behind = omega (arith, e) in ap (λ n. drop n octets) next
-    ∙ sym (take_all (length octets - behind) (drop behind octets) (omega (arith, length-drop behind octets)))) in
+    let rest : drop (suc index) octets ≡ take (length octets - following) (drop following octets) =
+    (let next : suc index ≡ following = omega (arith, e) in ap (λ n. drop n octets) next
+    ∙ sym (take_all (length octets - following) (drop following octets) (omega (arith, length-drop following octets)))) in
     ap names_of (sym whole) ∙ names_of-cut (take index octets) (drop (suc index) octets) ∙ ap (λ p. p ++ names_of (drop (suc index) octets)) alone
     ∙ ap (λ o. take index octets ∷ names_of o) rest
 
@@ -317,15 +317,15 @@ begins_short a b short =
 -- what comes after the front ends a name
 pub begins_ending : (a b head rest : List ℕ) (r : Bool) → r ≡ pointwise nat_eq head b → head ≡ take (length b) a → rest ≡ drop (length b) a → ends_name rest
     ≡ true → r ≡ is_at_or_below (names_of a) (names_of b)
-begins_ending a b head rest r same front behind ends =
+begins_ending a b head rest r same front following ends =
     same ∙ ap (λ h. pointwise nat_eq h b) front ∙ sym (and_true (pointwise nat_eq (take (length b) a) b))
-    ∙ ap (λ e. pointwise nat_eq (take (length b) a) b && e) (sym ends ∙ ap ends_name behind)
+    ∙ ap (λ e. pointwise nat_eq (take (length b) a) b && e) (sym ends ∙ ap ends_name following)
     ∙ sym (at_or_below-names_of a b)
 
 -- or goes on with it
 pub begins_going_on : (a b rest : List ℕ) → rest ≡ drop (length b) a → ends_name rest ≡ false → false ≡ is_at_or_below (names_of a) (names_of b)
-begins_going_on a b rest behind goes =
-    sym (and_false (pointwise nat_eq (take (length b) a) b)) ∙ ap (λ e. pointwise nat_eq (take (length b) a) b && e) (sym goes ∙ ap ends_name behind)
+begins_going_on a b rest following goes =
+    sym (and_false (pointwise nat_eq (take (length b) a) b)) ∙ ap (λ e. pointwise nat_eq (take (length b) a) b && e) (sym goes ∙ ap ends_name following)
     ∙ sym (at_or_below-names_of a b)
 
 pub ends_nothing : (rest : List ℕ) → length rest < 1 → true ≡ ends_name rest
@@ -336,8 +336,8 @@ pub ends_something : (rest : List ℕ) → 1 ≤ length rest → nat_eq (get_or 
 ends_something [] some = absurd (omega arith)
 ends_something (x ∷ rest) some = refl
 
-pub behind : (a b : List ℕ) → is_at_or_below (names_of a) (names_of b) ≡ true → (a ≡ b ++ drop (length b) a) × (ends_name (drop (length b) a) ≡ true)
-behind a b below =
+pub following : (a b : List ℕ) → is_at_or_below (names_of a) (names_of b) ≡ true → (a ≡ b ++ drop (length b) a) × (ends_name (drop (length b) a) ≡ true)
+following a b below =
     let parts = and_parts (pointwise nat_eq (take (length b) a) b) (ends_name (drop (length b) a)) (sym (at_or_below-names_of a b) ∙ below) in
     (sym (ap (λ o. o ++ drop (length b) a) (sym ((bytes_decides (take (length b) a) b).0 parts.0)) ∙ take-append-drop (length b) a), parts.1)
 
@@ -352,5 +352,5 @@ rebased_rest b t (x ∷ rest) ends =
 pub rebased-names_of : (a b t : List ℕ) → is_at_or_below (names_of a) (names_of b) ≡ true → names_of (t ++ drop (length b) a)
     ≡ rebased (names_of b) (names_of t) (names_of a)
 rebased-names_of a b t below =
-    let parts = behind a b below in
+    let parts = following a b below in
     rebased_rest b t (drop (length b) a) parts.1 ∙ ap (λ o. rebased (names_of b) (names_of t) (names_of o)) (sym parts.0)

@@ -7,7 +7,7 @@
 --     AncestorsAreAbove      the ancestors are what a path is strictly below, the root apart
 --     ParentIsAbove          a path is strictly below its parent, and whatever it is strictly below is at or above that
 --     ComesFirst             a path is before all that is strictly below it
---     RebasedStands          p/r, rebased from p to q, is q/r
+--     RebasedKeepsRest       p/r, rebased from p to q, is q/r
 use Rattle.std.specs.Prelude.{◌≡◌, ◌≢◌, ℕ, ◌≤◌, ◌⊎◌, ◌↔◌, IsTrue, List, [], ◌++◌, Some, None, length, Contains}
 use Rattle.std.specs.declared.cmp.Ordering.TheVariants.{Less}
 use Rattle.cfdp_paths.specs.Faults.{fault_of}
@@ -55,5 +55,5 @@ abbrev pub ComesFirst : Type 0
 ComesFirst = (p q : Path) → IsTrue (is_below p q) → path_cmp q p ≡ Less
 
 -- p/r, rebased from p to q, is q/r
-abbrev pub RebasedStands : Type 0
-RebasedStands = (p q r : Path) → rebased p q (p ++ r) ≡ q ++ r
+abbrev pub RebasedKeepsRest : Type 0
+RebasedKeepsRest = (p q r : Path) → rebased p q (p ++ r) ≡ q ++ r

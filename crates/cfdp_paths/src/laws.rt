@@ -1,6 +1,6 @@
 //! Laws of octets and paths, for every value. Each function has an empty body: what it says is its contract.
 
-ghost use Rattle.cfdp_paths.specs.Laws.{SpellsOnePath, PathOfAgrees, FaultOrPath, IsReflexive, IsTransitive, IsAntisymmetric, PrefixesAreComparable, AncestorsAreAbove, ParentIsAbove, ComesFirst, RebasedStands};
+ghost use Rattle.cfdp_paths.specs.Laws.{SpellsOnePath, PathOfAgrees, FaultOrPath, IsReflexive, IsTransitive, IsAntisymmetric, PrefixesAreComparable, AncestorsAreAbove, ParentIsAbove, ComesFirst, RebasedKeepsRest};
 
 /// Octets spell at most one path.
 pub fn spells_one_path()
@@ -41,6 +41,6 @@ pub fn comes_first()
 {}
 
 /// What is at p/r is at q/r once it is rebased from p to q.
-pub fn rebased_stands()
-    ensures { RebasedStands }
+pub fn rebased_keeps_rest()
+    ensures { RebasedKeepsRest }
 {}

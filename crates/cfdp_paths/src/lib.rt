@@ -7,7 +7,7 @@
 mod buffers;
 mod fault;
 pub mod laws;
-mod names;
+mod lent_names;
 mod octet_order;
 mod parsing;
 mod path_map;
@@ -18,7 +18,7 @@ mod scan;
 mod tests;
 
 pub use fault::PathFault;
-pub use names::Names;
+pub use lent_names::Names;
 pub use path_map::PathMap;
 pub use paths::{LONGEST_NAME, MOST_NAMES, Path};
 

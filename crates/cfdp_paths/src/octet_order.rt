@@ -16,7 +16,7 @@ pub(crate) fn order(a: &[u8], b: &[u8]) -> Ordering
     ensures { result ≡ slice_cmp nat_cmp a.now b.now }
 {
     let both = a.len().min(b.len());
-    let (x, y) = settle(a, b, both);
+    let (x, y) = deciding_words(a, b, both);
     if x != y {
         return order_unequal(x, y);
     }
@@ -30,7 +30,7 @@ pub(crate) fn is_same(a: &[u8], b: &[u8]) -> bool
     if a.len() != b.len() {
         return false;
     }
-    let (x, y) = settle(a, b, a.len());
+    let (x, y) = deciding_words(a, b, a.len());
     x == y
 }
 
@@ -47,13 +47,13 @@ fn order_unequal(x: u64, y: u64) -> Ordering
 }
 
 /// Two numbers that compare as the first `both` octets of each: they are equal where those are.
-fn settle(a: &[u8], b: &[u8], both: usize) -> (u64, u64)
+fn deciding_words(a: &[u8], b: &[u8], both: usize) -> (u64, u64)
     requires in_a { both ≤ length a.now }
     requires in_b { both ≤ length b.now }
     ensures { Settles a.now b.now both result.0 result.1 }
 {
     if both < WORD {
-        return settle_few(a, b, both);
+        return deciding_octets(a, b, both);
     }
     let last = both - WORD;
     let mut start = 0;
@@ -68,8 +68,8 @@ fn settle(a: &[u8], b: &[u8], both: usize) -> (u64, u64)
     (word(a, last), word(b, last))
 }
 
-/// Like `settle`, for fewer octets than a word has.
-fn settle_few(a: &[u8], b: &[u8], both: usize) -> (u64, u64)
+/// Like `deciding_words`, for fewer octets than a word has.
+fn deciding_octets(a: &[u8], b: &[u8], both: usize) -> (u64, u64)
     requires few { both < 8 }
     requires in_a { both ≤ length a.now }
     requires in_b { both ≤ length b.now }

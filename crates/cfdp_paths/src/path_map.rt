@@ -247,8 +247,8 @@ pub(crate) fn piece<T>(entries: &[(Path, T)], path: &Path) -> (usize, usize)
     ensures { IsPieceOf path.now entries.now result.0 result.1 }
 {
     let start = rank(entries, path.octets());
-    let behind = &entries[start..];
-    let count = behind.partition_point(|entry| entry.0.is_at_or_below(path));
+    let following = &entries[start..];
+    let count = following.partition_point(|entry| entry.0.is_at_or_below(path));
     (start, start + count)
 }
 

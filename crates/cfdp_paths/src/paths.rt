@@ -16,7 +16,7 @@ use crate::buffers::{
     SEPARATOR, begins, first_names, replace_front, replaced, suits_front, without_last,
 };
 use crate::fault::PathFault;
-use crate::names::Names;
+use crate::lent_names::Names;
 use crate::octet_order::{is_same, order};
 use crate::parsing::{count_names, strip_slash};
 use std::alloc::Global;

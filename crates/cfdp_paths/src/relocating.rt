@@ -207,10 +207,10 @@ fn put_moved<T: Drop>(entries: &mut Vec<(Path, T)>, to: &Path, mut moved: Vec<(P
     let (start, end) = piece(entries, to);
     if start == end {
         // No entry is there: they go in as one piece.
-        let behind = entries.len() - start;
+        let following = entries.len() - start;
         entries.rotate_left(start);
         entries.append(&mut moved).unwrap();
-        entries.rotate_left(behind);
+        entries.rotate_left(following);
         return;
     }
     for (path, value) in moved {

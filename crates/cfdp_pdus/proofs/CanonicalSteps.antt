@@ -117,9 +117,9 @@ each_asks : (requests : List RequestFields) → AllByRecursion IsAnswerable requ
 each_asks [] all = tt
 each_asks (request ∷ requests) all = (request_spelled request all.0.complete, all.0.short, each_asks requests all.1)
 
-abbrev told_fields : List ResponseFields → List Field
-told_fields [] = []
-told_fields (response ∷ responses) = (1, response_octets response) ∷ told_fields responses
+abbrev response_fields : List ResponseFields → List Field
+response_fields [] = []
+response_fields (response ∷ responses) = (1, response_octets response) ∷ response_fields responses
 
 abbrev located_fields : ℕ → Option ℕ → List Field
 located_fields id_len None = []
@@ -129,23 +129,24 @@ located_octets : (id_len : ℕ) (fault : Option ℕ) → field_octets (located_f
 located_octets id_len None = refl
 located_octets id_len (Some entity) = append-nil (location id_len entity)
 
-told_octets : (responses : List ResponseFields) (others : List Field) → field_octets (told_fields responses ++ others) ≡ flat_map response_field responses
+octets_of_responses : (responses : List ResponseFields) (others : List Field)
+    → field_octets (response_fields responses ++ others) ≡ flat_map response_field responses
     ++ field_octets others
-told_octets [] others = refl
-told_octets (response ∷ responses) others =
-    ap (λ (t : List ℕ). response_field response ++ t) (told_octets responses others)
+octets_of_responses [] others = refl
+octets_of_responses (response ∷ responses) others =
+    ap (λ (t : List ℕ). response_field response ++ t) (octets_of_responses responses others)
     ∙ sym (append_assoc (response_field response) (flat_map response_field responses) (field_octets others))
     ∙ ap (λ (t : List ℕ). t ++ field_octets others) (sym (flat_map-cons response_field response responses))
 
-told_ones : (responses : List ResponseFields) (id_len : ℕ) (fault : Option ℕ) → AllByRecursion IsResponse responses →
-    EachTells (values_of 1 (told_fields responses ++ located_fields id_len fault)) responses
-told_ones [] id_len None all = tt
-told_ones [] id_len (Some entity) all = tt
-told_ones (response ∷ responses) id_len fault all = (response_spelled response all.0, told_ones responses id_len fault all.1)
+responses_found : (responses : List ResponseFields) (id_len : ℕ) (fault : Option ℕ) → AllByRecursion IsResponse responses →
+    EachTells (values_of 1 (response_fields responses ++ located_fields id_len fault)) responses
+responses_found [] id_len None all = tt
+responses_found [] id_len (Some entity) all = tt
+responses_found (response ∷ responses) id_len fault all = (response_spelled response all.0, responses_found responses id_len fault all.1)
 
-told_sixes : (responses : List ResponseFields) (others : List Field) → values_of 6 (told_fields responses ++ others) ≡ values_of 6 others
-told_sixes [] others = refl
-told_sixes (response ∷ responses) others = told_sixes responses others
+locations_after : (responses : List ResponseFields) (others : List Field) → values_of 6 (response_fields responses ++ others) ≡ values_of 6 others
+locations_after [] others = refl
+locations_after (response ∷ responses) others = locations_after responses others
 
 located_entities : (id_len : ℕ) (fault : Option ℕ) → 1 ≤ id_len → id_len ≤ 8 → AreEntities (values_of 6 (located_fields id_len fault))
 located_entities id_len None low high = tt
@@ -243,18 +244,18 @@ pub finished_spelled : (header : Header) (finished : FinishedFields) → IsHeade
 unfolding finished_field
 finished_spelled header finished is sized all =
     let others = located_fields header.id_len finished.fault in
-    let octets = told_octets finished.responses others ∙ ap (λ (t : List ℕ). flat_map response_field finished.responses ++ t)
+    let octets = octets_of_responses finished.responses others ∙ ap (λ (t : List ℕ). flat_map response_field finished.responses ++ t)
     (located_octets header.id_len finished.fault) in
-    let sixes = told_sixes finished.responses others in (
+    let sixes = locations_after finished.responses others in (
       refl,
       record {
         flags = 16 * finished.condition + 4 * digit finished.incomplete + finished.file_status;
-        fields = told_fields finished.responses ++ others;
+        fields = response_fields finished.responses ++ others;
         parts = rw octets refl;
         condition = omega (arith, sized.file_status, digit_small finished.incomplete);
         incomplete = incomplete_says finished.condition finished.incomplete finished.file_status sized.file_status;
         file_status = omega (arith, sized.file_status);
-        responses = told_ones finished.responses header.id_len finished.fault all;
+        responses = responses_found finished.responses header.id_len finished.fault all;
         entities = subst AreEntities (sym sixes) (located_entities header.id_len finished.fault is.id_low is.id_high);
         fault = located_last header.id_len finished.fault sized.fault ∙ ap last_entity (sym sixes);
       },

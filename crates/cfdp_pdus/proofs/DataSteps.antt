@@ -11,7 +11,7 @@ use Rattle.cfdp_pdus.specs.Bits.{flag, fss}
 use Rattle.cfdp_tlv.specs.Reading.{◌>>=◌}
 use Rattle.cfdp_pdus.specs.Reading.{mend}
 use Rattle.cfdp_pdus.specs.Grammar.{Field, field_octets, SpellsMetadata, IsSegment, SpellsFileData, SpellsEof, SpellsFinished}
-use Rattle.cfdp_pdus.specs.First.{number_at, name_field_at, requests_of, outcome_fields, all_whole, fields_at, metadata_at, behind_segment, file_data_at, eof_at, finished_at}
+use Rattle.cfdp_pdus.specs.First.{number_at, name_field_at, requests_of, outcome_fields, all_whole, fields_at, metadata_at, after_segment, file_data_at, eof_at, finished_at}
 use Rattle.cfdp_tlv.proofs.Steps.{bind_ok, guard_ok}
 use Rattle.cfdp_pdus.proofs.Steps.{ok_is, mend_ok}
 use Rattle.cfdp_pdus.proofs.NumberSteps.{number_takes, number_again}
@@ -121,8 +121,8 @@ record TakesSegment (segment_metadata : Bool) (octets rest : List ℕ) : Type 0 
   parts : octets ≡ segment ++ rest
   is : IsSegment segment_metadata segment
 
-segment_takes : (segment_metadata : Bool) (octets rest : List ℕ) → behind_segment segment_metadata octets ≡ Ok rest → TakesSegment segment_metadata octets rest
-unfolding behind_segment
+segment_takes : (segment_metadata : Bool) (octets rest : List ℕ) → after_segment segment_metadata octets ≡ Ok rest → TakesSegment segment_metadata octets rest
+unfolding after_segment
 segment_takes false octets rest e = record { segment = []; parts = ok_is octets rest e; is = refl }
 segment_takes true [] rest e = absurd cc
 segment_takes true (state ∷ octets) rest e =
@@ -135,9 +135,9 @@ segment_takes true (state ∷ octets) rest e =
       is = omega (arith, length-take len octets);
     }
 
-segment_again : (segment_metadata : Bool) (segment rest : List ℕ) → IsSegment segment_metadata segment → behind_segment segment_metadata (segment ++ rest)
+segment_again : (segment_metadata : Bool) (segment rest : List ℕ) → IsSegment segment_metadata segment → after_segment segment_metadata (segment ++ rest)
     ≡ Ok rest
-unfolding behind_segment
+unfolding after_segment
 segment_again false segment rest is = rw is refl
 segment_again true [] rest is = absurd is
 segment_again true (state ∷ metadata) rest is =
@@ -148,7 +148,7 @@ pub file_data_takes : (large segment_metadata : Bool) (octets : List ℕ) (file_
     ≡ Ok file_data → SpellsFileData large segment_metadata octets file_data
 unfolding file_data_at
 file_data_takes large segment_metadata octets file_data e =
-    let a = bind_ok (behind_segment segment_metadata octets) (λ segment. number_at LengthMismatch (fss large) segment >>= λ offset.
+    let a = bind_ok (after_segment segment_metadata octets) (λ segment. number_at LengthMismatch (fss large) segment >>= λ offset.
     Ok (record { offset = offset.0; octets = offset.1 })) file_data e in
     let b = bind_ok (number_at LengthMismatch (fss large) a.0) (λ offset. Ok (record { offset = offset.0; octets = offset.1 })) file_data a.2 in
     let segment = segment_takes segment_metadata octets a.0 a.1 in
@@ -184,8 +184,8 @@ unfolding all_whole
 whole_takes [] e = record { fields = []; whole = refl }
 whole_takes (None ∷ options) e = absurd cc
 whole_takes (Some field ∷ options) e =
-    let behind = whole_takes options e in
-    record { fields = field ∷ behind.fields; whole = ap (λ (os : List (Option Field)). Some field ∷ os) behind.whole }
+    let following = whole_takes options e in
+    record { fields = field ∷ following.fields; whole = ap (λ (os : List (Option Field)). Some field ∷ os) following.whole }
 
 whole_again : (fields : List Field) → all_whole (all_of fields) ≡ Ok tt
 unfolding all_whole
@@ -244,20 +244,20 @@ finished_takes (flags ∷ octets) finished e =
       responses = outcome.0;
       fault = outcome.1;
     })) finished e in
-    let told = outcome_take (fields_at octets) a.0 a.1 in
-    let fields : octets ≡ field_octets told.fields = fields_take octets told.fields told.whole in
+    let returned = outcome_take (fields_at octets) a.0 a.1 in
+    let fields : octets ≡ field_octets returned.fields = fields_take octets returned.fields returned.whole in
     let made : FinishedFields = record { condition = flags / 16; incomplete = flag 2 flags; file_status = flags % 4; responses = a.0.0; fault = a.0.1 } in
     let P : FinishedFields → Type 0 = λ f. SpellsFinished (flags ∷ octets) f in
     subst P (ok_is made finished a.2) (record {
       flags = flags;
-      fields = told.fields;
+      fields = returned.fields;
       parts = ap (λ (t : List ℕ). flags ∷ t) fields;
       condition = refl;
       incomplete = refl;
       file_status = refl;
-      responses = told.tells;
-      entities = told.entities;
-      fault = told.last;
+      responses = returned.tells;
+      entities = returned.entities;
+      fault = returned.last;
     })
 
 pub finished_again : (octets : List ℕ) (finished : FinishedFields) → SpellsFinished octets finished → finished_at octets ≡ Ok finished

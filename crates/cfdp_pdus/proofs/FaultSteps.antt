@@ -11,7 +11,7 @@ use Rattle.cfdp_pdus.specs.declared.fault.PduFault.TheVariants.{Truncated, Lengt
 use Rattle.cfdp_pdus.specs.Bits.{flag, fss}
 use Rattle.cfdp_pdus.specs.Grammar.{Field}
 use Rattle.cfdp_pdus.specs.Reading.{mend}
-use Rattle.cfdp_pdus.specs.First.{Start, number_at, fields_at, asked_at, requests_of, entity_at, outcome_fields, all_whole, behind_segment, metadata_at, file_data_at, eof_at, finished_at, header_at, start_at, directive_at, field_at, pdu_at}
+use Rattle.cfdp_pdus.specs.First.{Start, number_at, fields_at, asked_at, requests_of, entity_at, outcome_fields, all_whole, after_segment, metadata_at, file_data_at, eof_at, finished_at, header_at, start_at, directive_at, field_at, pdu_at}
 
 abbrev IsOfOctets : PduFault → Type 0
 IsOfOctets Memory = ⊥
@@ -35,9 +35,9 @@ chosen : {A : Type 0} (b : Bool) {x y : Result A PduFault} → OfOctets x → Of
 chosen true left right = left
 chosen false left right = right
 
-behind : {A B : Type 0} {read : Result A PduFault} {next : A → Result B PduFault} → OfOctets read → ((x : A) → OfOctets (next x)) → OfOctets (read >>= next)
-behind {read = Ok x} here there = there x
-behind {read = Err fault} here there = record { are = here.are }
+following : {A B : Type 0} {read : Result A PduFault} {next : A → Result B PduFault} → OfOctets read → ((x : A) → OfOctets (next x)) → OfOctets (read >>= next)
+following {read = Ok x} here there = there x
+following {read = Err fault} here there = record { are = here.are }
 
 mended : {A : Type 0} (why : PduFault) (read : Result A TlvFault) → IsOfOctets why → OfOctets (mend why read)
 mended why (Ok x) is = value
@@ -51,14 +51,14 @@ number why len octets is = chosen (nat_lt (length octets) len) (fault is) value
 
 asked : (octets : List ℕ) → OfOctets (asked_at octets)
 unfolding asked_at
-asked octets = behind (mended BadTlv (request_at octets) tt) (λ request. chosen (nat_lt (length octets) 255) value (fault tt))
+asked octets = following (mended BadTlv (request_at octets) tt) (λ request. chosen (nat_lt (length octets) 255) value (fault tt))
 
 requests : (fields : List (Option Field)) → OfOctets (requests_of fields)
 unfolding requests_of
 requests [] = value
 requests (None ∷ fields) = fault tt
 requests (Some field ∷ fields) =
-    chosen (field.0 == 0) (behind (asked field.1) (λ request. behind (requests fields) (λ others. value))) (requests fields)
+    chosen (field.0 == 0) (following (asked field.1) (λ request. following (requests fields) (λ others. value))) (requests fields)
 
 entity : (octets : List ℕ) → OfOctets (entity_at octets)
 unfolding entity_at
@@ -69,14 +69,14 @@ unfolding outcome_fields
 outcome [] = value
 outcome (None ∷ fields) = fault tt
 outcome (Some field ∷ fields) =
-    chosen (field.0 == 1) (behind (mended BadTlv (response_at field.1) tt) (λ response. behind (outcome fields) (λ others. value)))
-    (chosen (field.0 == 6) (behind (entity field.1) (λ entity. behind (outcome fields) (λ others. value))) (outcome fields))
+    chosen (field.0 == 1) (following (mended BadTlv (response_at field.1) tt) (λ response. following (outcome fields) (λ others. value)))
+    (chosen (field.0 == 6) (following (entity field.1) (λ entity. following (outcome fields) (λ others. value))) (outcome fields))
 
-whole : (fields : List (Option Field)) → OfOctets (all_whole fields)
+all_whole_faults : (fields : List (Option Field)) → OfOctets (all_whole fields)
 unfolding all_whole
-whole [] = value
-whole (None ∷ fields) = fault tt
-whole (Some field ∷ fields) = whole fields
+all_whole_faults [] = value
+all_whole_faults (None ∷ fields) = fault tt
+all_whole_faults (Some field ∷ fields) = all_whole_faults fields
 
 -- ---- data fields
 
@@ -84,13 +84,13 @@ metadata : (large : Bool) (octets : List ℕ) → OfOctets (metadata_at large oc
 unfolding metadata_at
 metadata large [] = fault tt
 metadata large (flags ∷ octets) =
-    behind (number LengthMismatch (fss large) octets tt) (λ size.
-    behind (mended LengthMismatch (lv_at size.1) tt) (λ source.
-    behind (mended LengthMismatch (lv_at source.1) tt) (λ destination.
-    behind (requests (fields_at destination.1)) (λ asked. value))))
+    following (number LengthMismatch (fss large) octets tt) (λ size.
+    following (mended LengthMismatch (lv_at size.1) tt) (λ source.
+    following (mended LengthMismatch (lv_at source.1) tt) (λ destination.
+    following (requests (fields_at destination.1)) (λ asked. value))))
 
-segment : (segment_metadata : Bool) (octets : List ℕ) → OfOctets (behind_segment segment_metadata octets)
-unfolding behind_segment
+segment : (segment_metadata : Bool) (octets : List ℕ) → OfOctets (after_segment segment_metadata octets)
+unfolding after_segment
 segment false octets = value
 segment true [] = fault tt
 segment true (state ∷ octets) = chosen (nat_lt (length octets) (state % 64)) (fault tt) value
@@ -98,20 +98,20 @@ segment true (state ∷ octets) = chosen (nat_lt (length octets) (state % 64)) (
 file_data : (large segment_metadata : Bool) (octets : List ℕ) → OfOctets (file_data_at large segment_metadata octets)
 unfolding file_data_at
 file_data large segment_metadata octets =
-    behind (segment segment_metadata octets) (λ rest. behind (number LengthMismatch (fss large) rest tt) (λ offset. value))
+    following (segment segment_metadata octets) (λ rest. following (number LengthMismatch (fss large) rest tt) (λ offset. value))
 
 eof : (large : Bool) (octets : List ℕ) → OfOctets (eof_at large octets)
 unfolding eof_at
 eof large [] = fault tt
 eof large (condition ∷ octets) =
-    behind (number LengthMismatch 4 octets tt) (λ checksum.
-    behind (number LengthMismatch (fss large) checksum.1 tt) (λ size.
-    behind (whole (fields_at size.1)) (λ all. value)))
+    following (number LengthMismatch 4 octets tt) (λ checksum.
+    following (number LengthMismatch (fss large) checksum.1 tt) (λ size.
+    following (all_whole_faults (fields_at size.1)) (λ all. value)))
 
 finished : (octets : List ℕ) → OfOctets (finished_at octets)
 unfolding finished_at
 finished [] = fault tt
-finished (flags ∷ octets) = behind (outcome (fields_at octets)) (λ told. value)
+finished (flags ∷ octets) = following (outcome (fields_at octets)) (λ returned. value)
 
 -- ---- whole PDUs
 
@@ -121,9 +121,9 @@ header first [] = fault tt
 header first (high ∷ []) = fault tt
 header first (high ∷ low ∷ []) = fault tt
 header first (high ∷ low ∷ fourth ∷ octets) =
-    behind (number Truncated (fourth / 16 % 8 + 1) octets tt) (λ source.
-    behind (number Truncated (fourth % 8 + 1) source.1 tt) (λ number_read.
-    behind (number Truncated (fourth / 16 % 8 + 1) number_read.1 tt) (λ destination.
+    following (number Truncated (fourth / 16 % 8 + 1) octets tt) (λ source.
+    following (number Truncated (fourth % 8 + 1) source.1 tt) (λ number_read.
+    following (number Truncated (fourth / 16 % 8 + 1) number_read.1 tt) (λ destination.
     chosen (nat_lt (length destination.1) (256 * high + low)) (fault tt)
     (chosen (nat_lt (256 * high + low) (length destination.1)) (fault tt) value))))
 
@@ -136,16 +136,16 @@ directive : (of_header : Header) (octets : List ℕ) → OfOctets (directive_at 
 unfolding directive_at
 directive of_header [] = fault tt
 directive of_header (code ∷ octets) =
-    chosen (code == 7) (behind (metadata of_header.large octets) (λ read. value))
-    (chosen (code == 4) (behind (eof of_header.large octets) (λ read. value))
-    (chosen (code == 5) (behind (finished octets) (λ read. value))
+    chosen (code == 7) (following (metadata of_header.large octets) (λ read. value))
+    (chosen (code == 4) (following (eof of_header.large octets) (λ read. value))
+    (chosen (code == 5) (following (finished octets) (λ read. value))
     (chosen (code == 6) value (chosen (code == 8) value (chosen (code == 9) value (chosen (code == 12) value (fault tt)))))))
 
 field : (begun : Start) → OfOctets (field_at begun)
 unfolding field_at
 field begun =
-    chosen begun.file_data (behind (file_data begun.header.large begun.segment_metadata begun.field) (λ read. value))
+    chosen begun.file_data (following (file_data begun.header.large begun.segment_metadata begun.field) (λ read. value))
     (directive begun.header begun.field)
 
 pub never_memory : (octets : List ℕ) → pdu_at octets ≡ Err Memory → ⊥
-never_memory octets e = subst AreOfOctets e (behind (start octets) field).are
+never_memory octets e = subst AreOfOctets e (following (start octets) field).are

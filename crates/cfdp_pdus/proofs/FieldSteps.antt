@@ -15,14 +15,14 @@ all_of (field ∷ fields) = Some field ∷ all_of fields
 record Front (read : Result (ℕ × List ℕ × List ℕ) TlvFault) (next : List ℕ → List (Option Field)) (field : Field) (fields : List Field) : Type 0 where
   rest : List ℕ
   here : read ≡ Ok (field.0, field.1, rest)
-  behind : next rest ≡ all_of fields
+  following : next rest ≡ all_of fields
 
 front_is : (read : Result (ℕ × List ℕ × List ℕ) TlvFault) (next : List ℕ → List (Option Field)) (field : Field) (fields : List Field) → front_field read next
     ≡ Some field ∷ all_of fields → Front read next field fields
 front_is (Ok found) next field fields e =
     let field-is : (found.0, found.1) ≡ field = cc in
-    let behind-is : next found.2 ≡ all_of fields = cc in
-    record { rest = found.2; here = ap (λ (f : Field). Ok (f.0, f.1, found.2)) field-is; behind = behind-is }
+    let following-is : next found.2 ≡ all_of fields = cc in
+    record { rest = found.2; here = ap (λ (f : Field). Ok (f.0, f.1, found.2)) field-is; following = following-is }
 front_is (Err fault) next field fields e = absurd cc
 
 never : (read : Result (ℕ × List ℕ × List ℕ) TlvFault) (next : List ℕ → List (Option Field)) → front_field read next ≡ [] → ⊥
@@ -41,8 +41,8 @@ some_fields_take (suc count) (octet ∷ octets) [] small e = absurd (never (tlv_
 some_fields_take (suc count) (octet ∷ octets) (field ∷ fields) small e =
     let front = front_is (tlv_at (octet ∷ octets)) (some_fields_at count) field fields e in
     let less = shorter (octet ∷ octets) (field.0, field.1, front.rest) front.here in
-    let behind : front.rest ≡ field_octets fields = some_fields_take count front.rest fields (omega (arith, less)) front.behind in
-    tlv_takes (octet ∷ octets) field.0 field.1 front.rest front.here ∙ ap (λ (t : List ℕ). tlv field.0 field.1 ++ t) behind
+    let following : front.rest ≡ field_octets fields = some_fields_take count front.rest fields (omega (arith, less)) front.following in
+    tlv_takes (octet ∷ octets) field.0 field.1 front.rest front.here ∙ ap (λ (t : List ℕ). tlv field.0 field.1 ++ t) following
 
 pub fields_take : (octets : List ℕ) (fields : List Field) → fields_at octets ≡ all_of fields → octets ≡ field_octets fields
 unfolding fields_at

@@ -19,4 +19,4 @@ pub mod DirectiveSteps
 pub mod ReceiveSteps
 pub mod FaultSteps
 pub mod MessageSteps
-pub mod Placing
+pub mod BufferParts

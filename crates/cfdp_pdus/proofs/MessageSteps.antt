@@ -17,7 +17,7 @@ use Rattle.cfdp_pdus.specs.Values.{MetadataFields, FileDataFields, FinishedField
 use Rattle.cfdp_pdus.specs.Bits.{flag, fss}
 use Rattle.cfdp_pdus.specs.Grammar.{Field, field_octets, values_of, SpellsMetadata, SpellsField, SpellsPdu}
 use Rattle.cfdp_pdus.specs.First.{Start, front_field, some_fields_at, number_at, name_field_at, fields_at, requests_of, metadata_at, file_data_at, eof_at, finished_at, directive_at, field_at, start_at}
-use Rattle.cfdp_pdus.specs.Messages.{whole_fields, messages_among, before_options, messages_of, messages_from, messages_at, options_told, options_said}
+use Rattle.cfdp_pdus.specs.Messages.{whole_fields, messages_among, before_options, messages_of, messages_from, messages_at, spelled_options, options_said}
 use Rattle.cfdp_pdus.specs.code.Messages.{after_names, judged_options, options_in, options_from, options_at}
 use Rattle.cfdp_pdus.specs.code.Counting.{count_read}
 use Rattle.cfdp_pdus.proofs.Steps.{ok_is}
@@ -106,7 +106,7 @@ left_messages large code octets metadata said =
 
 of_field : (file_data segment_metadata : Bool) (field : List ℕ) (header : Header) (metadata : MetadataFields)
     (said : SpellsField file_data segment_metadata field (pdus.Metadata header metadata))
-    → messages_among (drop (before_options header.large metadata) field) ≡ values_of 2 (options_told file_data segment_metadata field header metadata said)
+    → messages_among (drop (before_options header.large metadata) field) ≡ values_of 2 (spelled_options file_data segment_metadata field header metadata said)
 of_field true segment_metadata field header metadata said = absurd said
 of_field false segment_metadata [] header metadata said = absurd said
 of_field false segment_metadata (code ∷ octets) header metadata said = left_messages header.large code octets metadata said.1

@@ -16,6 +16,6 @@ pub requests_fail : (e : PduFault) (large : Bool) (octets : List ℕ) (size : �
 unfolding metadata_at
 requests_fail e large [] size after_size source after_source destination rest some one two three fails = absurd (omega arith)
 requests_fail e large (flags ∷ octets) size after_size source after_source destination rest some one two three fails =
-    let behind : take (length (flags ∷ octets) - 1) octets ≡ octets = take_all (length (flags ∷ octets) - 1) octets (omega arith) in
-    let read = rw behind at one in
+    let following : take (length (flags ∷ octets) - 1) octets ≡ octets = take_all (length (flags ∷ octets) - 1) octets (omega arith) in
+    let read = rw following at one in
     rw (read, two, three) (last_fails Memory e (requests_of (fields_at rest)) _ fails)

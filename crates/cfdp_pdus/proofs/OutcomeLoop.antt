@@ -7,7 +7,7 @@ use Rattle.cfdp_tlv.specs.Values.{ResponseFields}
 use Rattle.cfdp_pdus.specs.declared.fault.PduFault.{PduFault}
 use Rattle.cfdp_pdus.specs.declared.fault.PduFault.TheVariants.{BadTlv}
 use Rattle.cfdp_pdus.specs.Grammar.{Field}
-use Rattle.cfdp_pdus.specs.First.{told_at, entity_at, or_else, outcome_fields}
+use Rattle.cfdp_pdus.specs.First.{answered_at, entity_at, or_else, outcome_fields}
 use Rattle.cfdp_pdus.specs.code.Counting.{responses_in_fields}
 use Rattle.cfdp_pdus.proofs.Steps.{not_refused, never_both}
 
@@ -15,12 +15,12 @@ abbrev pub Outcome : Type 0
 Outcome = List ResponseFields × Option ℕ
 
 pub tells : (fields after : List (Option Field)) (kind : ℕ) (value : List ℕ) (response : ResponseFields) → fields ≡ Some (kind, value) ∷ after →
-    kind ≡ 1 → told_at value ≡ Ok response
+    kind ≡ 1 → answered_at value ≡ Ok response
     → outcome_fields fields ≡ (outcome_fields after >>= λ others. Ok (response ∷ others.0, others.1))
 unfolding outcome_fields
-tells fields after kind value response read is_one told =
+tells fields after kind value response read is_one returned =
     let response_here : eqb kind 1 ≡ true = rw is_one refl in
-    rw (read, response_here, told) refl
+    rw (read, response_here, returned) refl
 
 pub locates : (fields after : List (Option Field)) (kind : ℕ) (value : List ℕ) (entity : ℕ) → fields ≡ Some (kind, value) ∷ after →
     kind ≡ 6 → entity_at value ≡ Ok entity
@@ -37,7 +37,7 @@ unfolding outcome_fields
 passes fields after kind value read not_one not_six = rw (read, not_one, not_six) refl
 
 pub refused_response : (fields after : List (Option Field)) (kind : ℕ) (value : List ℕ) (e : PduFault) → fields ≡ Some (kind, value) ∷ after →
-    kind ≡ 1 → told_at value ≡ Err e → outcome_fields fields ≡ Err e
+    kind ≡ 1 → answered_at value ≡ Err e → outcome_fields fields ≡ Err e
 unfolding outcome_fields
 refused_response fields after kind value e read is_one fails =
     let response_here : eqb kind 1 ≡ true = rw is_one refl in
@@ -64,8 +64,8 @@ pub never_cut : (fields after : List (Option Field)) → fields ≡ None ∷ aft
 never_cut fields after read good = never_both (outcome_fields fields) BadTlv (cut fields after read) good
 
 pub next_response : (fields after : List (Option Field)) (kind : ℕ) (value : List ℕ) → fields ≡ Some (kind, value) ∷ after → kind ≡ 1 →
-    IsOk (outcome_fields fields) → IsOk (told_at value)
-next_response fields after kind value read is_one good = not_refused (told_at value) (outcome_fields fields) (λ e. e)
+    IsOk (outcome_fields fields) → IsOk (answered_at value)
+next_response fields after kind value read is_one good = not_refused (answered_at value) (outcome_fields fields) (λ e. e)
     (λ e. refused_response fields after kind value e read is_one) good
 
 -- ---- counting
@@ -119,10 +119,10 @@ front_first response (Ok others) = refl
 front_first response (Err e) = refl
 
 pub copies : (fields after : List (Option Field)) (kind : ℕ) (value : List ℕ) (response : ResponseFields) → fields ≡ Some (kind, value) ∷ after →
-    kind ≡ 1 → told_at value ≡ Ok response
+    kind ≡ 1 → answered_at value ≡ Ok response
     → responses_in_fields fields ≡ (responses_in_fields after >>= λ responses. Ok (response ∷ responses))
-copies fields after kind value response read is_one told =
-    ap (λ r. r >>= no_fault) (tells fields after kind value response read is_one told) ∙ front_first response (outcome_fields after)
+copies fields after kind value response read is_one returned =
+    ap (λ r. r >>= no_fault) (tells fields after kind value response read is_one returned) ∙ front_first response (outcome_fields after)
 
 past_entity : (entity : ℕ) (read : Result Outcome PduFault) → ((read >>= at_entity entity) >>= no_fault) ≡ (read >>= no_fault)
 past_entity entity (Ok others) = refl

@@ -11,7 +11,7 @@ use Rattle.cfdp_pdus.specs.declared.fault.PduFault.TheVariants.{BadTlv}
 use Rattle.cfdp_tlv.specs.Reading.{◌>>=◌}
 use Rattle.cfdp_pdus.specs.Reading.{mend}
 use Rattle.cfdp_pdus.specs.Grammar.{Field, values_of, EachTells, IsEntity, AreEntities, last_entity}
-use Rattle.cfdp_pdus.specs.First.{told_at, entity_at, or_else, outcome_fields}
+use Rattle.cfdp_pdus.specs.First.{answered_at, entity_at, or_else, outcome_fields}
 use Rattle.cfdp_tlv.proofs.Steps.{bind_ok}
 use Rattle.cfdp_pdus.proofs.Steps.{mend_ok, held_ok, ok_is, chosen}
 use Rattle.cfdp_pdus.proofs.FieldSteps.{all_of}
@@ -63,50 +63,50 @@ pub record TellsAll (options : List (Option Field)) (responses : List ResponseFi
 -- one more field in front: a response, an entity ID, or neither
 response_in_front : (field : Field) (options : List (Option Field)) (response : ResponseFields) (responses : List ResponseFields) (fault : Option ℕ) →
     eqb field.0 1 ≡ true → SpellsResponse field.1 response → TellsAll options responses fault → TellsAll (Some field ∷ options) (response ∷ responses) fault
-response_in_front field options response responses fault here spelled behind =
+response_in_front field options response responses fault here spelled following =
     let kind-is : field.0 ≡ 1 = eqb-true _ _ here in
     let no_entity : eqb field.0 6 ≡ false = rw kind-is refl in
-    let ones : values_of 1 (field ∷ behind.fields) ≡ field.1 ∷ values_of 1 behind.fields = rw here refl in
-    let sixes : values_of 6 (field ∷ behind.fields) ≡ values_of 6 behind.fields = rw no_entity refl in
+    let ones : values_of 1 (field ∷ following.fields) ≡ field.1 ∷ values_of 1 following.fields = rw here refl in
+    let sixes : values_of 6 (field ∷ following.fields) ≡ values_of 6 following.fields = rw no_entity refl in
     let Q : List (List ℕ) → Type 0 = λ values. EachTells values (response ∷ responses) in
     record {
-      fields = field ∷ behind.fields;
-      whole = ap (λ (os : List (Option Field)). Some field ∷ os) behind.whole;
-      tells = subst Q (sym ones) (spelled, behind.tells);
-      entities = subst AreEntities (sym sixes) behind.entities;
-      last = behind.last ∙ ap last_entity (sym sixes);
+      fields = field ∷ following.fields;
+      whole = ap (λ (os : List (Option Field)). Some field ∷ os) following.whole;
+      tells = subst Q (sym ones) (spelled, following.tells);
+      entities = subst AreEntities (sym sixes) following.entities;
+      last = following.last ∙ ap last_entity (sym sixes);
     }
 
 entity_in_front : (field : Field) (options : List (Option Field)) (responses : List ResponseFields) (fault : Option ℕ) → eqb field.0 1 ≡ false → eqb field.0 6
     ≡ true → IsEntity field.1 → TellsAll options responses fault → TellsAll (Some field ∷ options) responses
     (or_else fault (Some (big_number (length field.1) field.1)))
-entity_in_front field options responses fault other here is behind =
-    let ones : values_of 1 (field ∷ behind.fields) ≡ values_of 1 behind.fields = rw other refl in
-    let sixes : values_of 6 (field ∷ behind.fields) ≡ field.1 ∷ values_of 6 behind.fields = rw here refl in
+entity_in_front field options responses fault other here is following =
+    let ones : values_of 1 (field ∷ following.fields) ≡ values_of 1 following.fields = rw other refl in
+    let sixes : values_of 6 (field ∷ following.fields) ≡ field.1 ∷ values_of 6 following.fields = rw here refl in
     let Q : List (List ℕ) → Type 0 = λ values. EachTells values responses in
     let last-is : or_else fault (Some (big_number (length field.1) field.1))
-    ≡ or_else (last_entity (values_of 6 behind.fields)) (Some (big_number (length field.1) field.1)) =
-    ap (λ (x : Option ℕ). or_else x (Some (big_number (length field.1) field.1))) behind.last in
+    ≡ or_else (last_entity (values_of 6 following.fields)) (Some (big_number (length field.1) field.1)) =
+    ap (λ (x : Option ℕ). or_else x (Some (big_number (length field.1) field.1))) following.last in
     record {
-      fields = field ∷ behind.fields;
-      whole = ap (λ (os : List (Option Field)). Some field ∷ os) behind.whole;
-      tells = subst Q (sym ones) behind.tells;
-      entities = subst AreEntities (sym sixes) (is, behind.entities);
-      last = last-is ∙ sym (last-cons field.1 (values_of 6 behind.fields)) ∙ ap last_entity (sym sixes);
+      fields = field ∷ following.fields;
+      whole = ap (λ (os : List (Option Field)). Some field ∷ os) following.whole;
+      tells = subst Q (sym ones) following.tells;
+      entities = subst AreEntities (sym sixes) (is, following.entities);
+      last = last-is ∙ sym (last-cons field.1 (values_of 6 following.fields)) ∙ ap last_entity (sym sixes);
     }
 
 other_in_front : (field : Field) (options : List (Option Field)) (responses : List ResponseFields) (fault : Option ℕ) → eqb field.0 1 ≡ false → eqb field.0 6
     ≡ false → TellsAll options responses fault → TellsAll (Some field ∷ options) responses fault
-other_in_front field options responses fault not_one not_six behind =
-    let ones : values_of 1 (field ∷ behind.fields) ≡ values_of 1 behind.fields = rw not_one refl in
-    let sixes : values_of 6 (field ∷ behind.fields) ≡ values_of 6 behind.fields = rw not_six refl in
+other_in_front field options responses fault not_one not_six following =
+    let ones : values_of 1 (field ∷ following.fields) ≡ values_of 1 following.fields = rw not_one refl in
+    let sixes : values_of 6 (field ∷ following.fields) ≡ values_of 6 following.fields = rw not_six refl in
     let Q : List (List ℕ) → Type 0 = λ values. EachTells values responses in
     record {
-      fields = field ∷ behind.fields;
-      whole = ap (λ (os : List (Option Field)). Some field ∷ os) behind.whole;
-      tells = subst Q (sym ones) behind.tells;
-      entities = subst AreEntities (sym sixes) behind.entities;
-      last = behind.last ∙ ap last_entity (sym sixes);
+      fields = field ∷ following.fields;
+      whole = ap (λ (os : List (Option Field)). Some field ∷ os) following.whole;
+      tells = subst Q (sym ones) following.tells;
+      entities = subst AreEntities (sym sixes) following.entities;
+      last = following.last ∙ ap last_entity (sym sixes);
     }
 
 pub outcome_take : (options : List (Option Field)) (outcome : Outcome) → outcome_fields options ≡ Ok outcome → TellsAll options outcome.0 outcome.1
@@ -117,11 +117,11 @@ outcome_take [] outcome e =
 outcome_take (None ∷ options) outcome e = absurd cc
 outcome_take (Some field ∷ options) outcome e =
     let P : Outcome → Type 0 = λ o. TellsAll (Some field ∷ options) o.0 o.1 in
-    elim (chosen (eqb field.0 1) (told_at field.1 >>= λ response. outcome_fields options >>= λ others. Ok (response ∷ others.0, others.1))
+    elim (chosen (eqb field.0 1) (answered_at field.1 >>= λ response. outcome_fields options >>= λ others. Ok (response ∷ others.0, others.1))
     (cond (eqb field.0 6) (entity_at field.1 >>= λ entity. outcome_fields options >>= λ others. Ok (others.0, or_else others.1 (Some entity)))
     (outcome_fields options)) (Ok outcome) e) [
       | inl here ↦
-          let a = bind_ok (told_at field.1) (λ response. outcome_fields options >>= λ others. Ok (response ∷ others.0, others.1)) outcome here.1 in
+          let a = bind_ok (answered_at field.1) (λ response. outcome_fields options >>= λ others. Ok (response ∷ others.0, others.1)) outcome here.1 in
           let b = bind_ok (outcome_fields options) (λ others. Ok (a.0 ∷ others.0, others.1)) outcome a.2 in
           let spelled = response_takes field.1 a.0 (mend_ok BadTlv (response_at field.1) a.0 a.1) in
           subst P (ok_is (a.0 ∷ b.0.0, b.0.1) outcome b.2) (response_in_front field options a.0 b.0.0 b.0.1 here.0 spelled (outcome_take options b.0 b.1))
@@ -140,22 +140,22 @@ outcome_take (Some field ∷ options) outcome e =
     ]
 
 -- one step, whichever way its tests go
-behind_field : (kind : ℕ) (value : List ℕ) (fields : List Field) (responses : List ResponseFields) (read : Result Outcome PduFault)
+after_field : (kind : ℕ) (value : List ℕ) (fields : List Field) (responses : List ResponseFields) (read : Result Outcome PduFault)
     → ((others : List ResponseFields) → EachTells (values_of 1 fields) others → AreEntities (values_of 6 fields) → read
     ≡ Ok (others, last_entity (values_of 6 fields)))
     → (is_one is_six : Bool) → eqb kind 1 ≡ is_one → eqb kind 6 ≡ is_six → EachTells (cond is_one (value ∷ values_of 1 fields) (values_of 1 fields)) responses →
     AreEntities (cond is_six (value ∷ values_of 6 fields) (values_of 6 fields))
-    → cond is_one (told_at value >>= λ response. read >>= λ others. Ok (response ∷ others.0, others.1))
+    → cond is_one (answered_at value >>= λ response. read >>= λ others. Ok (response ∷ others.0, others.1))
     (cond is_six (entity_at value >>= λ entity. read >>= λ others. Ok (others.0, or_else others.1 (Some entity))) read)
     ≡ Ok (responses, last_entity (cond is_six (value ∷ values_of 6 fields) (values_of 6 fields)))
-behind_field kind value fields responses read again true true one six tells entities = absurd (omega (arith, eqb-true kind 1 one, eqb-true kind 6 six))
-behind_field kind value fields [] read again true false one six tells entities = absurd tells
-behind_field kind value fields (response ∷ responses) read again true false one six tells entities =
-    let here : told_at value ≡ Ok response = ap (mend BadTlv) (response_again value response tells.0) in
+after_field kind value fields responses read again true true one six tells entities = absurd (omega (arith, eqb-true kind 1 one, eqb-true kind 6 six))
+after_field kind value fields [] read again true false one six tells entities = absurd tells
+after_field kind value fields (response ∷ responses) read again true false one six tells entities =
+    let here : answered_at value ≡ Ok response = ap (mend BadTlv) (response_again value response tells.0) in
     rw (here, again responses tells.1 entities) refl
-behind_field kind value fields responses read again false true one six tells entities =
+after_field kind value fields responses read again false true one six tells entities =
     rw (entity_again value entities.0, again responses tells entities.1, last-cons value (values_of 6 fields)) refl
-behind_field kind value fields responses read again false false one six tells entities = again responses tells entities
+after_field kind value fields responses read again false false one six tells entities = again responses tells entities
 
 pub outcome_again : (fields : List Field) (responses : List ResponseFields) → EachTells (values_of 1 fields) responses → AreEntities (values_of 6 fields) →
     outcome_fields (all_of fields) ≡ Ok (responses, last_entity (values_of 6 fields))
@@ -163,5 +163,5 @@ unfolding outcome_fields
 outcome_again [] [] tells entities = refl
 outcome_again [] (response ∷ responses) tells entities = absurd tells
 outcome_again (field ∷ fields) responses tells entities =
-    behind_field field.0 field.1 fields responses (outcome_fields (all_of fields)) (λ others. outcome_again fields others) (eqb field.0 1)
+    after_field field.0 field.1 fields responses (outcome_fields (all_of fields)) (λ others. outcome_again fields others) (eqb field.0 1)
     (eqb field.0 6) refl refl tells entities

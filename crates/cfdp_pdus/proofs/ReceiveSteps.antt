@@ -21,18 +21,18 @@ if_received P (pdus.Eof header eof) holds = holds
 if_received P (pdus.Finished header finished) holds = tt
 if_received P (pdus.NotOurs header code) holds = holds
 
-pub told_holds : (P : Pdu → Type 0) (octets : List ℕ) (result : Result (Option Pdu) PduFault)
+pub result_holds : (P : Pdu → Type 0) (octets : List ℕ) (result : Result (Option Pdu) PduFault)
     → ((pdu : Pdu) → SpellsPdu octets pdu → P pdu)
-    → Gives Memory (λ (told : Option Pdu). told) result (received_of (pdu_at octets)) → IfOk result (λ told. IfSome told P)
-told_holds P octets (Ok told) all given =
-    let read = bind_ok (pdu_at octets) (λ pdu. Ok (received pdu)) told given in
+    → Gives Memory (λ (returned : Option Pdu). returned) result (received_of (pdu_at octets)) → IfOk result (λ returned. IfSome returned P)
+result_holds P octets (Ok returned) all given =
+    let read = bind_ok (pdu_at octets) (λ pdu. Ok (received pdu)) returned given in
     let holds = if_received P read.0 (all read.0 (pdu_takes octets read.0 read.1)) in
-    subst (λ (told : Option Pdu). IfSome told P) (ok_is (received read.0) told read.2) holds
-told_holds P octets (Err fault) all given = tt
+    subst (λ (returned : Option Pdu). IfSome returned P) (ok_is (received read.0) returned read.2) holds
+result_holds P octets (Err fault) all given = tt
 
-not_both : (told : Option Pdu) (result : Result (Option Pdu) PduFault) → result ≡ Err Memory → result ≡ Ok told → ⊥
-not_both told (Ok other) wanting given = cc
-not_both told (Err fault) wanting given = cc
+not_both : (returned : Option Pdu) (result : Result (Option Pdu) PduFault) → result ≡ Err Memory → result ≡ Ok returned → ⊥
+not_both returned (Ok other) wanting given = cc
+not_both returned (Err fault) wanting given = cc
 
 abbrev failed : PduFault → Result Pdu PduFault
 failed fault = Err fault
@@ -43,12 +43,13 @@ not_failed fault never (inr ran_out) = never_both (received_of (failed fault)) f
 
 -- where memory is refused, and no octets have that fault, the PDU is one that is copied
 pub copied : (read : Result Pdu PduFault) (result : Result (Option Pdu) PduFault) → result ≡ Err Memory → (read ≡ failed Memory → ⊥)
-    → Gives Memory (λ (told : Option Pdu). told) result (received_of read) → (ReceivesLean read → result ≡ received_of read) → IsCopied read
+    → Gives Memory (λ (returned : Option Pdu). returned) result (received_of read) → (ReceivesLean read → result ≡ received_of read) → IsCopied read
 copied (Ok (pdus.Metadata header metadata)) result wanting never exact lean = tt
 copied (Ok (pdus.FileData header file_data)) result wanting never exact lean = tt
 copied (Ok (pdus.Eof header eof)) result wanting never exact lean = absurd (not_both (Some (pdus.Eof header eof)) result wanting (lean tt))
 copied (Ok (pdus.Finished header finished)) result wanting never exact lean = absurd (not_both None result wanting (lean tt))
 copied (Ok (pdus.NotOurs header code)) result wanting never exact lean = absurd (not_both (Some (pdus.NotOurs header code)) result wanting (lean tt))
 copied (Err fault) result wanting never exact lean =
-    absurd (not_failed fault never (subst (λ (r : Result (Option Pdu) PduFault). Gives Memory (λ (told : Option Pdu). told) r (received_of (failed fault)))
+    absurd (not_failed fault never (subst (λ (r : Result (Option Pdu) PduFault). Gives Memory (λ (returned : Option Pdu). returned) r
+    (received_of (failed fault)))
     wanting exact))

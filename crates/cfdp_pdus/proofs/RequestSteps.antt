@@ -52,38 +52,38 @@ requests_take (Some field ∷ options) requests e =
           let a = bind_ok (asked_at field.1) (λ request. requests_of options >>= λ others. Ok (request ∷ others)) requests here.1 in
           let b = bind_ok (requests_of options) (λ others. Ok (a.0 ∷ others)) requests a.2 in
           let asked = asked_takes field.1 a.0 a.1 in
-          let behind = requests_take options b.0 b.1 in
+          let following = requests_take options b.0 b.1 in
           let P : List RequestFields → Type 0 = λ rs. AsksAll (Some field ∷ options) rs in
-          let values-are : values_of 0 (field ∷ behind.fields) ≡ field.1 ∷ values_of 0 behind.fields = rw here.0 refl in
+          let values-are : values_of 0 (field ∷ following.fields) ≡ field.1 ∷ values_of 0 following.fields = rw here.0 refl in
           let Q : List (List ℕ) → Type 0 = λ values. EachAsks values (a.0 ∷ b.0) in
           subst P (ok_is (a.0 ∷ b.0) requests b.2) (record {
-            fields = field ∷ behind.fields;
-            whole = ap (λ (os : List (Option Field)). Some field ∷ os) behind.whole;
-            asks = subst Q (sym values-are) (asked.0, asked.1, behind.asks);
+            fields = field ∷ following.fields;
+            whole = ap (λ (os : List (Option Field)). Some field ∷ os) following.whole;
+            asks = subst Q (sym values-are) (asked.0, asked.1, following.asks);
           })
       | inr other ↦
-          let behind = requests_take options requests other.1 in
-          let values-are : values_of 0 (field ∷ behind.fields) ≡ values_of 0 behind.fields = rw other.0 refl in
+          let following = requests_take options requests other.1 in
+          let values-are : values_of 0 (field ∷ following.fields) ≡ values_of 0 following.fields = rw other.0 refl in
           let Q : List (List ℕ) → Type 0 = λ values. EachAsks values requests in
           record {
-            fields = field ∷ behind.fields;
-            whole = ap (λ (os : List (Option Field)). Some field ∷ os) behind.whole;
-            asks = subst Q (sym values-are) behind.asks;
+            fields = field ∷ following.fields;
+            whole = ap (λ (os : List (Option Field)). Some field ∷ os) following.whole;
+            asks = subst Q (sym values-are) following.asks;
           }
     ]
 
 -- one step, whichever way its test goes
-behind_field : (is_request : Bool) (value : List ℕ) (values : List (List ℕ)) (requests : List RequestFields) (read : Result (List RequestFields) PduFault) →
+after_field : (is_request : Bool) (value : List ℕ) (values : List (List ℕ)) (requests : List RequestFields) (read : Result (List RequestFields) PduFault) →
     ((others : List RequestFields) → EachAsks values others → read ≡ Ok others)
     → EachAsks (cond is_request (value ∷ values) values) requests → cond is_request
     (asked_at value >>= λ request. read >>= λ others. Ok (request ∷ others)) read ≡ Ok requests
-behind_field true value values [] read again asks = absurd asks
-behind_field true value values (request ∷ requests) read again asks = rw (asked_again value request asks.0 asks.1, again requests asks.2) refl
-behind_field false value values requests read again asks = again requests asks
+after_field true value values [] read again asks = absurd asks
+after_field true value values (request ∷ requests) read again asks = rw (asked_again value request asks.0 asks.1, again requests asks.2) refl
+after_field false value values requests read again asks = again requests asks
 
 pub requests_again : (fields : List Field) (requests : List RequestFields) → EachAsks (values_of 0 fields) requests → requests_of (all_of fields) ≡ Ok requests
 unfolding requests_of
 requests_again [] [] asks = refl
 requests_again [] (request ∷ requests) asks = absurd asks
-requests_again (field ∷ fields) requests asks = behind_field (eqb field.0 0) field.1 (values_of 0 fields) requests (requests_of (all_of fields))
+requests_again (field ∷ fields) requests asks = after_field (eqb field.0 0) field.1 (values_of 0 fields) requests (requests_of (all_of fields))
     (requests_again fields) asks

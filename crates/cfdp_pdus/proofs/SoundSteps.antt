@@ -37,9 +37,9 @@ front : (a b : List ℕ) → AreOctets (a ++ b) → AreOctets a
 front [] b are = tt
 front (octet ∷ a) b are = (are.0, front a b are.1)
 
-behind : (a b : List ℕ) → AreOctets (a ++ b) → AreOctets b
-behind [] b are = are
-behind (octet ∷ a) b are = behind a b are.1
+following : (a b : List ℕ) → AreOctets (a ++ b) → AreOctets b
+following [] b are = are
+following (octet ∷ a) b are = following a b are.1
 
 -- a number of this many octets fits them
 number_fits : (octets : List ℕ) (len x : ℕ) → AreOctets octets → IsNumber octets len x → x < 256 ^ len
@@ -50,7 +50,7 @@ number_fits octets len x are number = subst (λ (n : ℕ). n < 256 ^ len) (sym n
 header_sound : (first fourth : ℕ) (names : List ℕ) (header : Header) → AreOctets names → HasHeader first fourth names header → IsHeader header
 header_sound first fourth names header are has =
     let all = subst AreOctets has.parts are in
-    let rest = behind has.source_octets (has.number_octets ++ has.destination_octets) all in
+    let rest = following has.source_octets (has.number_octets ++ has.destination_octets) all in
     record {
       id_low = omega (arith, has.id_len);
       id_high = omega (arith, has.id_len);
@@ -58,7 +58,8 @@ header_sound first fourth names header are has =
       number_high = omega (arith, has.number_len);
       source = number_fits has.source_octets header.id_len header.source (front has.source_octets (has.number_octets ++ has.destination_octets) all) has.source;
       number = number_fits has.number_octets header.number_len header.number (front has.number_octets has.destination_octets rest) has.number;
-      destination = number_fits has.destination_octets header.id_len header.destination (behind has.number_octets has.destination_octets rest) has.destination;
+      destination = number_fits has.destination_octets header.id_len header.destination (following has.number_octets has.destination_octets rest)
+          has.destination;
     }
 
 -- a data field's length has two octets
@@ -107,13 +108,13 @@ file_data_sound : (header : Header) (segment_metadata : Bool) (octets : List ℕ
     SpellsFileData header.large segment_metadata octets file_data → IsSizedFileData header.large file_data
 file_data_sound header segment_metadata octets file_data are spelled =
     let all = subst AreOctets spelled.parts are in
-    let rest = behind spelled.segment (spelled.offset_octets ++ file_data.octets) all in
+    let rest = following spelled.segment (spelled.offset_octets ++ file_data.octets) all in
     record { offset = number_fits spelled.offset_octets (fss header.large) file_data.offset (front spelled.offset_octets file_data.octets rest) spelled.offset }
 
 eof_sound : (header : Header) (octets : List ℕ) (eof : Eof) → AreOctets octets → SpellsEof header.large octets eof → IsSizedEof header.large eof
 eof_sound header octets eof are spelled =
     let all = subst AreOctets spelled.parts are in
-    let rest = behind spelled.checksum_octets (spelled.size_octets ++ field_octets spelled.fields) all.1 in
+    let rest = following spelled.checksum_octets (spelled.size_octets ++ field_octets spelled.fields) all.1 in
     record {
       condition = omega (arith, spelled.condition, all.0);
       size = number_fits spelled.size_octets (fss header.large) eof.size (front spelled.size_octets (field_octets spelled.fields) rest) spelled.size;
@@ -155,7 +156,7 @@ pdu_sound (first ∷ high ∷ low ∷ []) pdu are spelled = absurd spelled
 pdu_sound (first ∷ high ∷ low ∷ fourth ∷ rest) pdu are spelled =
     let all = subst AreOctets spelled.parts are.1.1.1.1 in
     let names = front spelled.names spelled.field all in
-    field_sound (flag 4 first) (flag 3 fourth) spelled.field pdu (behind spelled.names spelled.field all)
+    field_sound (flag 4 first) (flag 3 fourth) spelled.field pdu (following spelled.names spelled.field all)
     (header_sound first fourth spelled.names (header_of pdu) names spelled.header) spelled.spelled
 
 pub is_sound : (octets : List ℕ) (result : Result Pdu PduFault) → AreOctets octets → IfOk result (SpellsPdu octets) → IfOk result IsSound

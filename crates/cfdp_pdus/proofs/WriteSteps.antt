@@ -16,8 +16,8 @@ pub part_fits : {X : Type 0} (f : X → List ℕ) (xs : List X) (i : ℕ) (d : X
 part_fits f [] i d lt = absurd (omega arith)
 part_fits f (x ∷ xs) zero d lt = omega (arith, length-append (f x) (flat_map f xs))
 part_fits f (x ∷ xs) (suc i) d lt =
-    let behind = part_fits f xs i d (omega arith) in
-    omega (arith, behind, length-append (f x) (flat_map f xs), length-append (f x) (flat_map f (take i xs)))
+    let following = part_fits f xs i d (omega arith) in
+    omega (arith, following, length-append (f x) (flat_map f xs), length-append (f x) (flat_map f (take i xs)))
 
 pub location_len : (id_len entity : ℕ) → length (fault_location id_len (Some entity)) ≡ id_len + 2
 location_len id_len entity = omega (arith, length-bytes_high_first id_len entity)

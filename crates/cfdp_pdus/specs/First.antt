@@ -70,15 +70,15 @@ unfoldable pub entity_at : List ℕ → Result ℕ PduFault
 entity_at value =
     if nat_le 1 (length value) && nat_le (length value) 8 then Ok (big_number (length value) value) else Err BadTlv
 
-abbrev pub told_at : List ℕ → Result ResponseFields PduFault
-told_at value = mend BadTlv (response_at value)
+abbrev pub answered_at : List ℕ → Result ResponseFields PduFault
+answered_at value = mend BadTlv (response_at value)
 
 unfoldable pub outcome_fields : List (Option Field) → Result (List ResponseFields × Option ℕ) PduFault
 outcome_fields [] = Ok ([], None)
 outcome_fields (None ∷ fields) = Err BadTlv
 outcome_fields (Some field ∷ fields) =
     if field.0 == filestore_response_type
-    then (told_at field.1 >>= λ response. outcome_fields fields >>= λ others. Ok (response ∷ others.0, others.1))
+    then (answered_at field.1 >>= λ response. outcome_fields fields >>= λ others. Ok (response ∷ others.0, others.1))
     else if field.0 == entity_id_type
     then (entity_at field.1 >>= λ entity. outcome_fields fields >>= λ others. Ok
     (others.0, or_else others.1 (Some entity)))
@@ -111,15 +111,15 @@ metadata_at large (flags ∷ octets) = do
   })
 
 -- what is after the continuation state and the segment metadata, where there are any
-unfoldable pub behind_segment : Bool → List ℕ → Result (List ℕ) PduFault
-behind_segment false octets = Ok octets
-behind_segment true [] = Err LengthMismatch
-behind_segment true (state ∷ octets) =
+unfoldable pub after_segment : Bool → List ℕ → Result (List ℕ) PduFault
+after_segment false octets = Ok octets
+after_segment true [] = Err LengthMismatch
+after_segment true (state ∷ octets) =
     if nat_lt (length octets) (state % 64) then Err LengthMismatch else Ok (drop (state % 64) octets)
 
 unfoldable pub file_data_at : Bool → Bool → List ℕ → Result FileDataFields PduFault
 file_data_at large segment_metadata octets = do
-  segment ← behind_segment segment_metadata octets
+  segment ← after_segment segment_metadata octets
   offset ← number_at LengthMismatch (fss large) segment
   Ok (record { offset = offset.0; octets = offset.1 })
 

@@ -10,5 +10,5 @@ pub mod Texts
 pub mod Sound
 pub mod Receiving
 pub mod Messages
-pub mod Placing
+pub mod BufferParts
 pub mod code

@@ -48,12 +48,12 @@ messages_at octets = messages_from (start_at octets)
 -- ---- in the words of the grammar
 
 -- in the data field of a Metadata PDU
-abbrev pub options_told : (file_data segment_metadata : Bool) (field : List ℕ) (header : Header)
+abbrev pub spelled_options : (file_data segment_metadata : Bool) (field : List ℕ) (header : Header)
     (metadata : MetadataFields)
     → SpellsField file_data segment_metadata field (pdus.Metadata header metadata) → List Field
-options_told true segment_metadata field header metadata spelled = absurd spelled
-options_told false segment_metadata [] header metadata spelled = absurd spelled
-options_told false segment_metadata (code ∷ octets) header metadata spelled = spelled.1.options
+spelled_options true segment_metadata field header metadata spelled = absurd spelled
+spelled_options false segment_metadata [] header metadata spelled = absurd spelled
+spelled_options false segment_metadata (code ∷ octets) header metadata spelled = spelled.1.options
 
 abbrev pub options_said : (octets : List ℕ) (header : Header) (metadata : MetadataFields) →
     SpellsPdu octets (pdus.Metadata header metadata) → List Field
@@ -62,4 +62,4 @@ options_said (first ∷ []) header metadata spelled = absurd spelled
 options_said (first ∷ high ∷ []) header metadata spelled = absurd spelled
 options_said (first ∷ high ∷ low ∷ []) header metadata spelled = absurd spelled
 options_said (first ∷ high ∷ low ∷ fourth ∷ rest) header metadata spelled =
-    options_told (flag 4 first) (flag 3 fourth) spelled.field header metadata spelled.spelled
+    spelled_options (flag 4 first) (flag 3 fourth) spelled.field header metadata spelled.spelled

@@ -3,7 +3,7 @@
 ghost use Rattle.std.specs.Prelude.{◌≡◌, ◌≤◌, ◌<◌, ◌+◌, ◌*◌, ◌^◌, length};
 ghost use Rattle.byteorder.specs.Endian.{big_bytes};
 ghost use Rattle.cfdp_pdus.specs.Canonical.{IsHeader, header_octets};
-ghost use Rattle.cfdp_pdus.specs.Placing.{filled, with_octets_at};
+ghost use Rattle.cfdp_pdus.specs.BufferParts.{filled, with_octets_at};
 
 use crate::Header;
 use byteorder::{BigEndian, ByteOrder};

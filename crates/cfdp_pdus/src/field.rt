@@ -2,7 +2,7 @@
 
 ghost use Rattle.std.specs.Prelude.{◌≡◌, IfOk, Ok};
 ghost use Rattle.cfdp_tlv.specs.Reading.{Answers, Gives};
-ghost use Rattle.cfdp_pdus.specs.First.{name_field_at, asked_at, told_at, requests_of, outcome_fields, entity_at, all_whole, fields_at};
+ghost use Rattle.cfdp_pdus.specs.First.{name_field_at, asked_at, answered_at, requests_of, outcome_fields, entity_at, all_whole, fields_at};
 ghost use Rattle.cfdp_pdus.specs.code.Counting.{count_read, responses_in_fields, outcome_count};
 ghost use Rattle.cfdp_pdus.specs.declared.fault.PduFault.TheVariants.{Memory};
 
@@ -98,7 +98,7 @@ fn read_entity(value: &[u8]) -> Result<u64, PduFault>
 
 /// A filestore response.
 fn read_response_parts(value: &[u8]) -> Result<ResponseParts<'_>, PduFault>
-    ensures { result ≡ told_at value.now }
+    ensures { result ≡ answered_at value.now }
 {
     response_parts(value).map_err(|_| PduFault::BadTlv)
 }

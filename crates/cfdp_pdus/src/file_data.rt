@@ -3,7 +3,7 @@
 ghost use Rattle.std.specs.Prelude.{◌≡◌, ◌≤◌, ◌<◌, ◌+◌, ◌⊎◌, ◌↔◌, ◌++◌, length, vec_len, true, false, IfErr, OnOk, OnErr, IsErrOf, IsOk};
 ghost use Rattle.std.specs.Vec.{vec_capacity};
 ghost use Rattle.cfdp_tlv.specs.Reading.{Answers, Gives};
-ghost use Rattle.cfdp_pdus.specs.First.{behind_segment, file_data_at};
+ghost use Rattle.cfdp_pdus.specs.First.{after_segment, file_data_at};
 ghost use Rattle.cfdp_pdus.specs.Canonical.{IsHeader, IsSizedFileData, pdu_octets, file_data_field, file_data_fits};
 ghost use Rattle.cfdp_pdus.specs.declared.fault.PduFault.TheVariants.{Memory as OutOfMemory};
 ghost use Rattle.cfdp_pdus.specs.declared.fault.WriteFault.TheVariants.{TooLong, Memory};
@@ -50,8 +50,8 @@ impl Eq for FileData {
     ghost laws = { file_data_equiv };
 }
 
-/// A File Data PDU's data field (CCSDS 727.0-B-5 §5.3), whose octets lie where they were read. A contract sees the same
-/// of it as of [`FileData`].
+/// A File Data PDU's data field (CCSDS 727.0-B-5 §5.3). Its octets are borrowed from the PDU. Contracts see the same
+/// value as for [`FileData`].
 #[derive(Debug, Drop)]
 pub struct Piece<'a> {
     /// Where the octets are in the file, from 0.
@@ -81,9 +81,9 @@ impl FileData {
 }
 
 /// What is after the continuation state and the segment metadata, where there are any.
-#[tactic(auto, unfolding(crate::specs::First::behind_segment))]
+#[tactic(auto, unfolding(crate::specs::First::after_segment))]
 fn skip_segment(segment_metadata: bool, octets: &[u8]) -> Result<&[u8], PduFault>
-    ensures { Answers (λ rest. rest.now) result (behind_segment segment_metadata octets.now) }
+    ensures { Answers (λ rest. rest.now) result (after_segment segment_metadata octets.now) }
 {
     if !segment_metadata {
         return Ok(octets);

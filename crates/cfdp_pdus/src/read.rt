@@ -112,7 +112,7 @@ pub fn read_pdu(alloc: Global, octets: &[u8]) -> Result<Pdu, PduFault>
 /// A directive as a file's receiver reads it: none for a Finished PDU, which is only checked.
 #[tactic(auto, unfolding(crate::specs::First::directive_at))]
 fn receive_directive(alloc: Global, header: Header, field: &[u8]) -> Result<Option<Pdu>, PduFault>
-    ensures exact { Gives Memory (λ told. told) result (received_of (directive_at header field.now)) }
+    ensures exact { Gives Memory (λ returned. returned) result (received_of (directive_at header field.now)) }
     ensures lean { ReceivesLean (directive_at header field.now) → result ≡ received_of (directive_at header field.now) }
 {
     if let [FINISHED, rest @ ..] = field {
@@ -124,7 +124,7 @@ fn receive_directive(alloc: Global, header: Header, field: &[u8]) -> Result<Opti
 /// What [`read_for_receiver`] returns.
 #[tactic(auto, unfolding(crate::specs::First::field_at))]
 fn receive_whole(alloc: Global, octets: &[u8]) -> Result<Option<Pdu>, PduFault>
-    ensures exact { Gives Memory (λ told. told) result (received_of (pdu_at octets.now)) }
+    ensures exact { Gives Memory (λ returned. returned) result (received_of (pdu_at octets.now)) }
     ensures lean { ReceivesLean (pdu_at octets.now) → result ≡ received_of (pdu_at octets.now) }
 {
     let start = read_start(octets)?;
@@ -143,17 +143,17 @@ fn receive_whole(alloc: Global, octets: &[u8]) -> Result<Option<Pdu>, PduFault>
 /// Cost: that of [`read_pdu`], and of a Finished PDU one pass over its octets.
 pub fn read_for_receiver(alloc: Global, octets: &[u8]) -> Result<Option<Pdu>, PduFault>
     // What is read is spelled so.
-    ensures found { IfOk result (λ told. IfSome told (SpellsPdu octets.now)) }
+    ensures found { IfOk result (λ returned. IfSome returned (SpellsPdu octets.now)) }
     // What is spelled so is reported, unless memory runs out.
     ensures only { (pdu : PduValue) → SpellsPdu octets.now pdu → (result ≡ Ok (received pdu)) ⊎ (result ≡ Err Memory) }
     // Which fault it is: `Memory` is only returned instead of a PDU.
-    ensures exact { Gives Memory (λ told. told) result (received_of (pdu_at octets.now)) }
+    ensures exact { Gives Memory (λ returned. returned) result (received_of (pdu_at octets.now)) }
     // An EOF PDU, a Finished PDU, and one that is not ours, are read without memory.
     ensures lean { (pdu : PduValue) → SpellsPdu octets.now pdu → IsLeanToReceive pdu → result ≡ Ok (received pdu) }
     // Memory is refused only where a Metadata PDU or a File Data PDU is spelled.
     ensures memory { result ≡ Err Memory → IsCopied (pdu_at octets.now) }
     // What is read can be written, and answered.
-    ensures sound { IfOk result (λ told. IfSome told IsSound) }
+    ensures sound { IfOk result (λ returned. IfSome returned IsSound) }
 {
     receive_whole(alloc, octets)
 }

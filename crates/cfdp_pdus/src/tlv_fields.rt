@@ -3,7 +3,7 @@
 ghost use Rattle.std.specs.Prelude.{◌≡◌};
 ghost use Rattle.std.specs.Iterator.{YieldsFirstBy, item_count};
 ghost use Rattle.cfdp_pdus.specs.First.{fields_at};
-ghost use Rattle.cfdp_pdus.specs.code.Fields.{whole};
+ghost use Rattle.cfdp_pdus.specs.code.Fields.{field_if_whole};
 
 use cfdp_tlv::{Tlv, TlvFault, read_tlv};
 use std::marker::Model;
@@ -38,7 +38,7 @@ impl<'a> TlvFields<'a> {
 impl<'a> Iterator for TlvFields<'a> {
     type Item = Result<Tlv<'a>, TlvFault>;
 
-    ghost next_gives = { YieldsFirstBy whole (λ fields. fields) };
+    ghost next_gives = { YieldsFirstBy field_if_whole (λ fields. fields) };
 
     ghost remaining = { item_count (λ fields. fields) };
 

@@ -1,3 +1,3 @@
 pub mod NamesAndLines
 pub mod Printing
-pub mod Telling
+pub mod PduLines

@@ -29,10 +29,10 @@ name_finished name text (octet ∷ rest) none is = absurd (omega (arith, none))
 -- a line more
 pub line_taken : {X : Type 0} (f : X → List ℕ) (xs : List X) (n : ℕ) (old new : List ℕ) → n < length xs → old ≡ []
     → IfSome (slice_get xs n) (λ x. new ≡ old ++ f x) → flat_map f (take (suc n) xs) ≡ flat_map f (take n xs) ++ new
-line_taken f [] n old new lt empty told = absurd (omega arith)
-line_taken f (x ∷ xs) zero old new lt empty told = append-nil (f x) ∙ sym (told ∙ ap (λ (l : List ℕ). l ++ f x) empty)
-line_taken f (x ∷ xs) (suc n) old new lt empty told =
-    ap (λ (l : List ℕ). f x ++ l) (line_taken f xs n old new (omega arith) empty told)
+line_taken f [] n old new lt empty stated = absurd (omega arith)
+line_taken f (x ∷ xs) zero old new lt empty stated = append-nil (f x) ∙ sym (stated ∙ ap (λ (l : List ℕ). l ++ f x) empty)
+line_taken f (x ∷ xs) (suc n) old new lt empty stated =
+    ap (λ (l : List ℕ). f x ++ l) (line_taken f xs n old new (omega arith) empty stated)
     ∙ sym (append_assoc (f x) (flat_map f (take n xs)) new)
 
 pub appends_more : (a b c : Option (List ℕ)) (xs ys zs : List ℕ) → Appends a b xs → Appends b c ys → zs ≡ xs ++ ys → Appends a c zs

@@ -3,10 +3,10 @@
 ghost use Rattle.std.specs.Prelude.{◌≡◌, ◌<◌, length, Some, None, IfOk, IfSome, IfNone};
 ghost use Rattle.std.specs.Option.{option_map};
 ghost use Rattle.hex.specs.Hex.{hex_digit_value};
-ghost use Rattle.cfdp_texts.specs.Replies.{is_plain};
 ghost use Rattle.cfdp_plans.specs.Names.{before, octet_of_pair, name_in, path_spelled, path_octets_in};
 
 use cfdp_paths::{Path, PathFault};
+use cfdp_texts::is_plain;
 use std::alloc::{AllocError, Global};
 
 /// The value of a hexadecimal digit, of either case.
@@ -28,13 +28,6 @@ fn pair(high: u8, low: u8) -> Option<u8>
     let high = digit(high)?;
     let low = digit(low)?;
     Some(16 * high + low)
-}
-
-/// Whether an octet of a text is an octet of the name.
-fn is_plain(octet: u8) -> bool
-    ensures { result ≡ is_plain octet }
-{
-    octet.is_ascii_graphic() && octet != b'%'
 }
 
 /// The first octet of the name that a text spells, and the rest of the text.

@@ -31,8 +31,8 @@ use Rattle.cfdp_receiver.specs.Handing as Handing
 use Rattle.cfdp_receiver.specs.Turning as Turning
 use Rattle.cfdp_receiver.specs.Laws.{due_name, session_name, touched, is_waiting, waits_in}
 use Rattle.cfdp_receiver.proofs.Distinct.{distinct_after}
-use Rattle.cfdp_receiver.proofs.Limits.{stage_due, alive_due, first_over_is, is_it, at_waiting, terms_waiting}
-use Rattle.cfdp_receiver.proofs.Shapes.{others_stay}
+use Rattle.cfdp_receiver.proofs.FinishedSentAtMost.{stage_due, alive_due, first_over_is, is_it, at_waiting, terms_waiting}
+use Rattle.cfdp_receiver.proofs.TurnShapes.{others_stay}
 use Rattle.cfdp_progress.specs.NakRounds.{IsServed}
 use Rattle.cfdp_progress.specs.Closing.{acknowledges, is_acknowledged, is_timer_of, is_sent_again, IsSentOnce, FinishedRound, finished_inputs, AreFinishedRounds, rounds_lost, WasClosed, ClosedAfterLosses}
 use Rattle.cfdp_progress.proofs.Runs.{distinct_all, mib_all, joined}

@@ -44,10 +44,10 @@ use Rattle.cfdp_receiver.specs.Handing as Handing
 use Rattle.cfdp_receiver.specs.Turning as Turning
 use Rattle.cfdp_receiver.specs.Laws.{due_name, session_name, touched, is_work}
 use Rattle.cfdp_receiver.proofs.Distinct.{distinct_after}
-use Rattle.cfdp_receiver.proofs.Limits.{stage_due, alive_due, first_over_is, is_it}
-use Rattle.cfdp_receiver.proofs.Shapes.{others_stay}
+use Rattle.cfdp_receiver.proofs.FinishedSentAtMost.{stage_due, alive_due, first_over_is, is_it}
+use Rattle.cfdp_receiver.proofs.TurnShapes.{others_stay}
 use Rattle.cfdp_progress.specs.Concluding.{has_nothing_left, WasConcluded, ConcludedWhenDone, IsSentAndWaits, FinishedIsSent, FinishedIsSentAlone}
-use Rattle.cfdp_receiver.proofs.Others.{other_than, others_keep_entries, run_sound}
+use Rattle.cfdp_receiver.proofs.OthersStay.{other_than, others_keep_entries, run_sound}
 use Rattle.cfdp_progress.proofs.Turns.{heard_is, roused_is}
 use Rattle.cfdp_leases.proofs.Admitted.{same_is}
 use Rattle.cfdp_transactions.proofs.Promises.Carried.{some_same}

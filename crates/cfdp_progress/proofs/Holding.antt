@@ -34,9 +34,9 @@ use Rattle.cfdp_receiver.specs.Turning as Turning
 use Rattle.cfdp_receiver.specs.Turning.{most_nak_requests, after_input, after_all}
 use Rattle.cfdp_receiver.specs.Laws.{asks_metadata, due_name, session_name, touched}
 use Rattle.cfdp_receiver.proofs.Distinct.{distinct_after}
-use Rattle.cfdp_receiver.proofs.Knowing.{added_found}
-use Rattle.cfdp_receiver.proofs.Limits.{stage_due, alive_due, first_over_is, is_it}
-use Rattle.cfdp_receiver.proofs.Shapes.{others_stay}
+use Rattle.cfdp_receiver.proofs.SessionsAreKnown.{added_found}
+use Rattle.cfdp_receiver.proofs.FinishedSentAtMost.{stage_due, alive_due, first_over_is, is_it}
+use Rattle.cfdp_receiver.proofs.TurnShapes.{others_stay}
 use Rattle.cfdp_progress.specs.Awaiting.{is_ignoring, is_given_up, breaks_off}
 use Rattle.cfdp_progress.specs.HeldRounds.{is_eof_held, holds_in, EofHolds, BeginsHeldRound, asks_first, joins_held, comes, StaysHeld}
 use Rattle.cfdp_progress.specs.NakRounds.{is_asking, asks_again, IsServed}

@@ -29,15 +29,15 @@ use Rattle.cfdp_receiver.specs.Turning as Turning
 use Rattle.cfdp_receiver.specs.Turning.{most_nak_requests, parts, after_input, after_all}
 use Rattle.cfdp_receiver.specs.Laws.{is_known_session, knows, AreKnown}
 use Rattle.cfdp_receiver.proofs.Distinct.{distinct_after}
-use Rattle.cfdp_receiver.proofs.Knowing.{Laws, known_after}
-use Rattle.cfdp_receiver.proofs.Limits.{first_over_is}
+use Rattle.cfdp_receiver.proofs.SessionsAreKnown.{Laws, known_after}
+use Rattle.cfdp_receiver.proofs.FinishedSentAtMost.{first_over_is}
 use Rattle.cfdp_progress.specs.Awaiting.{WasDelivered}
 use Rattle.cfdp_progress.specs.NakRounds.{requests_of_each, IsServed, FirstRound}
 use Rattle.cfdp_progress.specs.Closing.{is_acknowledged, IsSentOnce, FinishedRound, finished_inputs, AreFinishedRounds, rounds_lost, WasClosed}
 use Rattle.cfdp_progress.specs.Concluding.{has_nothing_left, WasConcluded}
 use Rattle.cfdp_progress.specs.InAll.{EitherRound, as_finished, inputs_of, is_session_of, concludes, IsAcknowledgedAfter, IsWatched, AreEitherRounds, total_lost, lost_in_all, ClosedInAll}
-use Rattle.cfdp_receiver.proofs.Others.{run_sound}
-use Rattle.cfdp_progress.proofs.Pieces.{fits_of, few_of}
+use Rattle.cfdp_receiver.proofs.OthersStay.{run_sound}
+use Rattle.cfdp_progress.proofs.PieceOfAwaiting.{fits_of, few_of}
 use Rattle.cfdp_progress.proofs.Turns.{Before}
 use Rattle.cfdp_progress.proofs.Runs.{still_awaits, sound_all, distinct_all, mib_all, after_both}
 use Rattle.cfdp_progress.proofs.Openings.{open_expire, open_first}

@@ -32,13 +32,13 @@ use Rattle.cfdp_receiver.specs.State.{State, AnswerFields, Input, MetadataPdu, D
 use Rattle.cfdp_receiver.specs.Due as Dues
 use Rattle.cfdp_receiver.specs.Handing as Handing
 use Rattle.cfdp_receiver.specs.Turning as Turning
-use Rattle.cfdp_receiver.proofs.Limits.{stage_due, is_it}
-use Rattle.cfdp_receiver.proofs.Sending.{heard_name}
+use Rattle.cfdp_receiver.proofs.FinishedSentAtMost.{stage_due, is_it}
+use Rattle.cfdp_receiver.proofs.AnswerParts.{heard_name}
 use Rattle.cfdp_progress.specs.Awaiting.{EntryAwaits, TransactionAwaits}
 use Rattle.cfdp_progress.specs.NakRounds.{requests_of_each, IsServed, EofOpens, MetadataOpens, Opens}
 use Rattle.cfdp_progress.proofs.Turns.{Before, at_is, at_in, asks_none, heard_is}
 use Rattle.cfdp_progress.proofs.Runs.{before_of}
-use Rattle.cfdp_receiver.proofs.Asking.{from_zero}
+use Rattle.cfdp_receiver.proofs.NaksAsk.{from_zero}
 use Rattle.cfdp_receiver.proofs.Serving.{full_of}
 use Rattle.cfdp_leases.proofs.Held.{same_itself}
 

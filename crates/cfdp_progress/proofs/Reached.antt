@@ -36,13 +36,13 @@ use Rattle.cfdp_transactions.proofs.Indexes.{set_set_same}
 use Rattle.cfdp_receiver.specs.State.{begin}
 use Rattle.cfdp_receiver.specs.Turning.{after_all, all_handed}
 use Rattle.cfdp_receiver.specs.Laws.{is_known_session, knows, KnownIsEntry}
-use Rattle.cfdp_receiver.proofs.Handing.{hands_on}
+use Rattle.cfdp_receiver.proofs.HandedOn.{hands_on}
 use Rattle.cfdp_progress.specs.Awaiting.{AwaitingAwaits}
-use Rattle.cfdp_receiver.proofs.Others.{other_than}
+use Rattle.cfdp_receiver.proofs.OthersStay.{other_than}
 use Rattle.cfdp_progress.proofs.Configured.{next_config}
 use Rattle.cfdp_progress.proofs.Concluding.{not_true}
 use Rattle.cfdp_progress.proofs.InAll.{known_stage}
-use Rattle.cfdp_progress.proofs.Pieces.{replaces}
+use Rattle.cfdp_progress.proofs.PieceOfAwaiting.{replaces}
 use Rattle.cfdp_leases.proofs.Admitted.{same_is}
 
 -- an entry that waits for octets

@@ -20,8 +20,8 @@ use Rattle.cfdp_receiver.specs.Turning.{most_nak_requests, parts, after_input, a
 use Rattle.cfdp_receiver.proofs.Distinct.{distinct_after}
 use Rattle.cfdp_progress.specs.Awaiting.{WasDelivered}
 use Rattle.cfdp_progress.specs.NakRounds.{requests_of_each, AreAnswered, IsServed, NakRound, round_inputs, AreNakRounds, all_lost, AreBelow, all_inputs, DeliveredAfterRounds, DeliveredAfterLosses}
-use Rattle.cfdp_receiver.proofs.Others.{run_sound}
-use Rattle.cfdp_progress.proofs.Pieces.{fits_of, few_of}
+use Rattle.cfdp_receiver.proofs.OthersStay.{run_sound}
+use Rattle.cfdp_progress.proofs.PieceOfAwaiting.{fits_of, few_of}
 use Rattle.cfdp_progress.proofs.Runs.{Left, keep_both, over_inputs, still_awaits, before_of, sound_all, distinct_all, mib_all, was_later, was_after, was_before, never_waits}
 use Rattle.cfdp_progress.proofs.Turns.{Before}
 use Rattle.cfdp_progress.proofs.Openings.{open_expire, open_first, limit_is_full}

@@ -32,8 +32,8 @@ use Rattle.cfdp_receiver.specs.Laws.{touched, is_work}
 use Rattle.cfdp_receiver.proofs.Distinct.{distinct_after}
 use Rattle.cfdp_progress.specs.Awaiting.{EntryAwaits, TransactionAwaits, is_awaiting_entry, awaits_octets, GoesOn, piece_in, pieces_in, IsDelivered, WasDelivered, AnsweredTurns, is_named, is_kept_apart, AreKeptApart, StaysDelivered}
 use Rattle.cfdp_progress.specs.NakRounds.{IsAskedOnce}
-use Rattle.cfdp_receiver.proofs.Others.{others_keep_entries, work_keeps_others, run_sound}
-use Rattle.cfdp_progress.proofs.Pieces.{fits_of}
+use Rattle.cfdp_receiver.proofs.OthersStay.{others_keep_entries, work_keeps_others, run_sound}
+use Rattle.cfdp_progress.proofs.PieceOfAwaiting.{fits_of}
 use Rattle.cfdp_progress.proofs.Turns.{Before, Still, Is_done, step}
 use Rattle.cfdp_progress.proofs.Concluding.{not_true}
 use Rattle.cfdp_retransmission.proofs.Losing.{there_or_not}

@@ -42,18 +42,18 @@ use Rattle.cfdp_receiver.specs.Due as Dues
 use Rattle.cfdp_receiver.specs.Handing as Handing
 use Rattle.cfdp_receiver.specs.Turning as Turning
 use Rattle.cfdp_receiver.specs.Laws.{due_name, session_name, touched, is_work}
-use Rattle.cfdp_receiver.proofs.Giving.{acknowledged_none}
-use Rattle.cfdp_receiver.proofs.Limits.{stage_due, alive_due, first_over_is, is_it}
-use Rattle.cfdp_receiver.proofs.Sending.{heard_name}
-use Rattle.cfdp_receiver.proofs.Shapes.{others_stay}
+use Rattle.cfdp_receiver.proofs.LimitsReached.{acknowledged_none}
+use Rattle.cfdp_receiver.proofs.FinishedSentAtMost.{stage_due, alive_due, first_over_is, is_it}
+use Rattle.cfdp_receiver.proofs.AnswerParts.{heard_name}
+use Rattle.cfdp_receiver.proofs.TurnShapes.{others_stay}
 use Rattle.cfdp_progress.specs.Awaiting.{EntryAwaits, is_ignoring, is_given_up, breaks_off, piece_in, IsDelivered}
 use Rattle.cfdp_progress.specs.NakRounds.{is_asking, asks_again}
 use Rattle.cfdp_progress.proofs.Configured.{run_config}
-use Rattle.cfdp_receiver.proofs.Others.{others_keep_entries, work_keeps_others}
-use Rattle.cfdp_progress.proofs.Apart.{none_runs}
-use Rattle.cfdp_progress.proofs.Pieces.{Comes, Goes_on, Is_over, comes}
+use Rattle.cfdp_receiver.proofs.OthersStay.{others_keep_entries, work_keeps_others}
+use Rattle.cfdp_progress.proofs.NoItemNext.{none_runs}
+use Rattle.cfdp_progress.proofs.PieceOfAwaiting.{Comes, Goes_on, Is_over, comes}
 use Rattle.cfdp_receiver.proofs.Serving.{none_known}
-use Rattle.cfdp_receiver.proofs.Again.{known_same}
+use Rattle.cfdp_receiver.proofs.MetadataAgain.{known_same}
 use Rattle.cfdp_leases.proofs.Admitted.{same_is}
 
 -- ---- what becomes of it

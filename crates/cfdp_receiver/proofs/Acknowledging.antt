@@ -16,7 +16,7 @@ use Rattle.cfdp_receiver.specs.Handing as Handing
 use Rattle.cfdp_receiver.specs.Turning as Turning
 use Rattle.cfdp_receiver.specs.Laws.{due_name, session_name, touched, touched_in, Sent, None_sent, First_sent, Sent_again, sent_for, sent_closed, NoneAfterAck}
 use Rattle.cfdp_receiver.proofs.Finishing.{finished_only}
-use Rattle.cfdp_receiver.proofs.Shapes.{Shape, Keeps, Puts, Adds, Closes, Forgets, shape, closed_in, IsDueOf, due_is, IsOverOf, over_is}
+use Rattle.cfdp_receiver.proofs.TurnShapes.{Shape, Keeps, Puts, Adds, Closes, Forgets, shape, closed_in, IsDueOf, due_is, IsOverOf, over_is}
 use Rattle.cfdp_leases.proofs.Held.{same_itself}
 use Rattle.cfdp_leases.proofs.Admitted.{same_is}
 

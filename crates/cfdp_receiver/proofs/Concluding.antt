@@ -39,10 +39,10 @@ use Rattle.cfdp_receiver.specs.Laws.{AreKnown, is_known_session, knows}
 use Rattle.cfdp_receiver.specs.StateMachine.{StateMachineFields, AnswerParts, answer_in, finished_by}
 use Rattle.cfdp_receiver.specs.code.StateMachine.{Concludes, Turns, at_moment, in_world, silent}
 use Rattle.cfdp_receiver.specs.Turning as Turning
-use Rattle.cfdp_receiver.proofs.Asked.{with_sessions}
-use Rattle.cfdp_receiver.proofs.Knowing.{phase_over}
-use Rattle.cfdp_receiver.proofs.Limits.{first_over_is}
-use Rattle.cfdp_receiver.proofs.Turned.{turns_by}
+use Rattle.cfdp_receiver.proofs.CancelAsked.{with_sessions}
+use Rattle.cfdp_receiver.proofs.SessionsAreKnown.{phase_over}
+use Rattle.cfdp_receiver.proofs.FinishedSentAtMost.{first_over_is}
+use Rattle.cfdp_receiver.proofs.LateTurns.{turns_by}
 
 -- ---- the first session that is over
 
@@ -116,9 +116,9 @@ caused_is s made o why condition same cause is =
     ap (with_condition made) is ∙ caused_by made why
     ∙ ap (λ (x : Option ℕ). record made { finished = Turning.caused x made.finished }) cause ∙ ap (caused_outcome s) same
 
-pub follows_told : (W : World) (v : Event) (reply : Reply) (V : World) → Follows W v reply V → (reply ≡ Replies.Memory → ⊥) → next W v ≡ (V, reply)
-follows_told W v Replies.Memory V follows other = absurd (other refl)
-follows_told W v reply V follows other = follows
+pub follows_indicated : (W : World) (v : Event) (reply : Reply) (V : World) → Follows W v reply V → (reply ≡ Replies.Memory → ⊥) → next W v ≡ (V, reply)
+follows_indicated W v Replies.Memory V follows other = absurd (other refl)
+follows_indicated W v reply V follows other = follows
 
 -- a session that is over is not held, and does not wait
 pub over_stage : (R : State) (s : SessionFields) → first_over R.world R.sessions ≡ Some s → ((eof : Eof) × (s.stage ≡ Held eof)) ⊎ (s.stage ≡ Waiting) → ⊥
@@ -174,7 +174,7 @@ pub finish_taken : (M N : StateMachineFields) (a : AnswerParts) (now : ℕ) (s :
     first_over M.state.world M.state.sessions ≡ Some s → s.stage ≡ Known → Some o ≡ outcome_in M.state.world (session_id s) →
     next M.state.world (Take (session_id s)) ≡ (V, reply) →
     Concludes (at_moment now (in_world V M)) N a s (caused_outcome s o) → Turns (at_moment now M) N a (Finish now)
-finish_taken M N a now s o V reply first is made told c =
+finish_taken M N a now s o V reply first is made indicated c =
     let L = at_moment now M in
     let W = M.state.world in
     let kept = kept_outcome (entry_of W (session_id s)) o (sym made) in
@@ -183,7 +183,7 @@ finish_taken M N a now s o V reply first is made told c =
     turns_by L N a (Finish now) (Take (session_id s) ∷ []) (λ (U : World) (rs : List Reply). Turning.finish_session L.state s (caused_outcome s o))
     (taken_in W M.state.sessions s Known first is)
     (λ (U : World) (rs : List Reply). finished_in L.state s (caused_outcome s o) first outcome)
-    (c.world ∙ sym (ap (λ (x : World × Reply). x.0) told)) c.mib c.now c.sessions c.closed c.answer
+    (c.world ∙ sym (ap (λ (x : World × Reply). x.0) indicated)) c.mib c.now c.sessions c.closed c.answer
 
 -- ---- what is sent and indicated, by the session and the outcome
 

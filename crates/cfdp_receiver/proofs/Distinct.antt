@@ -9,7 +9,7 @@ use Rattle.cfdp_receiver.specs.State.{State, begin, Input, now_of, is_closed}
 use Rattle.cfdp_receiver.specs.Handing as Handing
 use Rattle.cfdp_receiver.specs.Turning as Turning
 use Rattle.cfdp_receiver.specs.Laws.{touched, ClosedIsOver, SessionsAreDistinct}
-use Rattle.cfdp_receiver.proofs.Shapes.{Shape, Keeps, Puts, Adds, Closes, Forgets, shape, closed_in, taken_is}
+use Rattle.cfdp_receiver.proofs.TurnShapes.{Shape, Keeps, Puts, Adds, Closes, Forgets, shape, closed_in, taken_is}
 use Rattle.cfdp_leases.proofs.Admitted.{same_is}
 
 none_of_none : false ≡ true → ⊥

@@ -28,7 +28,7 @@ use Rattle.cfdp_receiver.specs.State.{State, at_of, at_phase, at_stage}
 use Rattle.cfdp_receiver.specs.Due.{is_receiving_at}
 use Rattle.cfdp_receiver.specs.code.StateMachine.{begins_no_gap}
 use Rattle.cfdp_receiver.specs.Turning.{asks_at_once, asks_stage, gaps_at, is_immediate, progress_at}
-use Rattle.cfdp_receiver.proofs.InOrder.{none_deferred}
+use Rattle.cfdp_receiver.proofs.OnlyKeepsData.{none_deferred}
 use Rattle.cfdp_receiver.proofs.Delivering.{neither, never_both, own_name, placed}
 use Rattle.cfdp_retransmission.proofs.Losing.{brings_some}
 

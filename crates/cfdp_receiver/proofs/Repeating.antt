@@ -23,8 +23,8 @@ use Rattle.cfdp_receiver.specs.Handing.{due_events}
 use Rattle.cfdp_receiver.specs.StateMachine.{StateMachineFields, AnswerParts, answer_in, finished_by}
 use Rattle.cfdp_receiver.specs.code.StateMachine.{Turns, silent}
 use Rattle.cfdp_receiver.specs.Turning as Turning
-use Rattle.cfdp_receiver.proofs.Giving.{with_lists}
-use Rattle.cfdp_receiver.proofs.Turned.{turns_by}
+use Rattle.cfdp_receiver.proofs.LimitsReached.{with_lists}
+use Rattle.cfdp_receiver.proofs.LateTurns.{turns_by}
 
 -- ---- the session with another timer
 

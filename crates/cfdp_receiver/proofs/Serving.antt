@@ -40,7 +40,7 @@ use Rattle.cfdp_receiver.specs.Due.{IsSet}
 use Rattle.cfdp_receiver.specs.Handing as Handing
 use Rattle.cfdp_receiver.specs.Turning as Turning
 use Rattle.cfdp_receiver.specs.Laws.{is_due, due_of, timers_due, ServedOnce}
-use Rattle.cfdp_receiver.proofs.Limits.{stage_due, alive_due}
+use Rattle.cfdp_receiver.proofs.FinishedSentAtMost.{stage_due, alive_due}
 use Rattle.cfdp_leases.proofs.Held.{same_itself}
 use Rattle.cfdp_leases.proofs.Admitted.{same_is}
 
@@ -502,9 +502,9 @@ gives promised R s false (At_awaiting made) handlers.Abandon set sound d m mode 
     over_put promised R s (record s { is_abandoned = true }) false (At_awaiting made) handlers.Abandon silent sound d m refl
     (ended_by_cancel R s (Awaiting made) (takes_awaiting R.world s s.stage (entry_of R.world (session_id s)) made refl refl is) refl) due
 gives promised R s false (At_awaiting made) handlers.Cancel set sound d m mode is limited due =
-    let told = sym (expiry_at R s false (At_awaiting made) mode is) ∙ limited in
+    let indicated = sym (expiry_at R s false (At_awaiting made) mode is) ∙ limited in
     let all = all_checks R.world.config.checks made s.timer (full_of R.mib.check.interval
-    (Dues.check_limit R.world.config.checks made s.timer) R.now s.timer told) in
+    (Dues.check_limit R.world.config.checks made s.timer) R.now s.timer indicated) in
     over_put promised R s (record s { cause = Some (Dues.fault_at false (At_awaiting made)) }) false (At_awaiting made) handlers.Cancel silent sound d m refl
     (ended_by_check R s made (takes_awaiting R.world s s.stage (entry_of R.world (session_id s)) made refl refl is) all) due
 gives promised R s true At_executing how set sound d m mode is limited due =

@@ -351,11 +351,11 @@ repeats R V s At_waiting = record (said_word s words.Expired) { finished = s.fin
 repeats R V s at = if s.header.acknowledged then record (said_word s words.Expired) { naks = asks R.mib V s }
     else said_word s words.Expired
 
-abbrev pub fault_told : SessionFields → ℕ → Word → AnswerFields
-fault_told s condition word = record (said_word s word) { indications = tells.Fault (session_id s) condition ∷ [] }
+abbrev pub fault_indicated : SessionFields → ℕ → Word → AnswerFields
+fault_indicated s condition word = record (said_word s word) { indications = tells.Fault (session_id s) condition ∷ [] }
 
-abbrev pub abandoned_told : SessionFields → ℕ → AnswerFields
-abandoned_told s condition = record (said_word s words.Faulted) {
+abbrev pub abandonment_indicated : SessionFields → ℕ → AnswerFields
+abandonment_indicated s condition = record (said_word s words.Faulted) {
   indications = tells.Abandoned (session_id s) condition
       ∷ [];
 }
@@ -372,15 +372,15 @@ over_here R s condition = record s {
 
 abbrev pub gives_up : State → SessionFields → ℕ → Handler → JointPhase → Parts
 gives_up R s condition handlers.Ignore at = replaces_one R (record s { timer = restarted R.now })
-    (fault_told s condition words.Ignored)
-gives_up R s condition handlers.Cancel At_waiting = closes R (session_id s) (fault_told s condition words.Faulted)
+    (fault_indicated s condition words.Ignored)
+gives_up R s condition handlers.Cancel At_waiting = closes R (session_id s) (fault_indicated s condition words.Faulted)
 gives_up R s condition handlers.Cancel At_held = replaces_one R (over_here R s condition) (said_word s words.Faulted)
 gives_up R s condition handlers.Cancel at = replaces_one R (record s { cause = Some condition })
     (said_word s words.Faulted)
-gives_up R s condition handlers.Abandon At_waiting = closes R (session_id s) (abandoned_told s condition)
-gives_up R s condition handlers.Abandon At_held = closes R (session_id s) (abandoned_told s condition)
+gives_up R s condition handlers.Abandon At_waiting = closes R (session_id s) (abandonment_indicated s condition)
+gives_up R s condition handlers.Abandon At_held = closes R (session_id s) (abandonment_indicated s condition)
 gives_up R s condition handlers.Abandon at = replaces_one R (record s { is_abandoned = true })
-    (abandoned_told s condition)
+    (abandonment_indicated s condition)
 
 abbrev pub due_parts : State → World → Due → Parts
 due_parts R V Nothing_due = keeps R (quiet Nothing)

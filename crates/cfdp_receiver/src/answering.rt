@@ -11,7 +11,7 @@ ghost use Rattle.cfdp_receiver.specs.declared.answer.Became.TheVariants.{Nothing
 
 use crate::{Became, Indication, Word};
 use arrayvec::ArrayVec;
-use cfdp_directives::{Ack, KeepAlive, Range};
+use cfdp_directives::{Ack, KeepAlive, NakRange};
 use cfdp_pdus::Header;
 use cfdp_status::TransactionId;
 use cfdp_transactions::{MOST_GAPS, Reply};
@@ -25,7 +25,7 @@ pub struct NakSequence {
     pub(crate) low: u64,
     pub(crate) high: u64,
     pub(crate) most: usize,
-    pub(crate) requests: ArrayVec<Range, MOST_GAPS>,
+    pub(crate) requests: ArrayVec<NakRange, MOST_GAPS>,
 }
 
 impl Model for NakSequence {

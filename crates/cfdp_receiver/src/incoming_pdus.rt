@@ -60,7 +60,7 @@ fn acks_only(header: &Header, eof: Eof, status: TransactionStatus, word: Word) -
 }
 
 /// File-Segment-Recv, where the core kept the octets of a File Data PDU.
-fn segment_told(id: TransactionId, piece: &Piece<'_>, reply: &Reply) -> Option<Indication>
+fn segment_indicated(id: TransactionId, piece: &Piece<'_>, reply: &Reply) -> Option<Indication>
     ensures { listed result ≡ (if is_kept_by reply.now then FileSegmentRecv id piece.now.offset
         (length piece.now.octets) ∷ [] else []) }
 {
@@ -197,13 +197,13 @@ impl StateMachine {
             self.later(now);
             return Ok(Answer::said(id, Word::TableFull));
         }
-        let told = described(id, &metadata);
+        let indicated = described(id, &metadata);
         let is_sent = header.acknowledged || metadata.closure;
         let reply = self.hand_metadata(now, header, metadata)?;
         let stage = self.stage_in(id, is_sent, header.destination);
         let session = self.begun(alloc, header, stage);
         self.sessions.add(session);
-        Ok(Answer::replied(id, reply).with_indication(Some(told)))
+        Ok(Answer::replied(id, reply).with_indication(Some(indicated)))
     }
 
     /// Metadata of a transaction whose EOF PDU is held.
@@ -226,7 +226,7 @@ impl StateMachine {
         ensures unchanged { OnErr result (self.new ≡ self.old) }
     {
         let id = transaction_of(&header);
-        let told = described(id, &metadata);
+        let indicated = described(id, &metadata);
         let reply = self.hand_metadata(now, header, metadata)?;
         let first = self.session(index).header;
         self.entity.eof(&first, eof);
@@ -238,7 +238,7 @@ impl StateMachine {
         Ok(
             Answer::replied(id, reply)
                 .with_naks(naks)
-                .with_indication(Some(told)),
+                .with_indication(Some(indicated)),
         )
     }
 
@@ -328,8 +328,8 @@ impl StateMachine {
         let id = self.session(index).name();
         let reply = self.entity.file_data(header, piece);
         self.restarts(index);
-        let told = segment_told(id, piece, &reply);
-        Unsent::replied(id, reply, told)
+        let indicated = segment_indicated(id, piece, &reply);
+        Unsent::replied(id, reply, indicated)
     }
 
     /// An event of the transaction of a session was handed to the core while file data was taken and no EOF PDU had
@@ -358,8 +358,8 @@ impl StateMachine {
         let before = self.awaited(self.session(index));
         let reply = self.entity.file_data(header, piece);
         self.hear(index, before);
-        let told = segment_told(id, piece, &reply);
-        Answer::replied(id, reply).with_indication(told)
+        let indicated = segment_indicated(id, piece, &reply);
+        Answer::replied(id, reply).with_indication(indicated)
     }
 
     /// File data of a transaction that the core knows, in acknowledged mode and immediate NAK mode.
@@ -378,10 +378,10 @@ impl StateMachine {
         let reply = self.entity.file_data(header, piece);
         let naks = self.asks_at_once(self.session(index), low);
         self.hear(index, before);
-        let told = segment_told(id, piece, &reply);
+        let indicated = segment_indicated(id, piece, &reply);
         Answer::replied(id, reply)
             .with_naks(naks)
-            .with_indication(told)
+            .with_indication(indicated)
     }
 
     /// The NAK sequence for a gap that began after all that was there before, while file data is taken and no EOF PDU

@@ -58,9 +58,9 @@ pub fn remembered_stays()
     ensures { RememberedStays }
 {}
 
-/// Over an entity that begins without transactions: while a transaction is remembered, a Metadata PDU of it leaves the
-/// core as it is. So its requests are not performed a second time. Remembered is what is closed and not yet forgotten,
-/// and what has a session, but while that holds an EOF PDU: then the first Metadata PDU is still to come.
+/// Over an entity that begins without transactions: a transaction is remembered if it is closed and not yet forgotten,
+/// or has a session that holds no EOF PDU (while it holds one, the first Metadata PDU is still to come). While it is
+/// remembered, its Metadata PDU leaves the core as it is, so its requests are not performed a second time.
 pub fn at_most_once()
     ensures { AtMostOnce }
 {
@@ -128,9 +128,10 @@ pub fn none_after_ack()
     ensures { NoneAfterAck }
 {}
 
-/// The NAK PDUs of an answer are one sequence, of the session in acknowledged mode that the input is about: of a held
-/// one for its Metadata PDU and the whole file, of one that the core knows for all its gaps, or, after a File Data PDU
-/// in immediate mode, for those that began after all that was there before.
+/// All NAK PDUs of an answer are one sequence, for the session in acknowledged mode that the input is about. If the
+/// session holds an EOF PDU, they ask for the Metadata PDU and the whole file. If the core knows the transaction, they
+/// ask for all its gaps; after a File Data PDU in immediate mode only for gaps that begin after all that was there
+/// before.
 pub fn naks_ask()
     ensures { NaksAsk }
 {}

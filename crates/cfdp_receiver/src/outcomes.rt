@@ -155,27 +155,27 @@ impl StateMachine {
         self.sessions.distinct();
         let session = self.session(index);
         let id = session.name();
-        let told = Some(Indication::TransactionFinished(id, conclusion));
+        let indicated = Some(Indication::TransactionFinished(id, conclusion));
         if session.is_abandoned {
             self.close(index, id);
             return Answer::said(id, Word::Closed);
         }
         if !is_sent {
             self.close(index, id);
-            return Answer::said(id, Word::Closed).with_indication(told);
+            return Answer::said(id, Word::Closed).with_indication(indicated);
         }
         if session.header.acknowledged {
             let timer = Timer::start(self.latest);
             self.sessions.wait(index, octets, timer);
             return Answer::said(id, Word::Finished)
                 .with_finished(id)
-                .with_indication(told);
+                .with_indication(indicated);
         }
         self.close(index, id);
         self.last_finished = LastFinished::of(octets);
         Answer::said(id, Word::Closed)
             .with_finished(id)
-            .with_indication(told)
+            .with_indication(indicated)
     }
 
     /// The Finished PDU of a transaction that waits for its acknowledgement, or that was closed last when its outcome

@@ -90,7 +90,7 @@ impl Model for Receiver {
 }
 
 /// The most octets of a Finished PDU with its CRC.
-const LONGEST_FINISHED: usize = 16_490;
+const LONGEST_SEALED_FINISHED: usize = 16_490;
 
 impl Receiver {
     /// A receiver without sessions, over an entity without transactions. Its filestore may hold files.
@@ -346,6 +346,7 @@ impl Receiver {
 
     /// The names of the transactions that were closed last are forgotten, for a sender whose transaction sequence
     /// numbers begin anew. A Metadata PDU of one of them that comes once more begins it anew then. Takes no memory.
+    /// Cost: constant.
     pub fn forget_closed(&mut self) -> Answer
         ensures { turn self.old.state ForgetAsked ≡ (self.new.state, answer_in self.new result) }
     {
@@ -403,7 +404,7 @@ impl Receiver {
     pub fn longest(&self) -> usize
         ensures { result ≡ max longest_sealed self.now.state.mib.longest_nak }
     {
-        LONGEST_FINISHED.max(usize::from(self.machine.mib.longest_nak))
+        LONGEST_SEALED_FINISHED.max(usize::from(self.machine.mib.longest_nak))
     }
 
     /// Writes the PDU with this number of an answer, counted from 0, to the front of a buffer, and returns its length

@@ -20,7 +20,7 @@ use crate::answering::{Answer, NakSequence};
 use crate::last_finished::LastFinished;
 use crate::{JointPhase, Mib, NakMode, Word};
 use arrayvec::ArrayVec;
-use cfdp_directives::Range;
+use cfdp_directives::NakRange;
 use cfdp_entity::Entity;
 use cfdp_pdus::Header;
 use cfdp_retransmission::Timer;
@@ -31,7 +31,7 @@ use std::alloc::{AllocError, Global};
 use std::marker::Model;
 
 /// What is missing of a file.
-pub(crate) type Gaps = ArrayVec<Range, MOST_GAPS>;
+pub(crate) type Gaps = ArrayVec<NakRange, MOST_GAPS>;
 
 /// What a receiving entity keeps: its core, and beside it the sessions and the names closed last.
 #[derive(Drop)]

@@ -12,7 +12,7 @@ ghost use Rattle.cfdp_transactions.specs.Writable.{longest_finished};
 use crate::NotWritten;
 use crate::answering::{Answer, NakSequence};
 use crate::state_machine::StateMachine;
-use cfdp_directives::{Range, put_ack, put_keep_alive, put_nak};
+use cfdp_directives::{NakRange, put_ack, put_keep_alive, put_nak};
 use cfdp_retransmission::{NakPart, next_nak};
 
 /// What a writer answers where a PDU is there.
@@ -25,7 +25,7 @@ fn written(len: Option<usize>) -> Result<usize, NotWritten>
 
 /// The NAK PDU with this number of a sequence that [`next_nak`] cuts, if there is one.
 fn nth_part<'a>(
-    requests: &'a [Range],
+    requests: &'a [NakRange],
     low: u64,
     high: u64,
     most: usize,

@@ -37,7 +37,7 @@ impl Model for Reception {
 }
 
 impl Reception {
-    /// A receiver that has answered nothing yet.
+    /// A receiver that has answered nothing yet. Cost: constant.
     pub fn new(receiver: Receiver) -> Reception
         ensures { result ≡ record { machine = receiver; answer = None } }
     {
@@ -64,21 +64,21 @@ impl Reception {
         Ok(())
     }
 
-    /// Time has passed: the first timer that is due is served. See [`Receiver::expire`].
+    /// Time has passed: the first timer that is due is served. See [`Receiver::expire`], also for the cost.
     pub fn expire(&mut self, now: u64)
         ensures { Turned self.old self.new (Expire now) }
     {
         self.answer = Some(self.receiver.expire(now));
     }
 
-    /// The next item of the first transaction that has one is performed. See [`Receiver::work`].
+    /// The next item of the first transaction that has one is performed. See [`Receiver::work`], also for the cost.
     pub fn work(&mut self, now: u64)
         ensures { Turned self.old self.new (Work now) }
     {
         self.answer = Some(self.receiver.work(now));
     }
 
-    /// The outcome of the first transaction that is over is taken. See [`Receiver::finish`].
+    /// The outcome of the first transaction that is over is taken. See [`Receiver::finish`], also for the cost.
     ///
     /// # Errors
     ///
@@ -93,21 +93,22 @@ impl Reception {
         Ok(())
     }
 
-    /// The user cancels a transaction. See [`Receiver::cancel`].
+    /// The user cancels a transaction. See [`Receiver::cancel`], also for the cost.
     pub fn cancel(&mut self, now: u64, id: TransactionId)
         ensures { Turned self.old self.new (CancelAsked now id) }
     {
         self.answer = Some(self.receiver.cancel(now, id));
     }
 
-    /// The names of the transactions that were closed last are forgotten. See [`Receiver::forget_closed`].
+    /// The names of the transactions that were closed last are forgotten. See [`Receiver::forget_closed`], also for the
+    /// cost.
     pub fn forget_closed(&mut self)
         ensures { Turned self.old self.new ForgetAsked }
     {
         self.answer = Some(self.receiver.forget_closed());
     }
 
-    /// The moment from which on a timer is due. See [`Receiver::deadline`].
+    /// The moment from which on a timer is due. See [`Receiver::deadline`], also for the cost.
     pub fn deadline(&self) -> Option<u64>
         ensures { (now : ℕ) → now < 2 ^ 64 → has_come result now
             ≡ is_any_due (first_due (record self.now.machine.state { now = now }) self.now.machine.state.sessions) }
@@ -122,7 +123,7 @@ impl Reception {
         &self.answer
     }
 
-    /// How many PDUs the answer to the last input has, 36 at most.
+    /// How many PDUs the answer to the last input has, 36 at most. Cost: constant.
     pub fn pdu_count(&self) -> usize
         ensures value { result ≡ length (pdus_in self.now) }
         ensures few { result ≤ 36 }
@@ -133,7 +134,7 @@ impl Reception {
         }
     }
 
-    /// Writes the PDU with this number of the answer to the last input. See [`Receiver::write`].
+    /// Writes the PDU with this number of the answer to the last input. See [`Receiver::write`], also for the cost.
     ///
     /// # Errors
     ///

@@ -1,16 +1,18 @@
 -- What `cfdp run` writes of what a receiving entity answers to an input.
---     send_line octets          the line of a PDU that is sent
---     told_label label id       an indication, and whose transaction it is about
---     ended_text end            how a transaction ended
---     told_text, told_line      an indication, and its line
---     word_text word            a word of the receiver's own
---     is_taken reply            a reply that hands out an outcome: the receiver has a word for it, and never answers so
---     replied_line id reply     the line of a reply of the core
---     became_text became        the line of what became of an input, and nothing where there was nothing to do
---     answer_pdus a             the PDUs that an answer sends, in order, without a CRC
---     send_lines, indication_lines  the lines of all PDUs, which have a CRC where `mib` says so;  of all indications
---     answer_text mib a         all lines of an answer
---     dropped_line why          the line of octets that are no PDU
+--     send_line octets                  the line of a PDU that is sent
+--     indication_label label id         an indication, and whose transaction it is about
+--     ended_text end                    how a transaction ended
+--     indication_text, indication_line  an indication, and its line
+--     word_text word                    a word of the receiver's own
+--     is_taken reply                    a reply that hands out an outcome: the receiver has a word for it, and never
+--                                       answers so
+--     replied_line id reply             the line of a reply of the core
+--     became_text became                the line of what became of an input, and nothing where there was nothing to do
+--     answer_pdus a                     the PDUs that an answer sends, in order, without a CRC
+--     send_lines, indication_lines      the lines of all PDUs, which have a CRC where `mib` says so;  of all
+--                                       indications
+--     answer_text mib a                 all lines of an answer
+--     dropped_line why                  the line of octets that are no PDU
 use Rattle.std.specs.Prelude.{ℕ, Bool, true, false, if◌then◌else◌, List, [], ◌∷◌, ◌++◌, map, codes}
 use Rattle.std.specs.List.{flat_map}
 use Rattle.hex.specs.Hex.{encode_lower}
@@ -38,8 +40,8 @@ use Rattle.cfdp_receiver.specs.Sent.{as_sent}
 abbrev pub send_line : List ℕ → List ℕ
 send_line octets = line (codes "send " ++ encode_lower octets)
 
-unfoldable pub told_label : List ℕ → TransactionId → List ℕ
-told_label label id = codes "tell " ++ label ++ transaction_name id
+unfoldable pub indication_label : List ℕ → TransactionId → List ℕ
+indication_label label id = codes "tell " ++ label ++ transaction_name id
 
 abbrev pub delivery_text : Bool → List ℕ
 delivery_text true = codes " incomplete"
@@ -49,17 +51,17 @@ unfoldable pub ended_text : Conclusion → List ℕ
 ended_text end = labelled (codes " ") end.condition ++ delivery_text end.incomplete
     ++ labelled (codes " ") end.file_status
 
-abbrev pub told_text : Indication → List ℕ
-told_text (MetadataRecv id described) = told_label (codes "metadata ") id
-told_text (FileSegmentRecv id offset len) = told_label (codes "segment ") id ++ labelled (codes " ") offset
+abbrev pub indication_text : Indication → List ℕ
+indication_text (MetadataRecv id described) = indication_label (codes "metadata ") id
+indication_text (FileSegmentRecv id offset len) = indication_label (codes "segment ") id ++ labelled (codes " ") offset
     ++ labelled (codes " ") len
-told_text (EofRecv id) = told_label (codes "eof ") id
-told_text (TransactionFinished id end) = told_label (codes "finished ") id ++ ended_text end
-told_text (Fault id condition) = told_label (codes "fault ") id ++ labelled (codes " ") condition
-told_text (Abandoned id condition) = told_label (codes "abandoned ") id ++ labelled (codes " ") condition
+indication_text (EofRecv id) = indication_label (codes "eof ") id
+indication_text (TransactionFinished id end) = indication_label (codes "finished ") id ++ ended_text end
+indication_text (Fault id condition) = indication_label (codes "fault ") id ++ labelled (codes " ") condition
+indication_text (Abandoned id condition) = indication_label (codes "abandoned ") id ++ labelled (codes " ") condition
 
-abbrev pub told_line : Indication → List ℕ
-told_line indication = line (told_text indication)
+abbrev pub indication_line : Indication → List ℕ
+indication_line indication = line (indication_text indication)
 
 abbrev pub word_text : Word → List ℕ
 word_text words.NotForUs = codes "not-for-us"
@@ -103,7 +105,7 @@ abbrev pub send_lines : Mib → List (List ℕ) → List ℕ
 send_lines mib pdus = flat_map (λ octets. send_line (as_sent mib octets)) pdus
 
 abbrev pub indication_lines : List Indication → List ℕ
-indication_lines indications = flat_map told_line indications
+indication_lines indications = flat_map indication_line indications
 
 abbrev pub answer_text : Mib → AnswerFields → List ℕ
 answer_text mib a = send_lines mib (answer_pdus a) ++ indication_lines a.indications ++ became_text a.became

@@ -67,7 +67,7 @@ fn push_pdus(
 /// # Errors
 ///
 /// [`AllocError`] when out of memory. A part of the line may have been appended.
-pub fn push_told(answer: &Answer, text: &mut Vec<u8>) -> Result<(), AllocError>
+pub fn push_indications(answer: &Answer, text: &mut Vec<u8>) -> Result<(), AllocError>
     ensures { OnOk result (text.new.items ≡ text.old.items ++ indication_lines answer.now.indications) }
 {
     match answer.indication() {
@@ -96,6 +96,6 @@ pub fn push_answer(
         IfErr result (λ why. why ≡ Memory) }
 {
     push_pdus(receiver, answer, room, text)?;
-    push_told(answer, text)?;
+    push_indications(answer, text)?;
     Ok(push_became(alloc, answer.became(), text)?)
 }

@@ -1,7 +1,7 @@
 //! The line of an indication.
 
 ghost use Rattle.std.specs.Prelude.{◌≡◌, ◌++◌, OnOk};
-ghost use Rattle.cfdp_reports.specs.Reports.{delivery_text, ended_text, told_label, told_line, told_text};
+ghost use Rattle.cfdp_reports.specs.Reports.{delivery_text, ended_text, indication_label, indication_line, indication_text};
 
 use crate::outcomes::push_name;
 use cfdp_receiver::{Conclusion, Indication};
@@ -10,9 +10,13 @@ use cfdp_texts::push_labelled;
 use std::alloc::AllocError;
 
 /// Appends a label and a transaction's name.
-#[tactic(auto, unfolding(crate::specs::Reports::told_label))]
-fn push_told(label: &[u8], id: TransactionId, text: &mut Vec<u8>) -> Result<(), AllocError>
-    ensures { OnOk result (text.new.items ≡ text.old.items ++ told_label label.now id) }
+#[tactic(auto, unfolding(crate::specs::Reports::indication_label))]
+fn push_indication_label(
+    label: &[u8],
+    id: TransactionId,
+    text: &mut Vec<u8>,
+) -> Result<(), AllocError>
+    ensures { OnOk result (text.new.items ≡ text.old.items ++ indication_label label.now id) }
 {
     text.extend_from_slice(b"tell ")?;
     text.extend_from_slice(label)?;
@@ -42,26 +46,26 @@ fn push_end(end: Conclusion, text: &mut Vec<u8>) -> Result<(), AllocError>
 
 /// Appends an indication.
 fn push_text(indication: Indication, text: &mut Vec<u8>) -> Result<(), AllocError>
-    ensures { OnOk result (text.new.items ≡ text.old.items ++ told_text indication) }
+    ensures { OnOk result (text.new.items ≡ text.old.items ++ indication_text indication) }
 {
     match indication {
-        Indication::MetadataRecv(id, _) => push_told(b"metadata ", id, text),
+        Indication::MetadataRecv(id, _) => push_indication_label(b"metadata ", id, text),
         Indication::FileSegmentRecv(id, offset, len) => {
-            push_told(b"segment ", id, text)?;
+            push_indication_label(b"segment ", id, text)?;
             push_labelled(b" ", offset, text)?;
             push_labelled(b" ", len, text)
         }
-        Indication::EofRecv(id) => push_told(b"eof ", id, text),
+        Indication::EofRecv(id) => push_indication_label(b"eof ", id, text),
         Indication::TransactionFinished(id, end) => {
-            push_told(b"finished ", id, text)?;
+            push_indication_label(b"finished ", id, text)?;
             push_end(end, text)
         }
         Indication::Fault(id, condition) => {
-            push_told(b"fault ", id, text)?;
+            push_indication_label(b"fault ", id, text)?;
             push_labelled(b" ", u64::from(condition), text)
         }
         Indication::Abandoned(id, condition) => {
-            push_told(b"abandoned ", id, text)?;
+            push_indication_label(b"abandoned ", id, text)?;
             push_labelled(b" ", u64::from(condition), text)
         }
     }
@@ -69,7 +73,7 @@ fn push_text(indication: Indication, text: &mut Vec<u8>) -> Result<(), AllocErro
 
 /// Appends the line of an indication.
 pub(crate) fn push_indication(indication: Indication, text: &mut Vec<u8>) -> Result<(), AllocError>
-    ensures { OnOk result (text.new.items ≡ text.old.items ++ told_line indication) }
+    ensures { OnOk result (text.new.items ≡ text.old.items ++ indication_line indication) }
 {
     push_text(indication, text)?;
     Ok(text.push(b'\n')?)

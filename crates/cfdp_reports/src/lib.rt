@@ -7,5 +7,5 @@ mod answers;
 mod indications;
 mod outcomes;
 
-pub use answers::{NotReported, push_answer, push_told};
+pub use answers::{NotReported, push_answer, push_indications};
 pub use outcomes::{dropped_line, push_name};

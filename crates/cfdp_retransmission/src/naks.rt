@@ -3,23 +3,23 @@
 ghost use Rattle.std.specs.Prelude.{◌≡◌, ◌≤◌, take, drop};
 ghost use Rattle.cfdp_retransmission.specs.Naks.{scope_of};
 
-use cfdp_directives::Range;
+use cfdp_directives::NakRange;
 
 /// The next NAK PDU of a sequence, and what is left for those after it.
 #[derive(Clone, Copy, Debug, PartialEq, Eq)]
 pub struct NakPart<'a> {
     /// The part of the file that its requests are about.
-    pub scope: Range,
+    pub scope: NakRange,
     /// Its segment requests.
-    pub requests: &'a [Range],
+    pub requests: &'a [NakRange],
     /// The segment requests of the PDUs after it. Where there are none, it is the last PDU.
-    pub rest: &'a [Range],
+    pub rest: &'a [NakRange],
 }
 
 /// The next NAK PDU (CCSDS 727.0-B-5 §5.2.6) of a sequence that asks for these segments from the offset `low` up to
-/// `high`, with at most `most` requests in each PDU. The last PDU's scope ends at `high`, that of each other where its
-/// last request ends, and there the next one begins. Takes no memory. In constant time.
-pub fn next_nak<'a>(requests: &'a [Range], low: u64, high: u64, most: usize) -> NakPart<'a>
+/// `high`, with at most `most` requests in each PDU. The scope of the last PDU ends at `high`. Each other scope ends
+/// where its last request ends, and the next scope begins there. Takes no memory. In constant time.
+pub fn next_nak<'a>(requests: &'a [NakRange], low: u64, high: u64, most: usize) -> NakPart<'a>
     requires { 1 ≤ most }
     ensures scope { result.scope ≡ scope_of most low high requests.now }
     ensures requests { result.requests.now ≡ take most requests.now }

@@ -5,4 +5,3 @@ pub mod Loops
 pub mod Puts
 pub mod Remakes
 pub mod Spelling
-pub mod Written

@@ -19,7 +19,7 @@ use Rattle.cfdp_transactions.specs.Config.{Config}
 use Rattle.cfdp_transactions.specs.Restart.{put_all, CanPutAll, PutBackIsSame}
 use Rattle.cfdp_transactions.specs.Sound.{Sound}
 use Rattle.cfdp_transactions.specs.World.{World, start}
-use Rattle.cfdp_transactions.specs.Entry.{Entry as Row}
+use Rattle.cfdp_transactions.specs.Entry.{Entry as TableEntry}
 use Rattle.cfdp_run.specs.code.Reconfigured.{CanCopy}
 use Rattle.cfdp_run.proofs.Puts.{put_all-config, can_put_all-config}
 use Rattle.cfdp_uploads.proofs.Found.{each_at}
@@ -44,7 +44,7 @@ leaves_all W c sound back idle staged same =
           put_all-config (start W.config) c es
           ∙ ap (λ (V : World). record V { config = c }) plain
           ∙ ap (λ (lists : List (List ℕ)). start_with c (record W.filestore { staged = lists })) (sym staged)
-          ∙ ap (λ (table : List Row). record { config = c; filestore = W.filestore; table = table }) (sym idle);
+          ∙ ap (λ (table : List TableEntry). record { config = c; filestore = W.filestore; table = table }) (sym idle);
     }
 
 pub leaves_none : (W end : World) (es : List (Path × Node)) → es ≡ [] → Leaves W es end → W ≡ end

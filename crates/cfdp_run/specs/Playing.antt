@@ -11,7 +11,7 @@
 --     heard_inputs, heard_text  the inputs of octets that came, and their text: it is one line where they were dropped
 --     Plays R inputs N before after     the inputs lead from R to N, and their text comes after another one
 use Rattle.std.specs.Prelude.{◌≡◌, ℕ, zero, suc, Bool, true, false, if◌then◌else◌, List, [], ◌∷◌, ◌++◌, Option, Some, None, is_some, Result, Ok, Err}
-use Rattle.cfdp_transactions.specs.Settling.{most_settled}
+use Rattle.cfdp_transactions.specs.MostSettled.{most_settled}
 use Rattle.cfdp_transactions.specs.World.{next_runnable}
 use Rattle.cfdp_receiver.specs.declared.reading.Dropped.{Dropped}
 use Rattle.cfdp_receiver.specs.State.{State, Input, Expire, Work, Finish}

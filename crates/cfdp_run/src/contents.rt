@@ -2,44 +2,14 @@
 
 ghost use Rattle.std.specs.Prelude.{◌≡◌, ◌++◌, IsTrue, codes, length, OnOk};
 ghost use Rattle.cfdp_actions.specs.Filestore.{is_file, node_at, file_octets_at};
-ghost use Rattle.cfdp_texts.specs.Replies.{is_plain, labelled, shown_octet, shown_path};
+ghost use Rattle.cfdp_texts.specs.Replies.{labelled};
 ghost use Rattle.cfdp_run.specs.Contents.{get_line, octets_text};
 
 use cfdp_actions::{Filestore, Kind};
 use cfdp_entity::Entity;
 use cfdp_paths::Path;
-use cfdp_texts::{encode, push_labelled};
+use cfdp_texts::{encode, push_labelled, push_path};
 use std::alloc::{AllocError, Global};
-
-/// Whether an octet of a path is written as it is.
-fn is_plain(octet: u8) -> bool
-    ensures { result ≡ is_plain octet }
-{
-    octet.is_ascii_graphic() && octet != b'%'
-}
-
-/// Appends an octet of a path: as it is, or `%` and two digits.
-#[tactic(auto, unfolding(cfdp_texts::specs::Replies::two_digits))]
-fn push_octet(octet: u8, text: &mut Vec<u8>) -> Result<(), AllocError>
-    ensures { OnOk result (text.new.items ≡ text.old.items ++ shown_octet octet) }
-{
-    if is_plain(octet) {
-        return Ok(text.push(octet)?);
-    }
-    text.push(b'%')?;
-    encode(&[octet], text)
-}
-
-/// Appends a path.
-fn push_path(alloc: Global, path: &Path, text: &mut Vec<u8>) -> Result<(), AllocError>
-    ensures { OnOk result (text.new.items ≡ text.old.items ++ shown_path path.now) }
-{
-    let octets = path.text(alloc)?;
-    for octet in &octets {
-        push_octet(*octet, text)?;
-    }
-    Ok(())
-}
 
 /// Appends the octets of a file; nothing of none.
 fn push_octets(octets: &[u8], text: &mut Vec<u8>) -> Result<(), AllocError>

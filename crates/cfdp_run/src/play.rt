@@ -11,12 +11,11 @@ use crate::contents::push_get_line;
 use crate::player::Player;
 use crate::questions::{push_gaps_line, push_phase_line};
 use cfdp_entity::Entity;
-use cfdp_lines::NEWLINE;
+use cfdp_lines::first_line;
 use cfdp_paths::Path;
 use cfdp_receiver::Receiver;
 use cfdp_status::TransactionId;
 use cfdp_texts::write_listing;
-use memchr::memchr;
 use std::alloc::{AllocError, Global};
 
 /// Whether a line is among some lines.
@@ -25,13 +24,14 @@ fn is_among(lines: &[u8], line: &[u8]) -> bool
     ensures { result ≡ is_written lines.now line.now }
 {
     let mut rest = lines;
-    'lines: while let Some(at) = memchr(NEWLINE, rest) {
-        if rest.split_at(at).0 == line {
+    'lines: while !rest.is_empty() {
+        let (first, others) = first_line(rest);
+        if first == line {
             return true;
         }
-        rest = rest.split_at(at + 1).1;
+        rest = others;
     }
-    !rest.is_empty() && rest == line
+    false
 }
 
 /// A receiving entity between two lines of a script.
@@ -40,7 +40,7 @@ pub struct Play {
     player: Player,
     /// The greatest time so far.
     latest: u64,
-    /// What the last line wrote that was neither `expect` nor passed over.
+    /// What the last line wrote. A blank line, a comment and `expect` leave it as it was.
     lines: Vec<u8>,
 }
 

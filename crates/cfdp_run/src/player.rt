@@ -8,7 +8,7 @@ ghost use Rattle.cfdp_receiver.specs.Sent.{longest_sealed};
 ghost use Rattle.cfdp_receiver.specs.State.{CancelAsked, Expire, Finish, Work};
 ghost use Rattle.cfdp_receiver.specs.Turning.{after_input, after_all, parts};
 ghost use Rattle.cfdp_reports.specs.Reports.{answer_text};
-ghost use Rattle.cfdp_transactions.specs.Settling.{most_settled};
+ghost use Rattle.cfdp_transactions.specs.MostSettled.{most_settled};
 ghost use Rattle.cfdp_run.specs.Playing.{Plays, heard_inputs, heard_text, is_nothing, most_timers, passing, settled_after, settling};
 
 use cfdp_pdus::PduFault;

@@ -5,7 +5,7 @@ ghost use Rattle.cfdp_transactions.specs.World.{entry_of};
 ghost use Rattle.cfdp_receiver.specs.State.{session_of};
 ghost use Rattle.cfdp_run.specs.Questions.{core_word, gaps_line, gaps_of, gaps_text, phase_line, phase_text, phase_word, range_text, ranges_text, stage_word, name_word, whole_of};
 
-use cfdp_directives::{Range, TransactionStatus};
+use cfdp_directives::{NakRange, TransactionStatus};
 use cfdp_receiver::Receiver;
 use cfdp_reports::push_name;
 use cfdp_sessions::Stage;
@@ -15,7 +15,7 @@ use cfdp_transactions::Phase;
 use std::alloc::AllocError;
 
 /// Appends a range of octets.
-fn push_range(range: Range, text: &mut Vec<u8>) -> Result<(), AllocError>
+fn push_range(range: NakRange, text: &mut Vec<u8>) -> Result<(), AllocError>
     ensures { OnOk result (text.new.items ≡ text.old.items ++ range_text range) }
 {
     push_labelled(b" ", range.0, text)?;
@@ -23,7 +23,7 @@ fn push_range(range: Range, text: &mut Vec<u8>) -> Result<(), AllocError>
 }
 
 /// Appends ranges of octets.
-fn push_each(ranges: &[Range], text: &mut Vec<u8>) -> Result<(), AllocError>
+fn push_each(ranges: &[NakRange], text: &mut Vec<u8>) -> Result<(), AllocError>
     ensures { OnOk result (text.new.items ≡ text.old.items ++ flat_map range_text ranges.now) }
 {
     for range in ranges {
@@ -33,7 +33,7 @@ fn push_each(ranges: &[Range], text: &mut Vec<u8>) -> Result<(), AllocError>
 }
 
 /// Appends ranges of octets, or that there is none.
-fn push_ranges(ranges: &[Range], text: &mut Vec<u8>) -> Result<(), AllocError>
+fn push_ranges(ranges: &[NakRange], text: &mut Vec<u8>) -> Result<(), AllocError>
     ensures { OnOk result (text.new.items ≡ text.old.items ++ ranges_text ranges.now) }
 {
     if ranges.is_empty() {

@@ -47,7 +47,7 @@ fn copy_entry(
     }
 }
 
-/// An entity of this configuration, which has as many blocks, and whose filestore has what that of another has.
+/// A new entity with this configuration, and a copy of another entity's filestore. Both have as many blocks.
 ///
 /// # Errors
 ///

@@ -1,4 +1,4 @@
 pub mod Carrying
 pub mod Fit
 pub mod Steps
-pub mod Telling
+pub mod KnownFiles

@@ -108,56 +108,58 @@ written_does h p after next before text lines is e l a = rw is (record {
 -- ---- lines
 
 pub no_memory : (step : Step) (why : StopValue) → stop_of why ≡ NoMemory → StopsScript step why
-no_memory step why e = λ known. absurd (known e)
+no_memory step why e = λ not_memory. absurd (not_memory e)
 
 pub silent : (step : Step) (stage : ScriptStage) (text : List ℕ) → step ≡ Ok (stage, []) → Leads step stage text text
 silent step stage text e = record { text = []; does = e; appended = sym (append-nil text) }
 
 -- ---- where the files are known
 
-abbrev pub Told : Type 0
-Told = Option (List ℕ → Option (List ℕ))
+abbrev pub Known : Type 0
+Known = Option (List ℕ → Option (List ℕ))
 
 abbrev pub PutStep : (List ℕ → Option (List ℕ)) → HeadValue → Option PlayValue → Path → PutContent → Step
 PutStep map h p path content = in_head word.Put (script_stage h p) (λ head. put_file map head path content)
 
-pub file_put : (told : Told) (h g : HeadValue) (p q : Option PlayValue) (path : Path) (content : PutContent) (octets given : List ℕ) → p ≡ None → q ≡ p →
-    path_wrong (head_of h).world.filestore path ≡ None → IfSome told (λ map. held map content ≡ Ok octets) → given ≡ octets →
-    put_node (head_of h) path (File given) ≡ Ok (head_of g) → IfSome told (λ map. PutStep map h p path content ≡ Ok (script_stage g q, []))
+pub file_put : (known : Known) (h g : HeadValue) (p q : Option PlayValue) (path : Path) (content : PutContent) (octets given : List ℕ) → p ≡ None → q ≡ p →
+    path_wrong (head_of h).world.filestore path ≡ None → IfSome known (λ map. held map content ≡ Ok octets) → given ≡ octets →
+    put_node (head_of h) path (File given) ≡ Ok (head_of g) → IfSome known (λ map. PutStep map h p path content ≡ Ok (script_stage g q, []))
 file_put None h g p q path content octets given none kept vacant e same put = tt
 file_put (Some map) h g p q path content octets given none kept vacant e same put =
     head_step h g p q word.Put (λ head. put_file map head path content) none kept (put_file_held map (head_of h) path content octets given vacant e same ∙ put)
 
-pub file_wrong : (told : Told) (h : HeadValue) (p : Option PlayValue) (path : Path) (content : PutContent) (why : StopValue) → p ≡ None →
+pub file_wrong : (known : Known) (h : HeadValue) (p : Option PlayValue) (path : Path) (content : PutContent) (why : StopValue) → p ≡ None →
     (stop_of why ≢ NoMemory → option_map IsWrong (path_wrong (head_of h).world.filestore path) ≡ Some (stop_of why)) →
-    IfSome told (λ map. StopsScript (PutStep map h p path content) why)
+    IfSome known (λ map. StopsScript (PutStep map h p path content) why)
 file_wrong None h p path content why none e = tt
-file_wrong (Some map) h p path content why none e = λ known.
-    head_stop h p word.Put (λ head. put_file map head path content) (stop_of why) none (put_file_wrong map (head_of h) path content (stop_of why) (e known))
+file_wrong (Some map) h p path content why none e = λ not_memory.
+    head_stop h p word.Put (λ head. put_file map head path content) (stop_of why) none
+    (put_file_wrong map (head_of h) path content (stop_of why) (e not_memory))
 
-pub file_unread : (told : Told) (h : HeadValue) (p : Option PlayValue) (path : Path) (content : PutContent) (why : StopValue) → p ≡ None →
-    path_wrong (head_of h).world.filestore path ≡ None → IfSome told (λ map. stop_of why ≢ NoMemory → held map content ≡ Err (stop_of why)) →
-    IfSome told (λ map. StopsScript (PutStep map h p path content) why)
+pub file_unread : (known : Known) (h : HeadValue) (p : Option PlayValue) (path : Path) (content : PutContent) (why : StopValue) → p ≡ None →
+    path_wrong (head_of h).world.filestore path ≡ None → IfSome known (λ map. stop_of why ≢ NoMemory → held map content ≡ Err (stop_of why)) →
+    IfSome known (λ map. StopsScript (PutStep map h p path content) why)
 file_unread None h p path content why none vacant e = tt
-file_unread (Some map) h p path content why none vacant e = λ known.
+file_unread (Some map) h p path content why none vacant e = λ not_memory.
     head_stop h p word.Put (λ head. put_file map head path content) (stop_of why) none
-    (put_file_unheld map (head_of h) path content (stop_of why) vacant (e known))
+    (put_file_unheld map (head_of h) path content (stop_of why) vacant (e not_memory))
 
-pub file_not_put : (told : Told) (h : HeadValue) (p : Option PlayValue) (path : Path) (content : PutContent) (octets given : List ℕ) (why : StopValue) → p
+pub file_not_put : (known : Known) (h : HeadValue) (p : Option PlayValue) (path : Path) (content : PutContent) (octets given : List ℕ) (why : StopValue) → p
     ≡ None →
-    path_wrong (head_of h).world.filestore path ≡ None → IfSome told (λ map. held map content ≡ Ok octets) → given ≡ octets →
-    (stop_of why ≢ NoMemory → put_node (head_of h) path (File given) ≡ Err (stop_of why)) → IfSome told (λ map. StopsScript (PutStep map h p path content) why)
+    path_wrong (head_of h).world.filestore path ≡ None → IfSome known (λ map. held map content ≡ Ok octets) → given ≡ octets →
+    (stop_of why ≢ NoMemory → put_node (head_of h) path (File given) ≡ Err (stop_of why)) → IfSome known (λ map. StopsScript (PutStep map h p path content) why)
 file_not_put None h p path content octets given why none vacant e same put = tt
-file_not_put (Some map) h p path content octets given why none vacant e same put = λ known.
+file_not_put (Some map) h p path content octets given why none vacant e same put = λ not_memory.
     head_stop h p word.Put (λ head. put_file map head path content) (stop_of why) none
-    (put_file_held map (head_of h) path content octets given vacant e same ∙ put known)
+    (put_file_held map (head_of h) path content octets given vacant e same ∙ put not_memory)
 
 -- a line that writes nothing
-pub quiet : (told : Told) (steps : (List ℕ → Option (List ℕ)) → Step) (stage : ScriptStage) (text : List ℕ) → IfSome told (λ map. steps map ≡ Ok (stage, [])) →
-    IfSome told (λ map. Leads (steps map) stage text text)
+pub quiet : (known : Known) (steps : (List ℕ → Option (List ℕ)) → Step) (stage : ScriptStage) (text : List ℕ)
+    → IfSome known (λ map. steps map ≡ Ok (stage, [])) →
+    IfSome known (λ map. Leads (steps map) stage text text)
 quiet None steps stage text e = tt
 quiet (Some map) steps stage text e = silent (steps map) stage text e
 
-pub always : (told : Told) (step : Step) (stage : ScriptStage) (text : List ℕ) → step ≡ Ok (stage, []) → IfSome told (λ map. Leads step stage text text)
+pub always : (known : Known) (step : Step) (stage : ScriptStage) (text : List ℕ) → step ≡ Ok (stage, []) → IfSome known (λ map. Leads step stage text text)
 always None step stage text e = tt
 always (Some map) step stage text e = silent step stage text e

@@ -16,8 +16,8 @@ pub enum Unread {
 
 /// Files that are read by their names.
 pub trait Files {
-    // The octets of each file, where they are known: nothing of one that cannot be read.
-    ghost told: { Self → Option (List ℕ → Option (List ℕ)) };
+    // What each file holds, if that is known; `None` for a file that cannot be read.
+    ghost known: { Self → Option (List ℕ → Option (List ℕ)) };
 
     /// All octets of the file with a name.
     ///
@@ -25,7 +25,7 @@ pub trait Files {
     ///
     /// It cannot be read, or there is no memory for it.
     fn read(&mut self, alloc: Global, name: &[u8]) -> Result<Vec<u8>, Unread>
-        ensures ok { IfOk result (λ octets. IfSome (told self.old) (λ files. files name.now ≡ Some octets.items)) }
-        ensures err { result ≡ Err Failed → IfSome (told self.old) (λ files. files name.now ≡ None) }
-        ensures same { told self.new ≡ told self.old };
+        ensures ok { IfOk result (λ octets. IfSome (known self.old) (λ files. files name.now ≡ Some octets.items)) }
+        ensures err { result ≡ Err Failed → IfSome (known self.old) (λ files. files name.now ≡ None) }
+        ensures same { known self.new ≡ known self.old };
 }

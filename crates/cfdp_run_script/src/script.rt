@@ -43,11 +43,11 @@ fn octets_of<F: Files>(
     files: &mut F,
     content: FileContent<'_>,
 ) -> Result<Vec<u8>, ScriptStop>
-    ensures ok { IfOk result (λ octets. IfSome (F.told files.old) (λ map. held map (content_of content.entry)
+    ensures ok { IfOk result (λ octets. IfSome (F.known files.old) (λ map. held map (content_of content.entry)
         ≡ Ok octets.items)) }
-    ensures err { IfErr result (λ why. IfSome (F.told files.old) (λ map. stop_of why ≢ NoMemory →
+    ensures err { IfErr result (λ why. IfSome (F.known files.old) (λ map. stop_of why ≢ NoMemory →
         held map (content_of content.entry) ≡ Err (stop_of why))) }
-    ensures same { F.told files.new ≡ F.told files.old }
+    ensures same { F.known files.new ≡ F.known files.old }
 {
     match content {
         FileContent::None => Ok(Vec::new(alloc)),
@@ -168,13 +168,13 @@ impl RunScript {
         path: &Path,
         content: FileContent<'_>,
     ) -> Result<(), ScriptStop>
-        ensures ok { OnOk result (IfSome (F.told files.old) (λ map.
+        ensures ok { OnOk result (IfSome (F.known files.old) (λ map.
             in_head word.Put (script_of self.old) (λ head. put_file map head path.now (content_of content.entry))
             ≡ Ok (script_of self.new, []))) }
-        ensures err { IfErr result (λ why. IfSome (F.told files.old) (λ map.
+        ensures err { IfErr result (λ why. IfSome (F.known files.old) (λ map.
             StopsScript (in_head word.Put (script_of self.old) (λ head.
             put_file map head path.now (content_of content.entry))) why)) }
-        ensures same { F.told files.new ≡ F.told files.old }
+        ensures same { F.known files.new ≡ F.known files.old }
     {
         self.in_head(FirstWord::Put)?;
         self.head.check_path(alloc, path)?;
@@ -370,13 +370,13 @@ impl RunScript {
         text: &mut Vec<u8>,
     ) -> Result<(), ScriptStop>
         requires { IsFit (command_meaning command) }
-        ensures ok { OnOk result (IfSome (F.told files.old) (λ map.
+        ensures ok { OnOk result (IfSome (F.known files.old) (λ map.
             Leads (command_obeyed map (script_of self.old) (command_meaning command.entry))
             (script_of self.new) text.old.items text.new.items)) }
-        ensures err { IfErr result (λ why. IfSome (F.told files.old)
+        ensures err { IfErr result (λ why. IfSome (F.known files.old)
             (λ map. StopsScript (command_obeyed map (script_of self.old) (command_meaning command.entry)) why)) }
         ensures kept { OnErr result (text.new.items ≡ text.old.items) }
-        ensures same { F.told files.new ≡ F.told files.old }
+        ensures same { F.known files.new ≡ F.known files.old }
     {
         match command {
             RunCommand::Settings(mib) => self.set(mib),
@@ -415,12 +415,12 @@ impl RunScript {
         line: &[u8],
         text: &mut Vec<u8>,
     ) -> Result<(), ScriptStop>
-        ensures ok { OnOk result (IfSome (F.told files.old) (λ map.
+        ensures ok { OnOk result (IfSome (F.known files.old) (λ map.
             Leads (line_step map (script_of self.old) line.now) (script_of self.new) text.old.items text.new.items)) }
-        ensures err { IfErr result (λ why. IfSome (F.told files.old)
+        ensures err { IfErr result (λ why. IfSome (F.known files.old)
             (λ map. StopsScript (line_step map (script_of self.old) line.now) why)) }
         ensures kept { OnErr result (text.new.items ≡ text.old.items) }
-        ensures same { F.told files.new ≡ F.told files.old }
+        ensures same { F.known files.new ≡ F.known files.old }
     {
         match read_command(alloc, line, self.mib(), self.progress()) {
             Ok(None) => Ok(()),

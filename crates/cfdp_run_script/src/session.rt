@@ -89,13 +89,13 @@ impl ScriptSession {
         text: &mut Vec<u8>,
     ) -> Result<(), ScriptStop>
         requires { self.old.number + 1 < 2 ^ 64 }
-        ensures ok { OnOk result (IfSome (F.told files.old) (λ map.
+        ensures ok { OnOk result (IfSome (F.known files.old) (λ map.
             Leads (line_step map (script_of self.old.script) line.now)
             (script_of self.new.script) text.old.items text.new.items)) }
-        ensures err { IfErr result (λ why. IfSome (F.told files.old)
+        ensures err { IfErr result (λ why. IfSome (F.known files.old)
             (λ map. StopsScript (line_step map (script_of self.old.script) line.now) why)) }
         ensures kept { OnErr result (text.new.items ≡ text.old.items) }
-        ensures same { F.told files.new ≡ F.told files.old }
+        ensures same { F.known files.new ≡ F.known files.old }
         ensures line { self.new.line ≡ self.old.line }
         ensures number { OnOk result (self.new.number ≡ self.old.number + 1) }
         ensures stays { OnErr result (self.new.number ≡ self.old.number) }
@@ -113,13 +113,13 @@ impl ScriptSession {
         text: &mut Vec<u8>,
     ) -> Result<(), ScriptStop>
         requires { self.old.number + 1 < 2 ^ 64 }
-        ensures ok { OnOk result (IfSome (F.told files.old) (λ map.
+        ensures ok { OnOk result (IfSome (F.known files.old) (λ map.
             Leads (line_step map (script_of self.old.script) self.old.line.items)
             (script_of self.new.script) text.old.items text.new.items)) }
-        ensures err { IfErr result (λ why. IfSome (F.told files.old) (λ map.
+        ensures err { IfErr result (λ why. IfSome (F.known files.old) (λ map.
             StopsScript (line_step map (script_of self.old.script) self.old.line.items) why)) }
         ensures kept { OnErr result (text.new.items ≡ text.old.items) }
-        ensures same { F.told files.new ≡ F.told files.old }
+        ensures same { F.known files.new ≡ F.known files.old }
         ensures line { OnOk result (self.new.line.items ≡ []) }
         ensures number { OnOk result (self.new.number ≡ self.old.number + 1) }
         ensures stays { OnErr result (self.new.number ≡ self.old.number) }
@@ -150,19 +150,19 @@ impl ScriptSession {
         ensures count { IfOk result (λ n. n ≤ length octets.now) }
         ensures number { OnOk result ((script_reading self.new).number ≤ (script_reading self.old).number + 1) }
         // The state of the script moves on by these octets, and what it writes is theirs.
-        ensures ok { IfOk result (λ n. IfSome (F.told files.old) (λ map.
+        ensures ok { IfOk result (λ n. IfSome (F.known files.old) (λ map.
             Adds (answer map) (script_reading self.old) (script_reading self.new)
             (take n octets.now) text.old.items text.new.items)) }
-        ensures goes_on { IfOk result (λ n. IfSome (F.told files.old)
+        ensures goes_on { IfOk result (λ n. IfSome (F.known files.old)
             (λ map. ScriptGoesOn map (script_reading self.old) (script_reading self.new) (take n octets.now))) }
         // It stops at this line, whatever comes after these octets.
-        ensures stops { IfErr result (λ why. stop_of why ≢ NoMemory → IfSome (F.told files.old) (λ map.
+        ensures stops { IfErr result (λ why. stop_of why ≢ NoMemory → IfSome (F.known files.old) (λ map.
             StopsBad (answer map) (script_reading self.old) octets.now [] (script_reading self.old).number)) }
-        ensures why { IfErr result (λ why. IfSome (F.told files.old)
+        ensures why { IfErr result (λ why. IfSome (F.known files.old)
             (λ map. StopsFor map (script_reading self.old) octets.now why)) }
         ensures kept { OnErr result (text.new.items ≡ text.old.items) }
         ensures stays { OnErr result ((script_reading self.new).number ≡ (script_reading self.old).number) }
-        ensures same { F.told files.new ≡ F.told files.old }
+        ensures same { F.known files.new ≡ F.known files.old }
     {
         let Some(at) = memchr(NEWLINE, octets) else {
             self.gather(octets)?;
@@ -189,17 +189,17 @@ impl ScriptSession {
         files: &mut F,
         text: &mut Vec<u8>,
     ) -> Result<(), ScriptStop>
-        ensures ok { OnOk result (IfSome (F.told files.old)
+        ensures ok { OnOk result (IfSome (F.known files.old)
             (λ map. EndsScript map (script_reading self.old) text.old.items text.new.items)) }
-        ensures well { OnOk result (IfSome (F.told files.old)
+        ensures well { OnOk result (IfSome (F.known files.old)
             (λ map. why_at map true (script_reading self.old) [] ≡ None)) }
-        ensures stops { IfErr result (λ why. stop_of why ≢ NoMemory → IfSome (F.told files.old) (λ map.
+        ensures stops { IfErr result (λ why. stop_of why ≢ NoMemory → IfSome (F.known files.old) (λ map.
             report_at (answer map) true (script_reading self.old) [] ≡ stopped_at (script_reading self.old).number)) }
-        ensures why { IfErr result (λ why. stop_of why ≢ NoMemory → IfSome (F.told files.old) (λ map.
+        ensures why { IfErr result (λ why. stop_of why ≢ NoMemory → IfSome (F.known files.old) (λ map.
             why_at map true (script_reading self.old) [] ≡ Some (stop_of why))) }
         ensures kept { OnErr result (text.new.items ≡ text.old.items) }
         ensures stays { (script_reading self.new).number ≡ (script_reading self.old).number }
-        ensures same { F.told files.new ≡ F.told files.old }
+        ensures same { F.known files.new ≡ F.known files.old }
     {
         if self.line.is_empty() {
             return Ok(());

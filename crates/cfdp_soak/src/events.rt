@@ -1,6 +1,6 @@
 //! Events at random, of transactions that share a few paths.
 
-use crate::random::Random;
+use crate::random::SoakRandom;
 use cfdp_actions::{Filestore, Kind, ListStore, Request, refusal};
 use cfdp_paths::{Memory, Path};
 use cfdp_pdus::checksum_type::{MODULAR_CHECKSUM, NULL_CHECKSUM};
@@ -156,7 +156,7 @@ fn is_open(alloc: Global, store: &ListStore, name: &[u8]) -> Result<bool, Memory
     Ok(store.parent_is_good(&path) && store.kind(&path) != Some(Kind::Directory))
 }
 
-impl Random {
+impl SoakRandom {
     /// The number of a transaction, rather one of a few, so that these get on.
     pub fn number(&mut self) -> u64 {
         let most = if self.is_one_in(8) { TRANSACTIONS } else { 10 };

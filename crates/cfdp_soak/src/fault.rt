@@ -16,7 +16,7 @@ pub enum SoakFinding {
     Step,
     #[error("the spare blocks are not the free ones less the reserves")]
     Spare,
-    #[error("other things stand in the filestores")]
+    #[error("the filestores differ")]
     Listings,
     #[error("a file has other octets in one filestore")]
     Octets,

@@ -1,7 +1,7 @@
 //! Inputs of a receiver at random.
 
 use crate::events::{TRANSACTIONS, TransferFiles, id};
-use crate::random::Random;
+use crate::random::SoakRandom;
 use cfdp_actions::ListStore;
 use cfdp_paths::Memory;
 use cfdp_status::TransactionId;
@@ -94,7 +94,7 @@ impl Lines {
     }
 }
 
-impl Random {
+impl SoakRandom {
     /// The next input of a receiver whose core is like this one.
     pub fn input(
         &mut self,

@@ -28,8 +28,8 @@ use counts::Counts;
 use events::TransferFiles;
 use fault::{SoakFault, SoakFinding};
 use pair::Pair;
-use random::Random;
-use settings::{SETTINGS, Setting};
+use random::SoakRandom;
+use settings::{SETTINGS, SoakSetting};
 use std::alloc::Global;
 use std::env;
 use std::process::ExitCode;
@@ -80,7 +80,7 @@ fn receives_well<R: AllocGlobal + Eprint + Print>(rt: &R, inputs: u64, seed: u64
 /// Whether all is as it has to be over filestores of one size. Prints how it ended.
 fn goes_well<R: AllocGlobal + Eprint + Print>(
     rt: &R,
-    setting: Setting,
+    setting: SoakSetting,
     events: u64,
     seed: u64,
 ) -> bool {
@@ -90,7 +90,7 @@ fn goes_well<R: AllocGlobal + Eprint + Print>(
     match ran {
         Ok(()) => {
             let _ = println!(rt;
-                "{blocks} blocks, {events} events: each reply and all that stands are equal, and no step failed"
+                "{blocks} blocks, {events} events: each reply and all that exists are equal, and no step failed"
             );
             true
         }
@@ -108,7 +108,7 @@ fn goes_well<R: AllocGlobal + Eprint + Print>(
 /// Hands in the events of this seed: how that ended, how many were handed in, and what was replied.
 fn run(
     alloc: Global,
-    setting: Setting,
+    setting: SoakSetting,
     events: u64,
     seed: u64,
 ) -> (Result<(), SoakFault>, u64, Counts) {
@@ -138,7 +138,7 @@ fn number_of(word: &str) -> Option<u64> {
 #[derive(Drop)]
 struct Soak {
     files: TransferFiles,
-    random: Random,
+    random: SoakRandom,
     pair: Pair,
     counts: Counts,
     /// How many events were handed in.
@@ -147,10 +147,10 @@ struct Soak {
 
 impl Soak {
     /// Before the first event of this seed.
-    fn new(alloc: Global, setting: Setting, seed: u64) -> Result<Soak, SoakFault> {
+    fn new(alloc: Global, setting: SoakSetting, seed: u64) -> Result<Soak, SoakFault> {
         Ok(Soak {
             files: setting.files(),
-            random: Random::new(seed),
+            random: SoakRandom::new(seed),
             pair: Pair::new(alloc, setting)?,
             counts: Counts::new(),
             handed_in: 0,

@@ -1,7 +1,7 @@
 //! Two entities side by side, alike but for their filestores.
 use crate::events::{TRANSACTIONS, id, path_of};
 use crate::fault::{SoakFault, SoakFinding};
-use crate::settings::Setting;
+use crate::settings::SoakSetting;
 use cfdp_actions::{Filestore, Kind, ListStore, Protected};
 use cfdp_paths::{Memory, Path};
 use cfdp_status::TransactionId;
@@ -25,7 +25,7 @@ fn protected(alloc: Global) -> Result<Protected, Memory> {
 }
 
 /// The configuration of both: entity 2, a cap of the octets of the longest file, and two checks.
-pub fn config(alloc: Global, setting: Setting) -> Result<Config, SoakFault> {
+pub fn config(alloc: Global, setting: SoakSetting) -> Result<Config, SoakFault> {
     let longest = setting.files().longest();
     let protected = protected(alloc)?;
     let config = Config::new(2, setting.blocks(), longest, 2, 16, protected);
@@ -67,7 +67,7 @@ fn went_well(event: &Event, reply: &Reply) -> bool {
 
 impl Pair {
     /// Two that have just begun.
-    pub fn new(alloc: Global, setting: Setting) -> Result<Pair, SoakFault> {
+    pub fn new(alloc: Global, setting: SoakSetting) -> Result<Pair, SoakFault> {
         Ok(Pair {
             tree: tree(alloc, setting)?,
             list: list(alloc, setting)?,
@@ -128,14 +128,14 @@ fn octets_at<S: Filestore>(
     Ok(Some(octets))
 }
 
-fn tree(alloc: Global, setting: Setting) -> Result<Core<TreeStore>, SoakFault> {
+fn tree(alloc: Global, setting: SoakSetting) -> Result<Core<TreeStore>, SoakFault> {
     let config = config(alloc, setting)?;
     let store = TreeStore::new(alloc, config.blocks())?;
     Ok(Core::new(alloc, config, store)?)
 }
 
 /// The entity over a plain list.
-pub fn list(alloc: Global, setting: Setting) -> Result<Core<ListStore>, SoakFault> {
+pub fn list(alloc: Global, setting: SoakSetting) -> Result<Core<ListStore>, SoakFault> {
     let config = config(alloc, setting)?;
     let store = ListStore::new(alloc, config.blocks())?;
     Ok(Core::new(alloc, config, store)?)

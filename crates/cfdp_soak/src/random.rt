@@ -3,14 +3,14 @@ ghost use Rattle.std.specs.Prelude.{◌<◌};
 
 /// The high bits of a linear congruential generator.
 #[derive(Drop)]
-pub struct Random {
+pub struct SoakRandom {
     state: u64,
 }
 
-impl Random {
+impl SoakRandom {
     /// Those of a seed.
-    pub fn new(seed: u64) -> Random {
-        Random { state: seed }
+    pub fn new(seed: u64) -> SoakRandom {
+        SoakRandom { state: seed }
     }
 
     /// The next number below `end`.

@@ -4,7 +4,7 @@ use crate::events::TransferFiles;
 
 /// How large the filestores of both entities are: too small for all that is asked for.
 #[derive(Clone, Copy)]
-pub enum Setting {
+pub enum SoakSetting {
     /// 160 blocks, and files of at most 8 blocks.
     Small,
     /// 400 blocks, and files of at most 75 blocks.
@@ -14,24 +14,28 @@ pub enum Setting {
 }
 
 /// All settings, in the order in which they are run.
-pub static SETTINGS: [Setting; 3] = [Setting::Small, Setting::Middle, Setting::Large];
+pub static SETTINGS: [SoakSetting; 3] = [
+    SoakSetting::Small,
+    SoakSetting::Middle,
+    SoakSetting::Large,
+];
 
-impl Setting {
+impl SoakSetting {
     /// How many blocks each filestore has.
     pub fn blocks(self) -> u32 {
         match self {
-            Setting::Small => 160,
-            Setting::Middle => 400,
-            Setting::Large => 4_096,
+            SoakSetting::Small => 160,
+            SoakSetting::Middle => 400,
+            SoakSetting::Large => 4_096,
         }
     }
 
     /// The files of transactions.
     pub fn files(self) -> TransferFiles {
         let piece = match self {
-            Setting::Small => 150,
-            Setting::Middle => 1_500,
-            Setting::Large => 3_000,
+            SoakSetting::Small => 150,
+            SoakSetting::Middle => 1_500,
+            SoakSetting::Large => 3_000,
         };
         TransferFiles { piece }
     }
@@ -39,8 +43,8 @@ impl Setting {
     /// How many events are handed in: all of them over the small filestores, and a tenth of them over the others.
     pub fn events(self, events: u64) -> u64 {
         match self {
-            Setting::Small => events,
-            Setting::Middle | Setting::Large => events / 10,
+            SoakSetting::Small => events,
+            SoakSetting::Middle | SoakSetting::Large => events / 10,
         }
     }
 }

@@ -9,8 +9,8 @@ use crate::events::{TRANSACTIONS, id, is_acknowledged};
 use crate::fault::{SoakFault, SoakFinding};
 use crate::inputs::{Input, Lines, OtherPdu};
 use crate::pair::{compare_stores, config, list};
-use crate::random::Random;
-use crate::settings::Setting;
+use crate::random::SoakRandom;
+use crate::settings::SoakSetting;
 use crate::words::Words;
 use cfdp_actions::ListStore;
 use cfdp_directives::{Ack, Prompt, TransactionStatus, write_ack, write_prompt};
@@ -196,7 +196,7 @@ fn was_handed_on(answer: &Answer) -> bool {
 
 impl Twin {
     /// Both have just begun.
-    pub fn new(alloc: Global, setting: Setting) -> Result<Twin, SoakFault> {
+    pub fn new(alloc: Global, setting: SoakSetting) -> Result<Twin, SoakFault> {
         let entity = Entity::new(alloc, config(alloc, setting)?)?;
         let receiver = match Receiver::new(alloc, mib(), entity) {
             Ok(receiver) => receiver,
@@ -220,7 +220,7 @@ impl Twin {
     }
 
     /// Time passes: some ticks, or until the deadline.
-    fn wait(&mut self, random: &mut Random, input: &Input) {
+    fn wait(&mut self, random: &mut SoakRandom, input: &Input) {
         let deadline = self.receiver.deadline().unwrap_or(self.now);
         self.now = if matches!(input, Input::Expire) && random.is_one_in(2) {
             self.now.max(deadline)
@@ -233,7 +233,7 @@ impl Twin {
     pub fn turn(
         &mut self,
         alloc: Global,
-        random: &mut Random,
+        random: &mut SoakRandom,
         lines: &mut Lines,
         input: Input,
     ) -> Result<(), SoakFault> {

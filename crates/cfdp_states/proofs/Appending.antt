@@ -72,10 +72,10 @@ module _ (leased : OnlyLeased) where
       let H = alone (only fp F) x in
       let start = blocks (alone (only fp F) []) in
       let G = performed v.prefixes H 0 (Install p) in
-      let told = tells (alone (only fp F) []) start start 0 x h refl in
-      let seen : IsViewOf w G start (max start (max (blocks H) (blocks G))) (0 + (1 + step_bound H (Install p))) = told.1 refl in
+      let stated = tells (alone (only fp F) []) start start 0 x h refl in
+      let seen : IsViewOf w G start (max start (max (blocks H) (blocks G))) (0 + (1 + step_bound H (Install p))) = stated.1 refl in
       counted w fp F x (Install p ∷ []) (Installed ∷ []) (within, tt)
-      (ap (λ answer. answer ∷ []) (told.0 ∙ ap (λ prefixes. (row prefixes H 0 (Install p)).answer) (sym same)))
+      (ap (λ answer. answer ∷ []) (stated.0 ∙ ap (λ prefixes. (row prefixes H 0 (Install p)).answer) (sym same)))
       (subst (λ (prefixes : List Path). IsViewOf w (performed prefixes H 0 (Install p)) start
       (max start (max (blocks H) (blocks (performed prefixes H 0 (Install p))))) ((1 + step_bound H (Install p)) + 0)) (sym same)
       (subst (λ n. IsViewOf w G start (max start (max (blocks H) (blocks G))) n) (turned (1 + step_bound H (Install p))) seen))
@@ -88,28 +88,28 @@ module _ (leased : OnlyLeased) where
       let H = alone (only fp F) x in
       let start = blocks (alone (only fp F) []) in
       let R = reached v.prefixes H 0 items in
-      let told = tells R start (max start (peak v.prefixes H 0 items)) (steps v.prefixes H 0 items) run.seen in
+      let stated = tells R start (max start (peak v.prefixes H 0 items)) (steps v.prefixes H 0 items) run.seen in
       let more = appended v.prefixes H 0 items item in
       let G = performed v.prefixes R 0 item in
       let before = leased v.prefixes fp F x items run.within in
       counted w fp F x (items ++ item ∷ []) (answers ++ answer ∷ []) (within_append fp items item run.within within)
-      ((λ i. (run.answered ∙ sym before.0) i ++ told.0 i ∷ []) ∙ sym more.1 ∙ ap (λ prefixes. statuses prefixes H 0 (items ++ item ∷ [])) (sym same))
+      ((λ i. (run.answered ∙ sym before.0) i ++ stated.0 i ∷ []) ∙ sym more.1 ∙ ap (λ prefixes. statuses prefixes H 0 (items ++ item ∷ [])) (sym same))
       (subst (λ (prefixes : List Path). IsViewOf w (reached prefixes H 0 (items ++ item ∷ [])) start (max start (peak prefixes H 0 (items ++ item ∷ [])))
       (steps prefixes H 0 (items ++ item ∷ []))) (sym same)
       (subst (λ (R : Filestore). IsViewOf w R start (max start (peak v.prefixes H 0 (items ++ item ∷ []))) (steps v.prefixes H 0 (items ++ item ∷ [])))
       (sym more.0)
       (subst (λ n. IsViewOf w G start n (steps v.prefixes H 0 (items ++ item ∷ []))) (sym (twice_max start (peak v.prefixes H 0 items) (blocks G))
       ∙ ap (max start) (sym more.2))
-      (subst (λ n. IsViewOf w G start (max (max start (peak v.prefixes H 0 items)) (blocks G)) n) (sym more.3) told.1))))
+      (subst (λ n. IsViewOf w G start (max (max start (peak v.prefixes H 0 items)) (blocks G)) n) (sym more.3) stated.1))))
 
   pub view_refuses : ViewRefuses
   unfolding statuses
   view_refuses v w fp F p x h tells within =
       let H = alone (only fp F) x in
       let start = blocks (alone (only fp F) []) in
-      let told = tells (alone (only fp F) []) start start 0 x h refl in
+      let stated = tells (alone (only fp F) []) start start 0 x h refl in
       let same = leased v.prefixes fp F x (Install p ∷ []) (within, tt) in
-      sym (told.0 ∙ head (row v.prefixes H 0 (Install p)).answer (row v.prefixes (alone F x) 0 (Install p)).answer same.0)
+      sym (stated.0 ∙ head (row v.prefixes H 0 (Install p)).answer (row v.prefixes (alone F x) 0 (Install p)).answer same.0)
     where
       head : (a b : Answer) → a ∷ [] ≡ b ∷ [] → a ≡ b
       head a b e = cc

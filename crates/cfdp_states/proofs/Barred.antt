@@ -29,9 +29,9 @@ barred prefixes m request b action is holds named =
       staged = λ F h. ap (λ (o : Outcome). (after F o.changes).staged) (e F);
     }
 
-free : (prefixes : List Path) (m m' : Extents) (request : Request) (told : Status) → bars prefixes request ≡ false → Does m m' request told →
-    Performs prefixes m m' request told
-free prefixes m m' request told fails does =
+free : (prefixes : List Path) (m m' : Extents) (request : Request) (stated : Status) → bars prefixes request ≡ false → Does m m' request stated →
+    Performs prefixes m m' request stated
+free prefixes m m' request stated fails does =
     let e : (F : Filestore) → row prefixes F 0 (Perform request) ≡ table F request = λ F. row_free prefixes F request fails in
     record {
       status = λ F h. does.status F h ∙ (λ i. (sym (e F) i).answer);
@@ -41,6 +41,6 @@ free prefixes m m' request told fails does =
 
 pub unbarred : (prefixes : List Path) (m m' : Extents) (request : Request) (b : Bool) (result : Result Status AllocError) → b ≡ bars prefixes request → b
     ≡ false → DoesOrNot m m' request result → PerformsOrNot prefixes m m' request result
-unbarred prefixes m m' request b (Ok told) is fails does = free prefixes m m' request told (sym is ∙ fails) does
+unbarred prefixes m m' request b (Ok stated) is fails does = free prefixes m m' request stated (sym is ∙ fails) does
 unbarred prefixes m m' request b (Err memory) is fails does =
     (does.0, does.1, λ F h. ap (λ (o : Outcome). succeeded o.answer) (row_free prefixes F request (sym is ∙ fails)) ∙ does.2 F h)

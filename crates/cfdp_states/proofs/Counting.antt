@@ -53,21 +53,21 @@ pub bound-counted : (m : Extents) (F : Filestore) → IsOutline m F → (item : 
 unfolding step_bound
 bound-counted m F h item = by_item item
   where
-    told : (p : Path) → min (content (node_at F p)) enough ≡ min (content_blocks (get m p)) enough
-    told p = content-counted (node_at F p) ∙ ap (λ a. min (content_blocks a) enough) (sym (h.found p))
+    stated : (p : Path) → min (content (node_at F p)) enough ≡ min (content_blocks (get m p)) enough
+    stated p = content-counted (node_at F p) ∙ ap (λ a. min (content_blocks a) enough) (sym (h.found p))
 
     weighed : (p : Path) → min (weight (node_at F p)) enough ≡ min (weight_in (get m p)) enough
     weighed p = weight-counted (node_at F p) ∙ ap (λ a. min (weight_in a) enough) (sym (h.found p))
 
     by_item : (item : Item) → min (bound_on m item) enough ≡ min (step_bound F item) enough
-    by_item (Install p) = let e = told p in omega (arith, e)
+    by_item (Install p) = let e = stated p in omega (arith, e)
     by_item (Perform (CreateFile p)) = refl
-    by_item (Perform (DeleteFile p)) = let e = told p in omega (arith, e)
+    by_item (Perform (DeleteFile p)) = let e = stated p in omega (arith, e)
     by_item (Perform (RenameFile p q)) = refl
-    by_item (Perform (AppendFile p q)) = let e = told q in omega (arith, e)
+    by_item (Perform (AppendFile p q)) = let e = stated q in omega (arith, e)
     by_item (Perform (ReplaceFile p q)) =
-        let e = told p in
-        let f = told q in
+        let e = stated p in
+        let f = stated q in
         elim (same_path p q) as (λ b. min (if b then 0 else content_blocks (get m p) + 2 * content_blocks (get m q)) enough
         ≡ min (if b then 0 else content (node_at F p) + 2 * content (node_at F q)) enough) [
           | true ↦ refl

@@ -11,7 +11,7 @@ use Rattle.std.specs.FinMap.{entries, entries_sorted, get-entries, retain_keys, 
 use Rattle.std.specs.FinMap.Entries.{below_all, is_sorted, find}
 use Rattle.cfdp_paths.specs.Paths.{Path, path_cmp, same_path, is_at_or_below, is_below, parent, rebased}
 use Rattle.cfdp_actions.specs.Filestore.{Node, Directory, File, Filestore, node_at, staged_in, blocks_of, weight, weights, blocks, Change, Becomes, Stages, changed, after, inside, has_entries, is_directory, is_good, is_root, parent_is_good, tree_at}
-use Rattle.cfdp_actions.specs.Actions.{vacating, settled, is_tree_too_deep}
+use Rattle.cfdp_actions.specs.Actions.{vacating, arriving, is_tree_too_deep}
 use Rattle.cfdp_actions.proofs.Order.{paths_total, same_path-refl, node_at-becomes}
 use Rattle.cfdp_actions.proofs.Weights.{below_rest, sorted_rest, below_less, find_below, find_later}
 use Rattle.cfdp_actions.proofs.Growth.{blocks_of-le}
@@ -130,12 +130,12 @@ longer-vacated slot other [] (f ∷ fs) h = absurd h
 longer-vacated slot other (e ∷ es) [] h = absurd h
 longer-vacated slot other (e ∷ es) (f ∷ fs) h = ((h.0, nothing), longer-vacated slot other es fs h.2)
 
-pub longer-settled : (slot other : ℕ) (p q : Path) (es fs : List (Path × Node)) → LongerEntries es fs →
-    LongerChanges slot other (settled p q es) (settled p q fs)
-longer-settled slot other p q [] [] h = tt
-longer-settled slot other p q [] (f ∷ fs) h = absurd h
-longer-settled slot other p q (e ∷ es) [] h = absurd h
-longer-settled slot other p q (e ∷ es) (f ∷ fs) h = ((ap (rebased p q) h.0, h.1), longer-settled slot other p q es fs h.2)
+pub longer-arriving : (slot other : ℕ) (p q : Path) (es fs : List (Path × Node)) → LongerEntries es fs →
+    LongerChanges slot other (arriving p q es) (arriving p q fs)
+longer-arriving slot other p q [] [] h = tt
+longer-arriving slot other p q [] (f ∷ fs) h = absurd h
+longer-arriving slot other p q (e ∷ es) [] h = absurd h
+longer-arriving slot other p q (e ∷ es) (f ∷ fs) h = ((ap (rebased p q) h.0, h.1), longer-arriving slot other p q es fs h.2)
 
 -- ---- filestores
 

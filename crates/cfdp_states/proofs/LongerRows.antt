@@ -7,10 +7,10 @@ use Rattle.cfdp_status.specs.declared.action.Action.TheVariants as action
 use Rattle.cfdp_status.specs.declared.status.Status.{Status}
 use Rattle.cfdp_status.specs.declared.status.Status.TheVariants.{NotAllowed}
 use Rattle.cfdp_actions.specs.Filestore.{Node, Directory, File, Filestore, node_at, staged_in, parent_is_good, has_entries, tree_at}
-use Rattle.cfdp_actions.specs.Actions.{Request, CreateFile, DeleteFile, RenameFile, AppendFile, ReplaceFile, CreateDirectory, RemoveDirectory, DenyFile, DenyDirectory, Item, Install, Perform, Answer, Outcome, refused, succeeds, unchanged, vacating, settled, is_tree_too_deep, create, delete_file, rename, append, replace, remove_directory, deny_file, deny_directory, install, table, free_row, is_barred, is_protected, denied, row}
+use Rattle.cfdp_actions.specs.Actions.{Request, CreateFile, DeleteFile, RenameFile, AppendFile, ReplaceFile, CreateDirectory, RemoveDirectory, DenyFile, DenyDirectory, Item, Install, Perform, Answer, Outcome, refused, succeeds, unchanged, vacating, arriving, is_tree_too_deep, create, delete_file, rename, append, replace, remove_directory, deny_file, deny_directory, install, table, free_row, is_barred, is_protected, denied, row}
 use Rattle.cfdp_leases.specs.Items.{performed, content, step_bound}
 use Rattle.cfdp_actions.proofs.Growth.{blocks_of-le}
-use Rattle.cfdp_states.proofs.Longer.{Longer, nothing, folder, file, longer-is_some, longer-weight, longer-itself, LongerEntries, longer-depth, LongerChanges, longer-append, longer-vacated, longer-settled, IsLonger, longer-after, parent-longer, tree-longer, entries-longer}
+use Rattle.cfdp_states.proofs.Longer.{Longer, nothing, folder, file, longer-is_some, longer-weight, longer-itself, LongerEntries, longer-depth, LongerChanges, longer-append, longer-vacated, longer-arriving, IsLonger, longer-after, parent-longer, tree-longer, entries-longer}
 
 pub record IsLongerOutcome (slot other : ℕ) (o r : Outcome) : Type 0 where
   pub answer : o.answer ≡ r.answer
@@ -94,23 +94,23 @@ module _ (slot other : ℕ) where
 
   moves-longer : (p q : Path) (es fs : List (Path × Node)) → LongerEntries es fs →
       IsLongerOutcome slot other
-      (if is_tree_too_deep p q es then refused (NotAllowed action.RenameFile) else succeeds action.RenameFile (vacating es ++ settled p q es) 0 0 0)
-      (if is_tree_too_deep p q fs then refused (NotAllowed action.RenameFile) else succeeds action.RenameFile (vacating fs ++ settled p q fs) 0 0 0)
+      (if is_tree_too_deep p q es then refused (NotAllowed action.RenameFile) else succeeds action.RenameFile (vacating es ++ arriving p q es) 0 0 0)
+      (if is_tree_too_deep p q fs then refused (NotAllowed action.RenameFile) else succeeds action.RenameFile (vacating fs ++ arriving p q fs) 0 0 0)
   moves-longer p q es fs kept =
-      let moved : IsLongerOutcome slot other (succeeds action.RenameFile (vacating es ++ settled p q es) 0 0 0)
-      (succeeds action.RenameFile (vacating fs ++ settled p q fs) 0 0 0) =
+      let moved : IsLongerOutcome slot other (succeeds action.RenameFile (vacating es ++ arriving p q es) 0 0 0)
+      (succeeds action.RenameFile (vacating fs ++ arriving p q fs) 0 0 0) =
       record {
         answer = refl;
-        changes = longer-append slot other (vacating es) (vacating fs) (settled p q es) (settled p q fs)
-            (longer-vacated slot other es fs kept) (longer-settled slot other p q es fs kept);
+        changes = longer-append slot other (vacating es) (vacating fs) (arriving p q es) (arriving p q fs)
+            (longer-vacated slot other es fs kept) (longer-arriving slot other p q es fs kept);
       } in
       subst (λ deep. IsLongerOutcome slot other (if is_tree_too_deep p q es then refused (NotAllowed action.RenameFile)
-      else succeeds action.RenameFile (vacating es ++ settled p q es) 0 0 0) (if deep then refused (NotAllowed action.RenameFile)
-      else succeeds action.RenameFile (vacating fs ++ settled p q fs) 0 0 0))
+      else succeeds action.RenameFile (vacating es ++ arriving p q es) 0 0 0) (if deep then refused (NotAllowed action.RenameFile)
+      else succeeds action.RenameFile (vacating fs ++ arriving p q fs) 0 0 0))
       (longer-depth p q es fs kept)
       (elim (is_tree_too_deep p q es) as (λ deep. IsLongerOutcome slot other (if deep then refused (NotAllowed action.RenameFile)
-      else succeeds action.RenameFile (vacating es ++ settled p q es) 0 0 0) (if deep then refused (NotAllowed action.RenameFile)
-      else succeeds action.RenameFile (vacating fs ++ settled p q fs) 0 0 0)) [
+      else succeeds action.RenameFile (vacating es ++ arriving p q es) 0 0 0) (if deep then refused (NotAllowed action.RenameFile)
+      else succeeds action.RenameFile (vacating fs ++ arriving p q fs) 0 0 0)) [
         | true ↦ refused-longer slot other (NotAllowed action.RenameFile)
         | false ↦ moved
       ])

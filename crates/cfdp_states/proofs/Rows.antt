@@ -5,7 +5,7 @@ use Rattle.cfdp_status.specs.declared.action.Action.{Action}
 use Rattle.cfdp_status.specs.declared.action.Action.TheVariants as action
 use Rattle.cfdp_status.specs.declared.status.Status.TheVariants.{NotAllowed}
 use Rattle.cfdp_actions.specs.Filestore.{Node, Directory, File, Filestore, node_at, staged_in, blocks_of, weight, parent_is_good, has_entries, tree_at, IsRooted}
-use Rattle.cfdp_actions.specs.Actions.{Request, CreateFile, DeleteFile, RenameFile, AppendFile, ReplaceFile, CreateDirectory, RemoveDirectory, DenyFile, DenyDirectory, Item, Install, Perform, Outcome, ticks, refused, succeeds, vacating, settled, is_tree_too_deep, create, delete_file, rename, append, replace, remove_directory, deny_file, deny_directory, install, table, free_row, is_barred, denied, row}
+use Rattle.cfdp_actions.specs.Actions.{Request, CreateFile, DeleteFile, RenameFile, AppendFile, ReplaceFile, CreateDirectory, RemoveDirectory, DenyFile, DenyDirectory, Item, Install, Perform, Outcome, ticks, refused, succeeds, vacating, arriving, is_tree_too_deep, create, delete_file, rename, append, replace, remove_directory, deny_file, deny_directory, install, table, free_row, is_barred, denied, row}
 use Rattle.cfdp_leases.specs.Items.{content, step_bound}
 use Rattle.cfdp_actions.proofs.Growth.{Grows, create-grows, delete_file-grows, remove_directory-grows, deny_file-grows, deny_directory-grows, append-grows, replace-grows, install-grows, blocks_of-zero}
 use Rattle.cfdp_actions.proofs.Moves.{rename-grows}
@@ -72,7 +72,7 @@ rename-ticks p q (Some node) None false below es = le_refl 0
 rename-ticks p q (Some node) None true true es = le_refl 0
 rename-ticks p q (Some node) None true false es =
     elim (is_tree_too_deep p q es) as (λ deep. ticks (if deep then refused (NotAllowed action.RenameFile)
-    else succeeds action.RenameFile (vacating es ++ settled p q es) 0 0 0) ≤ 0) [ true ↦ le_refl 0 | false ↦ le_refl 0 ]
+    else succeeds action.RenameFile (vacating es ++ arriving p q es) 0 0 0) ≤ 0) [ true ↦ le_refl 0 | false ↦ le_refl 0 ]
 
 -- to append n octets to m takes no more blocks than n octets do
 blocks_of-add : (m n : ℕ) → blocks_of (m + n) ≤ blocks_of m + blocks_of n

@@ -14,14 +14,14 @@ use Rattle.cfdp_paths.specs.Paths.{Path, path_cmp, parent, same_path, is_at_or_b
 use Rattle.cfdp_paths.specs.PathMaps.{any_below, tree_in, is_too_deep as is_deep}
 use Rattle.cfdp_status.specs.declared.status.Status.{Status}
 use Rattle.cfdp_actions.specs.Filestore.{Node, Directory, File, Filestore, node_at, inside, Change, Becomes, changed, after, has_entries, is_directory, is_good, parent_is_good, tree_at}
-use Rattle.cfdp_actions.specs.Actions.{Request, Performed, Outcome, vacating, settled, is_tree_too_deep, table}
+use Rattle.cfdp_actions.specs.Actions.{Request, Performed, Outcome, vacating, arriving, is_tree_too_deep, table}
 use Rattle.cfdp_states.specs.declared.extent.Extent.{Extent}
 use Rattle.cfdp_states.specs.Sketching.{extent_of, extent_in, extent_at, Extents}
 use Rattle.cfdp_states.specs.code.Sketching.{rehomed, is_folder, good_among, good_parent, IsOutline, Does}
 use Rattle.cfdp_actions.proofs.Order.{paths_total, node_at-becomes, same_path-true}
 use Rattle.cfdp_actions.proofs.Weights.{entries-retain_keys}
 use Rattle.cfdp_actions.proofs.Prefixes.{rebased-below}
-use Rattle.cfdp_actions.proofs.Moves.{after-append, tree_at-all, tree_at-sorted, find-tree_at, node_at-vacated, node_at-settled, node_at-settled_apart, moved}
+use Rattle.cfdp_actions.proofs.Moves.{after-append, tree_at-all, tree_at-sorted, find-tree_at, node_at-vacated, node_at-arriving, node_at-arriving_apart, moved}
 use Rattle.cfdp_states.proofs.Counted.{get-rehomed}
 use Rattle.cfdp_paths.proofs.InOrder.{path_antisym}
 
@@ -117,31 +117,32 @@ module _ (m : Extents) (F : Filestore) (h : IsOutline m F) where
 -- ---- no change, and one path that changes
 
 -- what `Does` asks at one filestore
-pub record Follows (m' : Extents) (F : Filestore) (o : Outcome) (told : Status) : Type 0 where
-  pub status : Performed told ≡ o.answer
+pub record Follows (m' : Extents) (F : Filestore) (o : Outcome) (stated : Status) : Type 0 where
+  pub status : Performed stated ≡ o.answer
   pub outlines : IsOutline m' (after F o.changes)
   pub staged : (after F o.changes).staged ≡ F.staged
 
-pub does-at : (m m' : Extents) (request : Request) (told : Status) → ((F : Filestore) → IsOutline m F → Follows m' F (table F request) told) →
-    Does m m' request told
-does-at m m' request told at = record {
+pub does-at : (m m' : Extents) (request : Request) (stated : Status) → ((F : Filestore) → IsOutline m F → Follows m' F (table F request) stated) →
+    Does m m' request stated
+does-at m m' request stated at = record {
   status = λ F h. (at F h).status;
   outlines = λ F h. (at F h).outlines;
   staged = λ F h. (at F h).staged;
 }
 
-pub follows-same : (m' : Extents) (F : Filestore) (o : Outcome) (told : Status) → Performed told ≡ o.answer → o.changes ≡ [] → IsOutline m' F →
-    Follows m' F o told
-follows-same m' F o told answer changes h = record {
+pub follows-same : (m' : Extents) (F : Filestore) (o : Outcome) (stated : Status) → Performed stated ≡ o.answer → o.changes ≡ [] → IsOutline m' F →
+    Follows m' F o stated
+follows-same m' F o stated answer changes h = record {
   status = answer;
   outlines = subst (λ (cs : List Change). IsOutline m' (after F cs)) (sym changes) h;
   staged = ap (λ (cs : List Change). (after F cs).staged) changes;
 }
 
-pub follows-one : (m m' : Extents) (F : Filestore) (o : Outcome) (told : Status) (p : Path) (node : Option Node) → IsOutline m F → Performed told ≡ o.answer →
+pub follows-one : (m m' : Extents) (F : Filestore) (o : Outcome) (stated : Status) (p : Path) (node : Option Node) → IsOutline m F
+    → Performed stated ≡ o.answer →
     o.changes ≡ Becomes p node ∷ [] →
-    ((x : Path) → get m' x ≡ cond (same_path x p) (extent_in node) (get m x)) → Follows m' F o told
-follows-one m m' F o told p node h answer changes now = record {
+    ((x : Path) → get m' x ≡ cond (same_path x p) (extent_in node) (get m x)) → Follows m' F o stated
+follows-one m m' F o stated p node h answer changes now = record {
   status = answer;
   outlines = subst (λ (cs : List Change). IsOutline m' (after F cs)) (sym changes) (record {
     found = λ x. now x ∙ ap (λ v. cond (same_path x p) (extent_in node) v) (h.found x)
@@ -169,13 +170,13 @@ pub moved_where : (F : Filestore) (p q x : Path) →
 moved_where F p q x =
     let es = tree_at F p in
     let y = rebased q p x in
-    ap (λ G. node_at G x) (after-append F (vacating es) (settled p q es))
-    ∙ elim (is_at_or_below x q) as (λ b. is_at_or_below x q ≡ b → node_at (after (after F (vacating es)) (settled p q es)) x
+    ap (λ G. node_at G x) (after-append F (vacating es) (arriving p q es))
+    ∙ elim (is_at_or_below x q) as (λ b. is_at_or_below x q ≡ b → node_at (after (after F (vacating es)) (arriving p q es)) x
     ≡ cond b (cond (is_some (node_at F y)) (node_at F y) (cond (is_at_or_below x p) None (node_at F x))) (cond (is_at_or_below x p) None (node_at F x))) [
-      | true ↦ λ at. node_at-settled p q (after F (vacating es)) es (tree_at-sorted F p) (tree_at-all F p) x at
+      | true ↦ λ at. node_at-arriving p q (after F (vacating es)) es (tree_at-sorted F p) (tree_at-all F p) x at
           ∙ ap (λ v. cond (is_some v) v (node_at (after F (vacating es)) x)) (find-tree_at F p y ∙ ap (λ b. cond b (node_at F y) None) (rebased-below q p x))
           ∙ ap (λ v. cond (is_some (node_at F y)) (node_at F y) v) (vacant es)
-      | false ↦ λ at. node_at-settled_apart p q (after F (vacating es)) es x at ∙ vacant es
+      | false ↦ λ at. node_at-arriving_apart p q (after F (vacating es)) es x at ∙ vacant es
     ] refl
   where
     gone : (v : Option Node) → cond (is_some v) None v ≡ None
@@ -194,17 +195,17 @@ staged-vacated : (F : Filestore) (es : List (Path × Node)) → (after F (vacati
 staged-vacated F [] = refl
 staged-vacated F (e ∷ es) = staged-vacated (changed F (Becomes e.0 None)) es
 
-staged-settled : (p q : Path) (F : Filestore) (es : List (Path × Node)) → (after F (settled p q es)).staged ≡ F.staged
-staged-settled p q F [] = refl
-staged-settled p q F (e ∷ es) = staged-settled p q (changed F (Becomes (rebased p q e.0) (Some e.1))) es
+staged-arriving : (p q : Path) (F : Filestore) (es : List (Path × Node)) → (after F (arriving p q es)).staged ≡ F.staged
+staged-arriving p q F [] = refl
+staged-arriving p q F (e ∷ es) = staged-arriving p q (changed F (Becomes (rebased p q e.0) (Some e.1))) es
 
 pub staged-moved : (F : Filestore) (p q : Path) → (moved F p q).staged ≡ F.staged
-staged-moved F p q = ap (λ (G : Filestore). G.staged) (after-append F (vacating (tree_at F p)) (settled p q (tree_at F p)))
-    ∙ staged-settled p q (after F (vacating (tree_at F p))) (tree_at F p) ∙ staged-vacated F (tree_at F p)
+staged-moved F p q = ap (λ (G : Filestore). G.staged) (after-append F (vacating (tree_at F p)) (arriving p q (tree_at F p)))
+    ∙ staged-arriving p q (after F (vacating (tree_at F p))) (tree_at F p) ∙ staged-vacated F (tree_at F p)
 
-pub follows-moved : (m : Extents) (F : Filestore) (o : Outcome) (told : Status) (p q : Path) → IsOutline m F → Performed told ≡ o.answer → o.changes
-    ≡ vacating (tree_at F p) ++ settled p q (tree_at F p) → Follows (rehomed p q m) F o told
-follows-moved m F o told p q h answer changes = record {
+pub follows-moved : (m : Extents) (F : Filestore) (o : Outcome) (stated : Status) (p q : Path) → IsOutline m F → Performed stated ≡ o.answer → o.changes
+    ≡ vacating (tree_at F p) ++ arriving p q (tree_at F p) → Follows (rehomed p q m) F o stated
+follows-moved m F o stated p q h answer changes = record {
   status = answer;
   outlines = subst (λ (cs : List Change). IsOutline (rehomed p q m) (after F cs)) (sym changes) (record {
     found = λ x.

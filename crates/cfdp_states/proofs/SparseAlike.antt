@@ -9,7 +9,7 @@ use Rattle.cfdp_paths.proofs.Below.{at_or_below-antisym, parent_at_or_below, par
 use Rattle.cfdp_actions.specs.Filestore.{Filestore, node_at, has_entries, is_good, is_root, parent_is_good, tree_at}
 use Rattle.cfdp_actions.specs.Actions.{is_tree_too_deep}
 use Rattle.cfdp_leases.proofs.Sets.{by_truth}
-use Rattle.cfdp_states.specs.Sparse.{Hides, IsSparseStandIn, Knows}
+use Rattle.cfdp_states.specs.Sparse.{Hides, IsSparseSubstitute, Knows}
 use Rattle.cfdp_actions.proofs.Order.{same_path-true, same_path-is}
 use Rattle.cfdp_states.proofs.LikeNodes.{Like, like, like-is_some, like-is_directory}
 use Rattle.cfdp_states.proofs.Entries.{below-at, below-trans, below-under, Found, has_entries-found, found-has_entries, too_deep-found, found-too_deep, deeper}
@@ -95,7 +95,7 @@ pub knows_any : (known : Bool) → Knows known 0
 knows_any true = tt
 knows_any false = refl
 
-module _ (known visible : Path → Bool) (F G : Filestore) (h : IsSparseStandIn known visible F G) where
+module _ (known visible : Path → Bool) (F G : Filestore) (h : IsSparseSubstitute known visible F G) where
   pub nodes_seen : (p : Path) → visible p ≡ true → Like (node_at F p) (node_at G p)
   nodes_seen p seen = like _ _ (h.alike p seen)
 

@@ -77,7 +77,7 @@ module _ (paths : List Path) (u : Path) (few : length u < 8) where
         let s = shows-parts paths y seen in
         let up : is_at_or_below (take 8 y) c ≡ true =
         subst (λ z. is_at_or_below (take 8 y) z ≡ true) child-short (take-at_or_below 8 y c (child-above y at under)) in
-        true≢false (sym (any_at (λ s. is_at_or_below s c) paths s.path s.stands_in (at_or_below-trans s.path (take 8 y) c s.at up)) ∙ out))
+        true≢false (sym (any_at (λ s. is_at_or_below s c) paths s.path s.exists_in (at_or_below-trans s.path (take 8 y) c s.at up)) ∙ out))
 
     pub child_hidden : ((y : Path) → is_at_or_below x y ≡ true → is_below y u ≡ true → shows paths y ≡ false) → is_shown paths (take (suc (length u)) x) ≡ false
     child_hidden hidden = false_from_ne_true (is_shown paths (take (suc (length u)) x)) (λ t.

@@ -16,7 +16,7 @@ use Rattle.cfdp_actions.specs.Filestore.{is_root}
 use Rattle.cfdp_actions.specs.Actions.{Request, CreateFile, DeleteFile, RenameFile, AppendFile, ReplaceFile, CreateDirectory, RemoveDirectory, DenyFile, DenyDirectory, Item, Install, Perform, first_in, second_in}
 use Rattle.cfdp_actions.proofs.Prefixes.{below_root, rebased-below}
 use Rattle.cfdp_leases.specs.Items.{items_of}
-use Rattle.cfdp_leases.proofs.Sets.{stands, any_at, any_from, stands-append_left, stands-append_right}
+use Rattle.cfdp_leases.proofs.Sets.{exists, any_at, any_from, exists-append_left, exists-append_right}
 use Rattle.cfdp_states.specs.Sparse.{Sees, KnowsMoves, passes_after, named_in, sees_path}
 use Rattle.cfdp_states.specs.code.Sparse.{is_shown, shows, SeesBy, origin, with_origin, moved_back, shown_before, back_over, is_moved}
 use Rattle.cfdp_actions.proofs.Order.{same_path-true, same_path-refl}
@@ -53,17 +53,17 @@ not_root x h = ap not h
 
 -- ---- what is shown
 
-pub shows_from : (paths : List Path) (s x : Path) → stands s paths → is_root x ≡ false → is_at_or_below s (take 8 x) ≡ true → shows paths x ≡ true
+pub shows_from : (paths : List Path) (s x : Path) → exists s paths → is_root x ≡ false → is_at_or_below s (take 8 x) ≡ true → shows paths x ≡ true
 shows_from paths s x in_them named at =
     and_from (not (is_root x)) (is_shown paths (take 8 x)) (not_root x named) (any_at (λ s. is_at_or_below s (take 8 x)) paths s in_them at)
 
 -- one of the paths itself, and what is above it
-pub shows_above : (paths : List Path) (s x : Path) → stands s paths → is_root x ≡ false → is_at_or_below s x ≡ true → shows paths x ≡ true
+pub shows_above : (paths : List Path) (s x : Path) → exists s paths → is_root x ≡ false → is_at_or_below s x ≡ true → shows paths x ≡ true
 shows_above paths s x in_them named at = shows_from paths s x in_them named (at_or_below-trans s x (take 8 x) at (front_above 8 x))
 
 pub record Shown (paths : List Path) (x : Path) : Type 0 where
   pub path : Path
-  pub stands_in : stands path paths
+  pub exists_in : exists path paths
   pub named : is_root x ≡ false
   pub at : is_at_or_below path (take 8 x) ≡ true
 
@@ -71,15 +71,15 @@ pub shows-parts : (paths : List Path) (x : Path) → shows paths x ≡ true → 
 shows-parts paths x h =
     let parts = and_parts (not (is_root x)) (is_shown paths (take 8 x)) h in
     let s = any_from (λ s. is_at_or_below s (take 8 x)) paths parts.1 in
-    record { path = s.0; stands_in = s.1; named = no_root x parts.0; at = s.2 }
+    record { path = s.0; exists_in = s.1; named = no_root x parts.0; at = s.2 }
 
 pub shows_more : (paths more : List Path) (x : Path) → shows paths x ≡ true → shows (paths ++ more) x ≡ true
-shows_more paths more x h = let s = shows-parts paths x h in shows_from (paths ++ more) s.path x (stands-append_left s.path paths more s.stands_in) s.named s.at
+shows_more paths more x h = let s = shows-parts paths x h in shows_from (paths ++ more) s.path x (exists-append_left s.path paths more s.exists_in) s.named s.at
 
 -- ---- the names of an item
 
 names_seen : (names paths : List Path) (test : Path → Bool) → list_all (λ p. not (is_root p)) names ≡ true →
-    ((p : Path) → stands p names → stands p paths) → ((x : Path) → shows paths x ≡ true → test x ≡ true) → list_all (sees_path test) names ≡ true
+    ((p : Path) → exists p names → exists p paths) → ((x : Path) → shows paths x ≡ true → test x ≡ true) → list_all (sees_path test) names ≡ true
 names_seen [] paths test named there h = refl
 names_seen (p ∷ names) paths test named there h =
     let parts = and_parts (not (is_root p)) (list_all (λ p. not (is_root p)) names) named in
@@ -104,15 +104,15 @@ origin_gone p q s off at = λ i. if off i then Some (take 8 (rebased q p s)) els
 pub origin_else : (p q s : Path) → is_at_or_below s q ≡ false → is_at_or_below s p ≡ false → origin p q s ≡ Some s
 origin_else p q s off other = λ i. if off i then Some (take 8 (rebased q p s)) else if other i then None else Some s
 
-stays_in : (o : Option Path) (paths : List Path) (r : Path) → stands r paths → stands r (with_origin o paths)
+stays_in : (o : Option Path) (paths : List Path) (r : Path) → exists r paths → exists r (with_origin o paths)
 stays_in None paths r h = h
 stays_in (Some s) paths r h = or_right (same_path r s) (list_any (same_path r) paths) h
 
-back_in : (p q : Path) (paths : List Path) (s o : Path) → stands s paths → origin p q s ≡ Some o → stands o (moved_back p q paths)
+back_in : (p q : Path) (paths : List Path) (s o : Path) → exists s paths → origin p q s ≡ Some o → exists o (moved_back p q paths)
 back_in p q [] s o h is = absurd (true≢false (sym h))
 back_in p q (t ∷ paths) s o h is =
     elim (or_cases (same_path s t) (list_any (same_path s) paths) h) [
-      | inl e ↦ subst (λ (v : Option Path). stands o (with_origin v (moved_back p q paths))) (sym (sym (ap (origin p q) (same_path-true s t e)) ∙ is))
+      | inl e ↦ subst (λ (v : Option Path). exists o (with_origin v (moved_back p q paths))) (sym (sym (ap (origin p q) (same_path-true s t e)) ∙ is))
           (or_left (same_path o o) (list_any (same_path o) (moved_back p q paths)) (same_path-refl o))
       | inr r ↦ stays_in (origin p q t) (moved_back p q paths) o (back_in p q paths s o r is)
     ]
@@ -136,11 +136,11 @@ moved_back-next p q s moved rest o is = ap (λ o. moved ++ with_origin o (moved_
 
 module _ (p q : Path) (paths : List Path) (test : Path → Bool) (named : is_root p ≡ false)
     (h : (x : Path) → shows (moved_back p q paths ++ p ∷ q ∷ []) x ≡ true → test x ≡ true) where
-  first_shown : stands p (moved_back p q paths ++ p ∷ q ∷ [])
-  first_shown = stands-append_right p (moved_back p q paths) (p ∷ q ∷ []) (or_left (same_path p p) (list_any (same_path p) (q ∷ [])) (same_path-refl p))
+  first_shown : exists p (moved_back p q paths ++ p ∷ q ∷ [])
+  first_shown = exists-append_right p (moved_back p q paths) (p ∷ q ∷ []) (or_left (same_path p p) (list_any (same_path p) (q ∷ [])) (same_path-refl p))
 
-  second_shown : stands q (moved_back p q paths ++ p ∷ q ∷ [])
-  second_shown = stands-append_right q (moved_back p q paths) (p ∷ q ∷ []) (or_right (same_path q p) (list_any (same_path q) (q ∷ []))
+  second_shown : exists q (moved_back p q paths ++ p ∷ q ∷ [])
+  second_shown = exists-append_right q (moved_back p q paths) (p ∷ q ∷ []) (or_right (same_path q p) (list_any (same_path q) (q ∷ []))
       (or_left (same_path q q) false (same_path-refl q)))
 
   -- a path above s, where s is below r, and it is not
@@ -162,8 +162,8 @@ module _ (p q : Path) (paths : List Path) (test : Path → Bool) (named : is_roo
               or_right (nat_lt 8 (length x)) (test (rebased q p x)) (h (rebased q p x)
               (shows_from (moved_back p q paths ++ p ∷ q ∷ []) (take 8 (rebased q p s.path))
               (rebased q p x)
-              (stands-append_left (take 8 (rebased q p s.path)) (moved_back p q paths) (p ∷ q ∷ [])
-              (back_in p q paths s.path (take 8 (rebased q p s.path)) s.stands_in (origin_at p q s.path under)))
+              (exists-append_left (take 8 (rebased q p s.path)) (moved_back p q paths) (p ∷ q ∷ [])
+              (back_in p q paths s.path (take 8 (rebased q p s.path)) s.exists_in (origin_at p q s.path under)))
               (rooted_above (rebased q p x) p (rebased-below q p x) named)
               (take-at_or_below 8 (rebased q p s.path) (rebased q p x) (at-moved q p s.path x up at))))
         ]
@@ -174,8 +174,8 @@ module _ (p q : Path) (paths : List Path) (test : Path → Bool) (named : is_roo
             | inr away ↦ elim (cases_Bool (is_at_or_below s.path p)) [
               | inl below ↦ shows_from (moved_back p q paths ++ p ∷ q ∷ []) p x first_shown s.named (above_one s.path x p s.at below other)
               | inr apart ↦ shows_from (moved_back p q paths ++ p ∷ q ∷ []) s.path x
-                  (stands-append_left s.path (moved_back p q paths) (p ∷ q ∷ [])
-                  (back_in p q paths s.path s.path s.stands_in (origin_else p q s.path away apart))) s.named s.at
+                  (exists-append_left s.path (moved_back p q paths) (p ∷ q ∷ [])
+                  (back_in p q paths s.path s.path s.exists_in (origin_else p q s.path away apart))) s.named s.at
             ]
           ])
         ]
@@ -191,7 +191,7 @@ pub sees_request : (request : Request) (paths : List Path) (items : List Item) �
     SeesBy paths items → SeesBy (shown_before request paths) (Perform request ∷ items)
 sees_request request paths items named sees test h = (
   names_seen (named_in (Perform request)) (shown_before request paths) test named
-      (λ p s. stands-append_right p (back_over request paths) (named_in (Perform request)) s) h,
+      (λ p s. exists-append_right p (back_over request paths) (named_in (Perform request)) s) h,
   rest request named h,
 )
   where
@@ -212,7 +212,7 @@ sees_more paths more items sees test h = sees test (λ x s. h x (shows_more path
 
 pub sees_install : (p : Path) (paths : List Path) (items : List Item) → is_root p ≡ false → SeesBy paths items → SeesBy (paths ++ p ∷ []) (Install p ∷ items)
 sees_install p paths items named sees test h = (
-  names_seen (p ∷ []) (paths ++ p ∷ []) test (and_from (not (is_root p)) true (not_root p named) refl) (λ r s. stands-append_right r paths (p ∷ []) s) h,
+  names_seen (p ∷ []) (paths ++ p ∷ []) test (and_from (not (is_root p)) true (not_root p named) refl) (λ r s. exists-append_right r paths (p ∷ []) s) h,
   sees_more paths (p ∷ []) items sees test h,
 )
 

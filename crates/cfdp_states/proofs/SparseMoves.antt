@@ -8,7 +8,7 @@ use Rattle.cfdp_paths.specs.Paths.{Path, same_path, is_at_or_below, is_below, re
 use Rattle.cfdp_paths.proofs.Below.{at_or_below-itself, at_or_below-trans, is_below-Decides, length-at_or_below, rebased-append}
 use Rattle.cfdp_actions.specs.Filestore.{Node, Filestore, node_at, blocks, has_entries, tree_at}
 use Rattle.cfdp_actions.specs.Actions.{RenameFile, is_tree_too_deep}
-use Rattle.cfdp_states.specs.Sparse.{passes_after, Hides, IsSparseStandIn, Knows, AreAlike}
+use Rattle.cfdp_states.specs.Sparse.{passes_after, Hides, IsSparseSubstitute, Knows, AreAlike}
 use Rattle.cfdp_actions.proofs.Order.{same_path-true, same_path-is}
 use Rattle.cfdp_actions.proofs.Prefixes.{rebased-below, rebased_back}
 use Rattle.cfdp_actions.proofs.Moves.{none_unless, moved, blocks-moved_free}
@@ -193,7 +193,7 @@ nothing_at F q absent bare x at =
           true≢false (sym (found-has_entries F q x ((is_below-Decides x q).1 (at, λ e. true≢false (sym (same_path-is x q e) ∙ f))) some) ∙ bare))
     ]
 
-module _ (known visible : Path → Bool) (F G : Filestore) (h : IsSparseStandIn known visible F G) (p q : Path) (seen_p : visible p ≡ true)
+module _ (known visible : Path → Bool) (F G : Filestore) (h : IsSparseSubstitute known visible F G) (p q : Path) (seen_p : visible p ≡ true)
     (seen_q : visible q ≡ true) (movable : (c : Path) → is_at_or_below c p ≡ true → known c ≡ true) (apart : is_at_or_below q p ≡ false)
     (shallow_F : is_tree_too_deep p q (tree_at F p) ≡ false) (shallow_G : is_tree_too_deep p q (tree_at G p) ≡ false)
     (absent : node_at G q ≡ None) (bare : has_entries G q ≡ false) where
@@ -261,7 +261,7 @@ module _ (known visible : Path → Bool) (F G : Filestore) (h : IsSparseStandIn 
         ]
       ]
 
-  pub moved-sparse : IsSparseStandIn (passes_after (RenameFile p q) known) (passes_after (RenameFile p q) visible) (moved F p q) (moved G p q)
+  pub moved-sparse : IsSparseSubstitute (passes_after (RenameFile p q) known) (passes_after (RenameFile p q) visible) (moved F p q) (moved G p q)
   moved-sparse = record {
     staged = staged-moved G p q ∙ h.staged ∙ sym (staged-moved F p q);
     alike = still_alike;

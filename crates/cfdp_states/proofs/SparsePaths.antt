@@ -5,7 +5,8 @@
 --     still                             what no rename moves
 --     put_same                          one more path in the map
 --     shown_tree, shown_entries         whether one is at or below a path
---     children_tree, next_child, known_child      the children that are shown, from the range below a path
+--     children_tree             the children that are shown, from the range below a path
+--     Found, none_found, all_found      the children that were found among the first of some paths
 --     has_same, deepest_same            what is beside the same paths
 --     next_rest, next_shared            one more name that two paths share
 --     none_known, last_known            the first names of a path, where those of a path before it are the same
@@ -25,17 +26,17 @@ use Rattle.cfdp_actions.specs.Filestore.{Filestore, deepest_beside, deepest_of, 
 use Rattle.cfdp_actions.proofs.Order.{paths_total, same_path-true, same_path-is}
 use Rattle.cfdp_actions.specs.Actions.{Item}
 use Rattle.cfdp_leases.specs.Footprint.{Footprint}
-use Rattle.cfdp_leases.proofs.Sets.{stands, stands-append_left, stands-append_right, stands-append_cases, stands_from_contains, any_at, any_from}
+use Rattle.cfdp_leases.proofs.Sets.{exists, exists-append_left, exists-append_right, exists-append_cases, exists_from_contains, any_at, any_from}
 use Rattle.cfdp_states.specs.code.Sparse.{AreSame, HoldsLeased, PassAbove, SeesBy, children, is_shown, moved_back, paths_in, with_origin}
 use Rattle.cfdp_states.proofs.SparseLists.{front_above, origin_else, shows_from, shows-parts, take-at_or_below}
 use Rattle.cfdp_states.proofs.SparseFillers.{below_length, same_long}
 
 -- ---- the same paths
 
-pub sees_by_more : (a b : List Path) (items : List Item) → ((x : Path) → stands x b → stands x a) → SeesBy b items → SeesBy a items
+pub sees_by_more : (a b : List Path) (items : List Item) → ((x : Path) → exists x b → exists x a) → SeesBy b items → SeesBy a items
 sees_by_more a b items more sees test h = sees test (λ x seen.
     let s = shows-parts b x seen in
-    h x (shows_from a s.path x (more s.path s.stands_in) s.named s.at))
+    h x (shows_from a s.path x (more s.path s.exists_in) s.named s.at))
 
 -- what is there already
 pub contained_same : (p : Path) (xs : List Path) → list_any (λ y. same_path y p) xs ≡ true → AreSame xs (xs ++ p ∷ [])
@@ -74,10 +75,10 @@ none_added now others x = sym (ap (list_any (same_path x)) (append-nil now))
 pub holds_all : (one two three shared exclusive named : List Path) (fp : Footprint) → AreSame one ([] ++ shared) → AreSame two (one ++ exclusive) →
     AreSame three (two ++ named) → set.from_list exclusive ≡ fp.exclusive → set.from_list shared ≡ fp.shared → HoldsLeased three fp
 holds_all one two three shared exclusive named fp a b c is_exclusive is_shared = record {
-  exclusive = λ e h. c e ∙ stands-append_left e two named (b e ∙ stands-append_right e one exclusive
-      (stands_from_contains exclusive e (ap (λ s. set.contains s e) is_exclusive ∙ h)));
-  shared = λ e h. c e ∙ stands-append_left e two named (b e ∙ stands-append_left e one exclusive (a e
-      ∙ stands_from_contains shared e (ap (λ s. set.contains s e) is_shared ∙ h)));
+  exclusive = λ e h. c e ∙ exists-append_left e two named (b e ∙ exists-append_right e one exclusive
+      (exists_from_contains exclusive e (ap (λ s. set.contains s e) is_exclusive ∙ h)));
+  shared = λ e h. c e ∙ exists-append_left e two named (b e ∙ exists-append_left e one exclusive (a e
+      ∙ exists_from_contains shared e (ap (λ s. set.contains s e) is_shared ∙ h)));
 }
 
 -- what no rename moves
@@ -143,7 +144,7 @@ next_entry p es i e b within is below =
 -- those so far are children, and together with those from here on they are all
 pub record Found {X : Type 0} (p : Path) (es : List (Path × X)) (i : ℕ) (sofar : List Path) : Type 0 where
   pub same : AreSame (sofar ++ children p (paths_in (drop i es))) (children p (paths_in es))
-  pub long : (c : Path) → stands c sofar → length c ≡ suc (length p)
+  pub long : (c : Path) → exists c sofar → length c ≡ suc (length p)
 
 module _ {X : Type 0} (p : Path) (es : List (Path × X)) (i : ℕ) (sofar : List Path) (f : Found p es i sofar) (e : Path × X) (within : i < length es)
     (is : e ≡ get_or es i e) where
@@ -151,7 +152,7 @@ module _ {X : Type 0} (p : Path) (es : List (Path × X)) (i : ℕ) (sofar : List
   one_more below = record {
     same = λ x. ap (list_any (same_path x)) (append_assoc sofar (take (suc (length p)) e.0 ∷ []) (children p (paths_in (drop (i + 1) es)))
         ∙ sym (ap (λ rest. sofar ++ rest) (next_entry p es i e true within is below))) ∙ f.same x;
-    long = λ c h. elim (stands-append_cases c sofar (take (suc (length p)) e.0 ∷ []) h) [
+    long = λ c h. elim (exists-append_cases c sofar (take (suc (length p)) e.0 ∷ []) h) [
       | inl old ↦ f.long c old
       | inr new ↦ elim (or_cases (same_path c (take (suc (length p)) e.0)) false new) [
         | inl same ↦ ap length (same_path-true c (take (suc (length p)) e.0) same)

@@ -14,10 +14,10 @@ use Rattle.cfdp_status.specs.declared.status.Status.{Status}
 use Rattle.cfdp_status.specs.declared.status.Status.TheVariants.{NotAllowed}
 use Rattle.cfdp_status.specs.Codes.{is_successful}
 use Rattle.cfdp_actions.specs.Filestore.{Node, Directory, File, Filestore, node_at, blocks_of, weight, blocks, Change, Becomes, Stages, changed, after, has_entries, is_root, parent_is_good, tree_at}
-use Rattle.cfdp_actions.specs.Actions.{Request, CreateFile, DeleteFile, RenameFile, AppendFile, ReplaceFile, CreateDirectory, RemoveDirectory, DenyFile, DenyDirectory, Install, Perform, Outcome, refused, succeeds, vacating, settled, is_tree_too_deep, create, rename, remove_directory, deny_directory, table, free_row, bars, denied, succeeded, row}
+use Rattle.cfdp_actions.specs.Actions.{Request, CreateFile, DeleteFile, RenameFile, AppendFile, ReplaceFile, CreateDirectory, RemoveDirectory, DenyFile, DenyDirectory, Install, Perform, Outcome, refused, succeeds, vacating, arriving, is_tree_too_deep, create, rename, remove_directory, deny_directory, table, free_row, bars, denied, succeeded, row}
 use Rattle.cfdp_leases.specs.Items.{step_bound}
 use Rattle.cfdp_states.specs.Alone.{alone}
-use Rattle.cfdp_states.specs.Sparse.{Hides, IsSparseStandIn, KnowsMove, passes_after, sees_path, named_in, AreAlike}
+use Rattle.cfdp_states.specs.Sparse.{Hides, IsSparseSubstitute, KnowsMove, passes_after, sees_path, named_in, AreAlike}
 use Rattle.cfdp_actions.proofs.Order.{node_at-becomes, node_at-becomes_apart, same_path-true}
 use Rattle.cfdp_actions.proofs.Weights.{blocks-becomes, blocks-stages}
 use Rattle.cfdp_states.proofs.Installing.{install_row, row-install}
@@ -57,8 +57,8 @@ hides-changed visible F p a c n seen = (
         ]
 
 module _ (known visible : Path → Bool) where
-  becomes_sparse : (F G : Filestore) (p : Path) (a b : Option Node) → IsSparseStandIn known visible F G → visible p ≡ true → Like a b →
-      IsSparseStandIn known visible (changed F (Becomes p a)) (changed G (Becomes p b))
+  becomes_sparse : (F G : Filestore) (p : Path) (a b : Option Node) → IsSparseSubstitute known visible F G → visible p ≡ true → Like a b →
+      IsSparseSubstitute known visible (changed F (Becomes p a)) (changed G (Becomes p b))
   becomes_sparse F G p a b h seen same = record {
     staged = h.staged;
     alike = λ x s.
@@ -70,7 +70,7 @@ module _ (known visible : Path → Bool) where
       at : (x : Path) → visible x ≡ true → AreAlike (cond (same_path x p) a (node_at F x)) (cond (same_path x p) b (node_at G x))
       at x s = elim (same_path x p) as (λ t. AreAlike (cond t a (node_at F x)) (cond t b (node_at G x))) [ true ↦ alike same | false ↦ h.alike x s ]
 
-  becomes_blocks : (F G : Filestore) (p : Path) (a b : Option Node) → IsSparseStandIn known visible F G → visible p ≡ true → Like a b →
+  becomes_blocks : (F G : Filestore) (p : Path) (a b : Option Node) → IsSparseSubstitute known visible F G → visible p ≡ true → Like a b →
       blocks (changed F (Becomes p a)) + blocks G ≡ blocks (changed G (Becomes p b)) + blocks F
   becomes_blocks F G p a b h seen same =
       as_much (blocks F) (blocks (changed F (Becomes p a))) (blocks G) (blocks (changed G (Becomes p b))) (weight (node_at F p)) (weight (node_at G p))
@@ -78,7 +78,7 @@ module _ (known visible : Path → Bool) where
       (weight b) (blocks-becomes F p a) (blocks-becomes G p b) (like-weight (nodes_seen known visible F G h p seen)) (like-weight same)
 
   -- whatever is staged in both
-  restaged : (F G : Filestore) (s : List (List ℕ)) → IsSparseStandIn known visible F G → IsSparseStandIn known visible (record F { staged = s })
+  restaged : (F G : Filestore) (s : List (List ℕ)) → IsSparseSubstitute known visible F G → IsSparseSubstitute known visible (record F { staged = s })
       (record G { staged = s })
   restaged F G s h = record {
     staged = refl;
@@ -92,10 +92,10 @@ module _ (known visible : Path → Bool) where
   }
 
 pub record BothSparse (known visible : Path → Bool) (F G H K : Filestore) : Type 0 where
-  pub one : IsSparseStandIn known visible H K
+  pub one : IsSparseSubstitute known visible H K
   pub blocks : blocks H + blocks G ≡ blocks K + blocks F
 
-goes_sparse : (known visible : Path → Bool) (F G : Filestore) (p : Path) → IsSparseStandIn known visible F G → visible p ≡ true →
+goes_sparse : (known visible : Path → Bool) (F G : Filestore) (p : Path) → IsSparseSubstitute known visible F G → visible p ≡ true →
     {cs ds : List Change} → Goes p cs ds → BothSparse known visible F G (after F cs) (after G ds)
 goes_sparse known visible F G p h seen still = record { one = h; blocks = omega arith }
 goes_sparse known visible F G p h seen (becomes {a = a} {b = b} same) = record {
@@ -108,12 +108,12 @@ goes_sparse known visible F G p h seen (becomes {a = a} {b = b} same) = record {
 data RenamesBoth (p q : Path) (below : Bool) (d : Option Node) (es fs : List (Path × Node)) : Outcome → Outcome → Type 0 where
   refuses_both : (status : Status) → is_successful status ≡ false → RenamesBoth p q below d es fs (refused status) (refused status)
   moves_both : below ≡ false → d ≡ None → is_tree_too_deep p q es ≡ false → is_tree_too_deep p q fs ≡ false → RenamesBoth p q below d es fs
-      (succeeds action.RenameFile (vacating es ++ settled p q es) 0 0 0) (succeeds action.RenameFile (vacating fs ++ settled p q fs) 0 0 0)
+      (succeeds action.RenameFile (vacating es ++ arriving p q es) 0 0 0) (succeeds action.RenameFile (vacating fs ++ arriving p q fs) 0 0 0)
 
 by_depths : (p q : Path) (es fs : List (Path × Node)) (a b : Bool) → is_tree_too_deep p q es ≡ a → is_tree_too_deep p q fs ≡ b → a ≡ b →
     RenamesBoth p q false None es fs
-    (if a then refused (NotAllowed action.RenameFile) else succeeds action.RenameFile (vacating es ++ settled p q es) 0 0 0)
-    (if b then refused (NotAllowed action.RenameFile) else succeeds action.RenameFile (vacating fs ++ settled p q fs) 0 0 0)
+    (if a then refused (NotAllowed action.RenameFile) else succeeds action.RenameFile (vacating es ++ arriving p q es) 0 0 0)
+    (if b then refused (NotAllowed action.RenameFile) else succeeds action.RenameFile (vacating fs ++ arriving p q fs) 0 0 0)
 by_depths p q es fs true true d e same = refuses_both (NotAllowed action.RenameFile) refl
 by_depths p q es fs true false d e same = absurd (true≢false same)
 by_depths p q es fs false true d e same = absurd (true≢false (sym same))
@@ -166,7 +166,7 @@ two_named visible p q h =
     let both = and_parts (sees_path visible p) (list_all (sees_path visible) (q ∷ [])) h in
     ((and_parts (visible p) (is_root (parent p) || visible (parent p)) both.0).0, one_named visible q both.1)
 
-module _ (known visible : Path → Bool) (F G : Filestore) (h : IsSparseStandIn known visible F G) where
+module _ (known visible : Path → Bool) (F G : Filestore) (h : IsSparseSubstitute known visible F G) where
   refuses_sparse : (request : Request) (status : Status) → is_successful status ≡ false → GoesSparse known visible F G request (refused status) (refused status)
   refuses_sparse request status bad = record { answer = refl; done = λ good. not_both (is_successful status) good bad }
 
@@ -265,7 +265,7 @@ pub record InstallsSparse (known visible : Path → Bool) (F G : Filestore) (o r
   pub answer : o.answer ≡ r.answer
   pub both : BothSparse known visible F G (after F o.changes) (after G r.changes)
 
-module _ (known visible : Path → Bool) (F G : Filestore) (h : IsSparseStandIn known visible F G) (p : Path)
+module _ (known visible : Path → Bool) (F G : Filestore) (h : IsSparseSubstitute known visible F G) (p : Path)
     (named : list_all (sees_path visible) (p ∷ []) ≡ true) (x : List ℕ) where
   installs_on : {o r : Outcome} → Installs p x o r → InstallsSparse known visible (alone F x) (alone G x) o r
   installs_on stays = record { answer = refl; both = record { one = restaged known visible F G (x ∷ []) h; blocks = omega arith } }

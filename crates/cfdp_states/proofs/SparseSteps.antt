@@ -41,7 +41,7 @@ pub shows_wide : (paths : List Path) (p x : Path) → shows paths p ≡ true →
 shows_wide paths p x seen long at named =
     let s = shows-parts paths p seen in
     let same : take 8 x ≡ take 8 p = same_long (take 8 x) (take 8 p) (same_front 8 x p at long) (omega (arith, length-take 8 x, length-take 8 p, long)) in
-    shows_from paths s.path x s.stands_in named (subst (λ y. is_at_or_below s.path y ≡ true) (sym same) s.at)
+    shows_from paths s.path x s.exists_in named (subst (λ y. is_at_or_below s.path y ≡ true) (sym same) s.at)
 
 long_named : (x p : Path) → is_at_or_below x p ≡ true → 8 ≤ length p → is_root x ≡ false
 long_named x [] at long = absurd (omega arith)

@@ -17,7 +17,7 @@ use Rattle.cfdp_states.specs.Alone.{alone}
 use Rattle.cfdp_states.specs.Sketching.{extent_in, extent_at, Extents}
 use Rattle.cfdp_states.specs.code.Sketching.{AddsWhere, total_blocks, IsOutline}
 use Rattle.cfdp_states.specs.Views.{most_count, most_need, only}
-use Rattle.cfdp_states.specs.Sparse.{Hides, IsSparseStandIn, IsSparseViewOf, KnowsMoves, Sees, Knows, AreAlike}
+use Rattle.cfdp_states.specs.Sparse.{Hides, IsSparseSubstitute, IsSparseViewOf, KnowsMoves, Sees, Knows, AreAlike}
 use Rattle.cfdp_states.specs.code.Sparse.{HidesIn, IsSparseSurvey, FillsAt, unfilled, filled}
 use Rattle.cfdp_actions.proofs.Order.{paths_total, same_path-true, same_path-refl, same_path-is}
 use Rattle.cfdp_states.proofs.Counting.{blocks-counted}
@@ -34,7 +34,7 @@ or_none false b e = e
 module _ (known visible : Path → Bool) where
   pub nothing_sparse : (F : Filestore) → IsSparseSurvey known visible empty (λ p. false) F
   nothing_sparse F = record {
-    told = λ p seen. get-empty path_cmp p;
+    stated = λ p seen. get-empty path_cmp p;
     kept = λ p. inl (get-empty path_cmp p);
     deep = λ p n seen d k. absurd (true≢false (sym d));
     none = λ p seen d h. true≢false (sym h.there ∙ ap is_some (get-empty path_cmp h.path));
@@ -43,7 +43,7 @@ module _ (known visible : Path → Bool) where
   pub as_sparse : (m : Extents) (done later : Path → Bool) (F : Filestore) → IsSparseSurvey known visible m done F →
       ((p : Path) → visible p ≡ true → later (take 8 p) ≡ done (take 8 p)) → IsSparseSurvey known visible m later F
   as_sparse m done later F s same = record {
-    told = λ p seen. s.told p seen ∙ ap (λ b. if b then extent_at F p else None) (sym (same p seen));
+    stated = λ p seen. s.stated p seen ∙ ap (λ b. if b then extent_at F p else None) (sym (same p seen));
     kept = s.kept;
     deep = λ p n seen d k. s.deep p n seen (sym (same p seen) ∙ d) k;
     none = λ p seen d h. s.none p seen (sym (same p seen) ∙ d) h;
@@ -82,13 +82,13 @@ module _ (known visible : Path → Bool) where
     no_matter false true v is = sym is
     no_matter false false v is = refl
 
-    put_told : (p : Path) → visible p ≡ true → get m1 p ≡ (if done (take 8 p) || same_path (take 8 p) u then extent_at F p else None)
-    put_told p seen =
+    put_stated : (p : Path) → visible p ≡ true → get m1 p ≡ (if done (take 8 p) || same_path (take 8 p) u then extent_at F p else None)
+    put_stated p seen =
         let v = extent_at F p in
         elim (cases_Bool (same_path p u)) [
-          | inl e ↦ adds p ∙ ap (λ b. if b && is_some v then v else get m p) e ∙ pick (done (take 8 p)) v (get m p) (s.told p seen)
+          | inl e ↦ adds p ∙ ap (λ b. if b && is_some v then v else get m p) e ∙ pick (done (take 8 p)) v (get m p) (s.stated p seen)
               ∙ sym (ap (λ b. if b then v else None) (or_right (done (take 8 p)) (same_path (take 8 p) u) (itself_front p e)))
-          | inr f ↦ adds p ∙ ap (λ b. if b && is_some v then v else get m p) f ∙ s.told p seen ∙ elim (cases_Bool (same_path (take 8 p) u)) [
+          | inr f ↦ adds p ∙ ap (λ b. if b && is_some v then v else get m p) f ∙ s.stated p seen ∙ elim (cases_Bool (same_path (take 8 p) u)) [
             | inl e ↦ let d = deep_front p e f in
                 no_matter (done (take 8 p)) (done (take 8 p) || same_path (take 8 p) u) v (ap extent_in (bottom d.1 p d.2))
             | inr g ↦ sym (ap (λ b. if b then v else None) (or_none (done (take 8 p)) (same_path (take 8 p) u) g))
@@ -259,7 +259,7 @@ module _ (known visible : Path → Bool) where
 
     pub stepped : {m2 : Extents} → FillsAt visible known F u m1 m2 → IsSparseSurvey known visible m2 (λ p. done p || same_path p u) F
     stepped fills = record {
-      told = λ p seen. visible_same fills p seen ∙ put_told p seen;
+      stated = λ p seen. visible_same fills p seen ∙ put_stated p seen;
       kept = λ p. fill_kept fills p;
       deep = λ p n seen d k. step_deep fills p n seen d k;
       none = λ p seen d r. step_none fills p seen d r;
@@ -296,18 +296,18 @@ module _ (known visible : Path → Bool) (fp : Footprint) (F : Filestore) (prefi
       same p v (inr (inl e)) = subst (λ v. extent_in (node_in v) ≡ v) (sym e) refl
       same p v (inr (inr e)) = subst (λ v. extent_in (node_in v) ≡ v) (sym e) (fits (node_at (alone (only fp F) []) p))
 
-  told_all : (p : Path) → visible p ≡ true → get m p ≡ extent_at (alone (only fp F) []) p
-  told_all p seen = s.told p seen ∙ ap (λ b. if b then extent_at (alone (only fp F) []) p else None) (all p seen)
+  stated_all : (p : Path) → visible p ≡ true → get m p ≡ extent_at (alone (only fp F) []) p
+  stated_all p seen = s.stated p seen ∙ ap (λ b. if b then extent_at (alone (only fp F) []) p else None) (all p seen)
 
   there_in : (p : Path) → is_some (node_at (filestore_of m) p) ≡ is_some (get m p)
   there_in p = ap is_some (node_at-filestore_of m p) ∙ in_there (get m p)
 
-  sparse_stands_in : IsSparseStandIn known visible (alone (only fp F) []) (filestore_of m)
+  sparse_substitutes : IsSparseSubstitute known visible (alone (only fp F) []) (filestore_of m)
   unfolding filestore_of
-  sparse_stands_in = record {
+  sparse_substitutes = record {
     staged = refl;
     alike = λ p seen. subst (λ (v : Option Node). AreAlike (node_at (alone (only fp F) []) p) v)
-        (sym (node_at-filestore_of m p ∙ ap node_in (told_all p seen)))
+        (sym (node_at-filestore_of m p ∙ ap node_in (stated_all p seen)))
         (like_node (node_at (alone (only fp F) []) p) (node-small (alone (only fp F) []) p (only-small fp F few)));
     deep = λ p n seen k. (
       (λ r. let q = (s.deep p n seen (all p seen) k).0 r in
@@ -336,7 +336,7 @@ module _ (known visible : Path → Bool) (fp : Footprint) (F : Filestore) (prefi
           need = none_yet (blocks G) most_need;
           steps = none_yet 0 most_count;
         };
-        one = sparse_stands_in;
+        one = sparse_substitutes;
         sees = sees;
         moves = moves;
         gap = omega arith;

@@ -50,14 +50,14 @@ module _ (v w : Sketch) (request : Request) (status : Status) where
       Tells v w (Perform request) (Performed status) → TellsSparse v w request status
   tells_sparse bare tells items F start peak taken c =
       let G = c.seen in
-      let told = tells G c.first c.most taken c.tells in
+      let stated = tells G c.first c.most taken c.tells in
       let on = request_sparse c.known c.visible F G c.one v.prefixes request c.moves.0 c.sees.0 (bare G c.first c.most taken c.tells) in
       let bound = bound_sparse c.known c.visible F G c.one request c.sees.0 in
       let H = performed v.prefixes F 0 (Perform request) in
       let K = performed v.prefixes G 0 (Perform request) in (
-        told.0 ∙ sym on.answer,
+        stated.0 ∙ sym on.answer,
         λ good.
-            let both = on.done (ap succeeded (sym told.0) ∙ good) in
+            let both = on.done (ap succeeded (sym stated.0) ∙ good) in
             let gap = later_gap (blocks F) (blocks G) (blocks H) (blocks K) c.first start c.gap both.blocks in
             record {
               known = λ x. passes_after request c.known x;
@@ -65,7 +65,7 @@ module _ (v w : Sketch) (request : Request) (status : Status) where
               seen = K;
               first = c.first;
               most = max c.most (blocks K);
-              tells = subst (λ n. IsViewOf w K c.first (max c.most (blocks K)) (taken + (1 + n))) (sym bound) told.1;
+              tells = subst (λ n. IsViewOf w K c.first (max c.most (blocks K)) (taken + (1 + n))) (sym bound) stated.1;
               one = both.one;
               sees = c.sees.1;
               moves = c.moves.1;
@@ -78,7 +78,7 @@ module _ (v w : Sketch) (p : Path) (size : ℕ) (done : Bool) where
   pub tells_sparse_install : TellsInstall v w p size done → TellsSparseInstall v w p size done
   tells_sparse_install tells items F start peak taken x c long =
       let G = c.seen in
-      let told = tells G c.first c.most taken x c.tells long in
+      let stated = tells G c.first c.most taken x c.tells long in
       let on = install_sparse c.known c.visible F G c.one p c.sees.0 x v.prefixes in
       let bound = install_bound_sparse c.known c.visible F G c.one p c.sees.0 x in
       let H = performed v.prefixes (alone F x) 0 (Install p) in
@@ -87,14 +87,14 @@ module _ (v w : Sketch) (p : Path) (size : ℕ) (done : Bool) where
       let staged_F : blocks (alone F x) ≡ blocks F + blocks_of (length x) = staged_more F x (sym c.one.staged ∙ c.tells.staged) in
       let with_file : blocks (alone F x) + c.first ≡ blocks (alone G x) + start = let e = c.gap in omega (arith, e, staged_F, staged_G) in
       let gap = later_gap (blocks (alone F x)) (blocks (alone G x)) (blocks H) (blocks K) c.first start with_file on.both.blocks in (
-        told.0 ∙ sym on.answer,
+        stated.0 ∙ sym on.answer,
         λ yes. record {
           known = c.known;
           visible = c.visible;
           seen = K;
           first = c.first;
           most = max c.most (max (blocks (alone G x)) (blocks K));
-          tells = subst (λ n. IsViewOf w K c.first (max c.most (max (blocks (alone G x)) (blocks K))) (taken + (1 + n))) (sym bound) (told.1 yes);
+          tells = subst (λ n. IsViewOf w K c.first (max c.most (max (blocks (alone G x)) (blocks K))) (taken + (1 + n))) (sym bound) (stated.1 yes);
           one = on.both.one;
           sees = c.sees.1;
           moves = c.moves;

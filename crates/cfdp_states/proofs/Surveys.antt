@@ -172,21 +172,21 @@ adds_rest roots paths i k F l m n all one two =
     assoc false b c = refl
 
 -- the code's slices
-pub behind : (paths : List Path) (k : ℕ) → between k (length paths) paths ≡ drop k paths
-behind paths k = between_to_end paths k (length paths) (omega arith)
+pub following : (paths : List Path) (k : ℕ) → between k (length paths) paths ≡ drop k paths
+following paths k = between_to_end paths k (length paths) (omega arith)
 
 pub adds_before : (paths : List Path) (k more : ℕ) (F : Filestore) (m n : Extents) → AddsWhere (one_of (take more (between k (length paths) paths))) F m n →
     AddsWhere (one_of (take more (drop k paths))) F m n
 adds_before paths k more F m n two = adds_as (one_of (take more (between k (length paths) paths))) (one_of (take more (drop k paths))) F m n two
-    (λ p. ap (λ ps. one_of (take more ps) p) (sym (behind paths k)))
+    (λ p. ap (λ ps. one_of (take more ps) p) (sym (following paths k)))
 
-pub adds_behind : (paths : List Path) (k : ℕ) (F : Filestore) (m n : Extents) → AddsWhere (one_of (between k (length paths) paths)) F m n →
+pub adds_rest_of_paths : (paths : List Path) (k : ℕ) (F : Filestore) (m n : Extents) → AddsWhere (one_of (between k (length paths) paths)) F m n →
     AddsWhere (one_of (drop k paths)) F m n
-adds_behind paths k F m n two = adds_as (one_of (between k (length paths) paths)) (one_of (drop k paths)) F m n two
-    (λ p. ap (λ ps. one_of ps p) (sym (behind paths k)))
+adds_rest_of_paths paths k F m n two = adds_as (one_of (between k (length paths) paths)) (one_of (drop k paths)) F m n two
+    (λ p. ap (λ ps. one_of ps p) (sym (following paths k)))
 
 pub next_within : (paths : List Path) (k more : ℕ) → k ≤ length paths → more ≤ length (between k (length paths) paths) → k + more ≤ length paths
-next_within paths k more within bound = omega (arith, within, bound, ap length (behind paths k), length-drop k paths)
+next_within paths k more within bound = omega (arith, within, bound, ap length (following paths k), length-drop k paths)
 
 -- of no map, what was put in is all
 pub surveyed : (test : Path → Bool) (F : Filestore) (m : Extents) → AddsWhere test F empty m → IsSurvey m test F

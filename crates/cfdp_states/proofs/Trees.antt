@@ -7,10 +7,10 @@ use Rattle.std.specs.FinMap.{entries, get, insert, get-insert}
 use Rattle.std.specs.FinMap.Entries.{is_sorted, find, where_key}
 use Rattle.cfdp_paths.specs.Paths.{Path, path_cmp, same_path, is_at_or_below}
 use Rattle.cfdp_actions.specs.Filestore.{Node, Directory, File, Filestore, node_at, blocks_of, weight, weights, blocks, tree_at}
-use Rattle.cfdp_actions.specs.Store.{standing_of, standings_of}
+use Rattle.cfdp_actions.specs.Store.{existing_node, existing_nodes_at}
 use Rattle.cfdp_states.specs.declared.extent.Extent.TheVariants as extent
 use Rattle.cfdp_states.specs.Sketching.{most_octets, extent_of, extent_in, Extents}
-use Rattle.cfdp_states.specs.code.Sketching.{extent_standing, added, AddsWhere}
+use Rattle.cfdp_states.specs.code.Sketching.{extent_of_existing, added, AddsWhere}
 use Rattle.cfdp_actions.proofs.Order.{paths_total}
 use Rattle.cfdp_actions.proofs.Weights.{entries-retain_keys, sorted_rest, find_later}
 use Rattle.cfdp_actions.proofs.Moves.{tree_at-sorted, find-tree_at}
@@ -20,26 +20,26 @@ pub short : (n : ℕ) → 1 + blocks_of n ≤ 65536 → n ≡ min n most_octets
 unfolding blocks_of
 short n le = omega arith
 
-standing-is : (e : Path × Node) → weight (Some e.1) ≤ 65536 → extent_standing (standing_of e) ≡ extent_of e.1
-standing-is e le = by_node e.1 le
+existing-is : (e : Path × Node) → weight (Some e.1) ≤ 65536 → extent_of_existing (existing_node e) ≡ extent_of e.1
+existing-is e le = by_node e.1 le
   where
-    by_node : (node : Node) → weight (Some node) ≤ 65536 → extent_standing (standing_of (e.0, node)) ≡ extent_of node
+    by_node : (node : Node) → weight (Some node) ≤ 65536 → extent_of_existing (existing_node (e.0, node)) ≡ extent_of node
     by_node Directory le = refl
     by_node (File octets) le = ap (λ n. extent.File n) (short (length octets) le)
 
 -- with what is there, one after another, as the entries have it
 get-added : (es : List (Path × Node)) → weights es ≤ 65536 → T (is_sorted path_cmp es) → (m : Extents) (x : Path) →
-    get (added (map standing_of es) m) x ≡ cond (is_some (find path_cmp x es)) (extent_in (find path_cmp x es)) (get m x)
+    get (added (map existing_node es) m) x ≡ cond (is_some (find path_cmp x es)) (extent_in (find path_cmp x es)) (get m x)
 get-added [] le s m x = refl
 get-added (e ∷ es) le s m x =
     let first : weight (Some e.1) ≤ 65536 = omega (arith, le) in
-    let v = extent_standing (standing_of e) in
+    let v = extent_of_existing (existing_node e) in
     get-added es (omega (arith, le)) (sorted_rest e es s) (insert m e.0 v) x
     ∙ ap (λ c. cond (is_some (find path_cmp x es)) (extent_in (find path_cmp x es)) c) (get-insert paths_total m e.0 v x)
     ∙ elim (same_path x e.0) as (λ b. same_path x e.0 ≡ b →
     cond (is_some (find path_cmp x es)) (extent_in (find path_cmp x es)) (cond b (Some v) (get m x))
     ≡ cond (is_some (cond b (Some e.1) (find path_cmp x es))) (extent_in (cond b (Some e.1) (find path_cmp x es))) (get m x)) [
-      | true ↦ λ t. ap (λ c. cond (is_some c) (extent_in c) (Some v)) (find_later e es s x t) ∙ ap Some (standing-is e first)
+      | true ↦ λ t. ap (λ c. cond (is_some c) (extent_in c) (Some v)) (find_later e es s x t) ∙ ap Some (existing-is e first)
       | false ↦ λ t. refl
     ] refl
 
@@ -66,7 +66,8 @@ tree-small F root le =
     let all = weights-small F le in
     omega (arith, kept, fewer, all)
 
-pub tree_added : (F : Filestore) (root : Path) (m : Extents) → blocks F ≤ 65536 → AddsWhere (λ x. is_at_or_below x root) F m (added (standings_of F root) m)
+pub tree_added : (F : Filestore) (root : Path) (m : Extents) → blocks F ≤ 65536
+    → AddsWhere (λ x. is_at_or_below x root) F m (added (existing_nodes_at F root) m)
 tree_added F root m le x =
     get-added (tree_at F root) (tree-small F root le) (tree_at-sorted F root) m x
     ∙ ap (λ a. cond (is_some a) (extent_in a) (get m x)) (find-tree_at F root x)

@@ -25,17 +25,17 @@ pub needs : (need base blocks now peak start : ℕ) → need ≡ min (peak - sta
     max need (min (blocks - base) most_need) ≡ min (max peak now - start) most_need
 needs need base blocks now peak start one two three four = omega arith
 
-pub takes : (steps bound told taken : ℕ) → steps ≡ min taken most_count → min bound enough ≡ min told enough → min (steps + (1 + bound)) most_count
-    ≡ min (taken + (1 + told)) most_count
-takes steps bound told taken one two = omega arith
+pub takes : (steps bound stated taken : ℕ) → steps ≡ min taken most_count → min bound enough ≡ min stated enough → min (steps + (1 + bound)) most_count
+    ≡ min (taken + (1 + stated)) most_count
+takes steps bound stated taken one two = omega arith
 
-pub tells_next : (v : Sketch) (prefixes : List Path) (m m' : Extents) (base need steps need' steps' : ℕ) (request : Request) (told : Status)
+pub tells_next : (v : Sketch) (prefixes : List Path) (m m' : Extents) (base need steps need' steps' : ℕ) (request : Request) (stated : Status)
     (bound weight : ℕ) →
-    sketch prefixes m base need steps ≡ v → Performs prefixes m m' request told → bound ≡ bound_on m (Perform request) → weight ≡ total_blocks m' →
+    sketch prefixes m base need steps ≡ v → Performs prefixes m m' request stated → bound ≡ bound_on m (Perform request) → weight ≡ total_blocks m' →
     need' ≡ max need (min (weight - base) most_need) → steps' ≡ min (steps + (1 + bound)) most_count →
-    Tells v (sketch prefixes m' base need' steps') (Perform request) (Performed told)
-tells_next v prefixes m m' base need steps need' steps' request told bound weight is performs bound_is weight_is need_is steps_is =
-    subst (λ (v : Sketch). Tells v (sketch prefixes m' base need' steps') (Perform request) (Performed told)) is (λ F start peak taken h.
+    Tells v (sketch prefixes m' base need' steps') (Perform request) (Performed stated)
+tells_next v prefixes m m' base need steps need' steps' request stated bound weight is performs bound_is weight_is need_is steps_is =
+    subst (λ (v : Sketch). Tells v (sketch prefixes m' base need' steps') (Perform request) (Performed stated)) is (λ F start peak taken h.
     let here = outlined prefixes m base need steps F start peak taken h in
     let G = performed prefixes F 0 (Perform request) in
     let there = performs.outlines F here in

@@ -13,7 +13,7 @@
 --     Knows known n                   what is known of the paths of n names or more that are hidden: whether there is
 --                                     one; or only whether there is any path
 --     AreAlike a b                    what is at two paths: of one kind, and files of one length
---     IsSparseStandIn known visible F G      F and G are alike at the visible paths, and hide something below the same
+--     IsSparseSubstitute known visible F G   F and G are alike at the visible paths, and hide something below the same
 --                                     ones: as deep in both where that is known
 --     IsSparseViewOf v items F start peak taken      the view describes F, as far as the items see it
 --     TellsSparse, TellsSparseInstall how such a view goes on with the next item
@@ -96,7 +96,7 @@ AreAlike (Some Directory) (Some (File octets)) = ⊥
 AreAlike (Some (File octets)) (Some Directory) = ⊥
 AreAlike (Some (File octets)) (Some (File others)) = length octets ≡ length others
 
-pub record IsSparseStandIn (known visible : Path → Bool) (F G : Filestore) : Type 0 where
+pub record IsSparseSubstitute (known visible : Path → Bool) (F G : Filestore) : Type 0 where
   pub staged : G.staged ≡ F.staged
   pub alike : (p : Path) → IsTrue (visible p) → AreAlike (node_at F p) (node_at G p)
   pub deep : (p : Path) (n : ℕ) → IsTrue (visible p) → Knows (known p) n → Hides visible F p n ↔ Hides visible G p n
@@ -110,7 +110,7 @@ pub record IsSparseViewOf (v : Sketch) (items : List Item) (F : Filestore) (star
   pub first : ℕ
   pub most : ℕ
   pub tells : IsViewOf v seen first most taken
-  pub one : IsSparseStandIn known visible F seen
+  pub one : IsSparseSubstitute known visible F seen
   pub sees : Sees visible items
   pub moves : KnowsMoves known items
   pub gap : blocks F + first ≡ blocks seen + start

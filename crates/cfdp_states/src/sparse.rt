@@ -40,14 +40,20 @@ impl<'a> SparseView<'a> {
     ///
     /// [`Memory`] when out of memory.
     ///
-    /// Cost: each named path is compared with each rename before its item, and copied at each that moves it. These
-    /// paths and those of the footprint are put into path order, each once. Then for each of them and each of their
-    /// ancestors, once: a `kind`, a `has_entries`, a `size` where that is a file, a look at the footprint as by
-    /// [`covers`](cfdp_leases::covers), and an insertion at the end of what the view has, or near it. For a directory
-    /// with entries that is leased exclusively also some searches among these paths, a look at each that is below it,
-    /// a copy of each child that leads to one, a `has_beside` with these children, and a comparison with each rename;
-    /// where one of the renames moves it a `deepest_beside`, too. So but for `covers` and the comparisons with renames
-    /// it grows with the number of these paths times its logarithm.
+    /// Cost:
+    ///
+    /// - each named path: a comparison with each path that was named before it and with each rename before its item,
+    ///   and a copy at each rename that moves it;
+    /// - these paths and those of the footprint: they are put into path order, each once;
+    /// - each of them and each of their ancestors, once: a `kind`, a `has_entries`, a `size` if that is a file, a look
+    ///   at the footprint as by [`covers`](cfdp_leases::covers), and an insertion at or near the end of what the view
+    ///   has;
+    /// - each directory with entries that is leased exclusively: some searches among these paths, a look at each that
+    ///   is below it, a copy of each child that leads to one, a `has_beside` with these children, a comparison with
+    ///   each rename, and a `deepest_beside` if one of the renames moves it.
+    ///
+    /// Without `covers`, the comparisons with renames and those of named paths it grows with the number of these paths
+    /// times its logarithm.
     pub fn of<S: Filestore>(
         alloc: Global,
         store: &S,
@@ -56,7 +62,7 @@ impl<'a> SparseView<'a> {
         destination: Option<&Path>,
         requests: &[Request],
     ) -> Result<Option<SparseView<'a>>, Memory>
-        ensures told { IfOk result (λ made. IfSome made (λ it.
+        ensures stated { IfOk result (λ made. IfSome made (λ it.
             let F = alone (only footprint.now (S.state store.now).filestore) [] in
             IsSparseViewOf it.view (items_of (option_copied destination.entry) requests.now) F
             (blocks F) (blocks F) 0)) }
@@ -81,9 +87,9 @@ impl<'a> SparseView<'a> {
     ///
     /// [`Memory`] when out of memory; the view is then as before. Cost: that of [`View::apply`] on what the view has.
     pub fn apply(&mut self, request: &Request) -> Result<Option<Status>, Memory>
-        ensures told { IfOk result (λ told. IfSome told (λ status.
+        ensures stated { IfOk result (λ stated. IfSome stated (λ status.
             TellsSparse self.old.view self.new.view request.now status)) }
-        ensures joins { IfOk result (λ told. is_none told ≡ joins_at self.old.view.extents request.now) }
+        ensures joins { IfOk result (λ stated. is_none stated ≡ joins_at self.old.view.extents request.now) }
         ensures same { result ≡ Ok None → self.new ≡ self.old }
         ensures prefixes { OnOk result (self.new.view.prefixes ≡ self.old.view.prefixes) }
     {
@@ -101,7 +107,7 @@ impl<'a> SparseView<'a> {
     ///
     /// [`Memory`] when out of memory; the view is then as before.
     pub fn install(&mut self, path: &Path, bound: u64) -> Result<bool, Memory>
-        ensures told { IfOk result (λ done. TellsSparseInstall self.old.view self.new.view path.now bound done) }
+        ensures stated { IfOk result (λ done. TellsSparseInstall self.old.view self.new.view path.now bound done) }
         ensures prefixes { OnOk result (self.new.view.prefixes ≡ self.old.view.prefixes) }
     {
         self.view.install(path, bound)

@@ -22,9 +22,12 @@ use std::alloc::{AllocError, Global};
 /// one made-up directory takes the role of all entries that lead to none of the paths. If the requests move the leased
 /// directory, the made-up one is as deep as the deepest of what it represents. `None` if no such directory can be made.
 ///
-/// Cost: for each path at or above one of the paths, once and in path order, a `kind`, a `has_entries`, and a `size`
-/// where that is a file; for each that is leased exclusively and has entries some searches among the paths, a look at
-/// those below it, a `has_beside`, and where a request moves it a `deepest_beside`.
+/// Cost:
+///
+/// - each path at or above one of the paths, once and in path order: a `kind`, a `has_entries`, and a `size` if that is
+///   a file;
+/// - each of them that is leased exclusively and has entries: some searches among the paths, a look at those below it,
+///   a `has_beside`, and a `deepest_beside` if a request moves it.
 pub fn survey_sparse<S: Filestore>(
     alloc: Global,
     store: &S,

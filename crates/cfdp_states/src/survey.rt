@@ -6,11 +6,11 @@ ghost use Rattle.cfdp_paths.specs.Paths.{Path, same_path, is_at_or_below};
 ghost use Rattle.cfdp_actions.specs.Filestore.{blocks};
 ghost use Rattle.cfdp_leases.specs.Footprint.{is_covered};
 ghost use Rattle.cfdp_states.specs.Sketching.{extent_at};
-ghost use Rattle.cfdp_states.specs.code.Sketching.{AddsWhere, IsSurvey, added, extent_standing};
+ghost use Rattle.cfdp_states.specs.code.Sketching.{AddsWhere, IsSurvey, added, extent_of_existing};
 
 use crate::extent::Extent;
 use crate::extents::Extents;
-use cfdp_actions::{Filestore, Kind, Standing};
+use cfdp_actions::{ExistingNode, Filestore, Kind};
 use cfdp_leases::Footprint;
 use cfdp_paths::{Memory, Path};
 use std::alloc::Global;
@@ -69,18 +69,18 @@ fn add_tree<S: Filestore>(
     ensures { OnOk result (AddsWhere (λ path. is_at_or_below path root.now)
         (S.state store.now).filestore extents.old extents.new) }
 {
-    let found = store.standing(alloc, root)?;
+    let found = store.existing(alloc, root)?;
     add_all(extents, found)?;
     Ok(())
 }
 
 /// Adds all that was found.
-fn add_all(extents: &mut Extents, found: Vec<Standing>) -> Result<(), Memory>
+fn add_all(extents: &mut Extents, found: Vec<ExistingNode>) -> Result<(), Memory>
     ensures { OnOk result (extents.new ≡ added found.items extents.old) }
 {
-    for standing in found {
-        let extent = extent_standing(&standing);
-        let Standing { path, .. } = standing;
+    for existing in found {
+        let extent = extent_of_existing(&existing);
+        let ExistingNode { path, .. } = existing;
         extents.insert(path, extent)?;
     }
     Ok(())
@@ -123,11 +123,11 @@ fn extent_at<S: Filestore>(store: &S, path: &Path) -> Option<Extent>
 }
 
 /// What the store says that is there.
-fn extent_standing(standing: &Standing) -> Extent
-    ensures { result ≡ extent_standing standing.now }
+fn extent_of_existing(existing: &ExistingNode) -> Extent
+    ensures { result ≡ extent_of_existing existing.now }
 {
-    match standing.kind {
+    match existing.kind {
         Kind::Directory => Extent::Directory,
-        Kind::File => Extent::File(standing.size),
+        Kind::File => Extent::File(existing.size),
     }
 }

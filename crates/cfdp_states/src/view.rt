@@ -63,7 +63,7 @@ impl<'a> View<'a> {
     ///
     /// Out of memory.
     ///
-    /// Cost: one `standing` for each exclusive path that is not at or below an earlier one, and for each shared path a
+    /// Cost: one `existing` for each exclusive path that is not at or below an earlier one, and for each shared path a
     /// `kind`, and a `size` where that is a file; no listing, no octets and no checksum. What the footprint does not
     /// cover is not asked for. Each thing found is put in by a search; as all come in path order, nothing is shifted.
     pub fn of<S: Filestore>(
@@ -72,7 +72,7 @@ impl<'a> View<'a> {
         protected: &'a Protected,
         footprint: &Footprint,
     ) -> Result<View<'a>, Memory>
-        ensures told { IfOk result (λ view. let F = alone (only footprint.now (S.state store.now).filestore) [] in
+        ensures stated { IfOk result (λ view. let F = alone (only footprint.now (S.state store.now).filestore) [] in
             IsViewOf view F (blocks F) (blocks F) 0) }
         ensures prefixes { IfOk result (λ view. view.prefixes ≡ protected.now) }
     {
@@ -126,7 +126,7 @@ impl<'a> View<'a> {
     /// [`PathMap::relocate`](cfdp_paths::PathMap::relocate) says. What comes after in path order is shifted, in one
     /// piece.
     pub fn apply(&mut self, request: &Request) -> Result<Status, Memory>
-        ensures told { IfOk result (λ status. Tells self.old self.new (Perform request.now) (Performed status)) }
+        ensures stated { IfOk result (λ status. Tells self.old self.new (Perform request.now) (Performed status)) }
         ensures prefixes { OnOk result (self.new.prefixes ≡ self.old.prefixes) }
         ensures err { OnErr result (self.new ≡ self.old) }
         ensures thrifty { OnErr result (Makes self.old request.now) }
@@ -147,7 +147,7 @@ impl<'a> View<'a> {
     ///
     /// Out of memory; the view is then as before. Cost: a few searches among what the view has.
     pub fn install(&mut self, path: &Path, bound: u64) -> Result<bool, Memory>
-        ensures told { IfOk result (λ done. TellsInstall self.old self.new path.now bound done) }
+        ensures stated { IfOk result (λ done. TellsInstall self.old self.new path.now bound done) }
         ensures prefixes { OnOk result (self.new.prefixes ≡ self.old.prefixes) }
         ensures refused { result ≡ Ok false → self.new ≡ self.old }
         ensures err { OnErr result (self.new ≡ self.old) }

@@ -66,7 +66,7 @@ IsNarrow (reply.Admitted blocks steps) = (blocks < 2 ^ 32) × (steps < 2 ^ 32)
 IsNarrow (reply.Refused why) = IsNarrowRefusal why
 IsNarrow (reply.Faulted condition) = condition < 256
 IsNarrow (reply.Taken outcome) = ⊥
-IsNarrow told = ⊤
+IsNarrow stated = ⊤
 
 place_len : (at : Place) → IsNarrowPlace at → length (place_text at) ≤ 50
 place_len place.Destination narrow = omega arith
@@ -114,7 +114,7 @@ grant_len blocks steps b s =
     )
 
 -- with the name of a transaction in conflict
-reply_len : (told : Reply) → IsNarrow told → length (reply_text told) ≤ 58
+reply_len : (stated : Reply) → IsNarrow stated → length (reply_text stated) ≤ 58
 reply_len (reply.Admitted blocks steps) narrow = grant_len blocks steps narrow.0 narrow.1
 reply_len (reply.Refused why) narrow = omega (arith, length-append (codes "refused ") (refusal_text why), refusal_len why narrow)
 reply_len (reply.Faulted condition) narrow = omega (arith, labelled_len (codes "faulted ") condition, octet_len condition narrow)
@@ -143,8 +143,8 @@ line_len id text source number = omega (
   name_len id source number,
 )
 
-pub reply_line_len : (id : TransactionId) (told : Reply) → id.source < 2 ^ 64 → id.number < 2 ^ 64 → IsNarrow told → length (reply_line id told) ≤ 101
-reply_line_len id told source number narrow = omega (arith, line_len id (reply_text told) source number, reply_len told narrow)
+pub reply_line_len : (id : TransactionId) (stated : Reply) → id.source < 2 ^ 64 → id.number < 2 ^ 64 → IsNarrow stated → length (reply_line id stated) ≤ 101
+reply_line_len id stated source number narrow = omega (arith, line_len id (reply_text stated) source number, reply_len stated narrow)
 
 taken_len : (octets : List ℕ) (condition : ℕ) → condition < 2 ^ 32 → length (taken_text octets condition) ≤ max 16 (9 + 2 * length octets)
 taken_len [] condition narrow = omega (arith, labelled_len (codes "ended ") condition, number_len condition narrow)

@@ -15,11 +15,11 @@
 --   grant_text       what was granted to a transaction
 --   reply_text       what is written of a reply
 --   reply_line       the line of a reply: whose transaction it is about, and the text
---   told_lines       the lines of some events' replies
+--   reply_lines      the lines of some events' replies
 --   fault_line       the line of octets that are no PDU
 --   not_ours         the line of a PDU that is not for the receiver
 --   is_plain         an octet of a path that is written as it is: no space, no control character, no `%`
---   shown_octet, shown_path    an octet and a path, with `%` and two digits for the others
+--   shown_octet, shown, shown_path   an octet, octets and a path, with `%` and two digits for the others
 --   checksum_text    the checksum of a file in eight digits
 --   entry_line       the line of what is at a path
 --   blocks_line      the blocks in use, those that are free, and those of them that nobody was granted
@@ -122,9 +122,9 @@ reply_text replied.JournalFull = codes "journal-full"
 abbrev pub reply_line : TransactionId → Reply → List ℕ
 reply_line id reply = line (transaction_name id ++ word (reply_text reply))
 
-abbrev pub told_lines : List Event → List Reply → List ℕ
-told_lines (event ∷ events) (reply ∷ replies) = reply_line (about event) reply ++ told_lines events replies
-told_lines events replies = []
+abbrev pub reply_lines : List Event → List Reply → List ℕ
+reply_lines (event ∷ events) (reply ∷ replies) = reply_line (about event) reply ++ reply_lines events replies
+reply_lines events replies = []
 
 -- the last has a text so that each fault has one
 abbrev pub fault_line : PduFault → List ℕ
@@ -145,6 +145,9 @@ is_plain octet = nat_le 33 octet && nat_le octet 126 && not (octet == 37)
 
 abbrev pub shown_octet : ℕ → List ℕ
 shown_octet octet = if is_plain octet then octet ∷ [] else 37 ∷ two_digits octet
+
+unfoldable pub shown : List ℕ → List ℕ
+shown octets = flat_map shown_octet octets
 
 abbrev pub shown_path : Path → List ℕ
 shown_path path = flat_map shown_octet (joined path)

@@ -6,9 +6,11 @@
 mod encoding;
 mod listing;
 mod replies;
+mod shown;
 
 pub use encoding::encode;
 pub use listing::write_listing;
 pub use replies::{
     fault_line, not_ours_line, push_labelled, push_number, write_reply, write_taken,
 };
+pub use shown::{is_plain, push_path, push_shown};

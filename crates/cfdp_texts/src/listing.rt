@@ -1,44 +1,14 @@
 //! The lines that `replay` writes of all that is in the filestore.
 ghost use Rattle.std.specs.Prelude.{◌≡◌, ◌++◌, OnOk};
 ghost use Rattle.cfdp_actions.specs.Filestore.{blocks};
-ghost use Rattle.cfdp_texts.specs.Replies.{blocks_line, entry_line, is_plain, listing_text, shown_octet, shown_path};
+ghost use Rattle.cfdp_texts.specs.Replies.{blocks_line, entry_line, listing_text};
 
 use crate::encoding::encode;
 use crate::replies::push_labelled;
+use crate::shown::push_path;
 use cfdp_actions::{Entry, Filestore, Kind};
-use cfdp_paths::Path;
 use cfdp_transactions::Core;
 use std::alloc::{AllocError, Global};
-
-/// Whether an octet of a path is written as it is.
-fn is_plain(octet: u8) -> bool
-    ensures { result ≡ is_plain octet }
-{
-    octet.is_ascii_graphic() && octet != b'%'
-}
-
-/// Appends an octet of a path: as it is, or `%` and two digits.
-#[tactic(auto, unfolding(crate::specs::Replies::two_digits))]
-fn push_octet(octet: u8, text: &mut Vec<u8>) -> Result<(), AllocError>
-    ensures { OnOk result (text.new.items ≡ text.old.items ++ shown_octet octet) }
-{
-    if is_plain(octet) {
-        return Ok(text.push(octet)?);
-    }
-    text.push(b'%')?;
-    encode(&[octet], text)
-}
-
-/// Appends a path.
-fn push_path(alloc: Global, path: &Path, text: &mut Vec<u8>) -> Result<(), AllocError>
-    ensures { OnOk result (text.new.items ≡ text.old.items ++ shown_path path.now) }
-{
-    let octets = path.text(alloc)?;
-    for octet in &octets {
-        push_octet(*octet, text)?;
-    }
-    Ok(())
-}
 
 /// Appends the line of what is at a path.
 fn push_entry(alloc: Global, entry: &Entry, text: &mut Vec<u8>) -> Result<(), AllocError>

@@ -34,7 +34,7 @@ impl fmt::Display for TlvFault {
         f.write_str(match self {
             TlvFault::Truncated => "the field is cut",
             TlvFault::BadAction => "no action has this code",
-            TlvFault::Trailing => "octets stand after the value",
+            TlvFault::Trailing => "octets come after the value",
             TlvFault::TooLong => "the value is longer than 255 octets",
             TlvFault::BadStatus => "no status has this octet",
             TlvFault::Memory => "out of memory",

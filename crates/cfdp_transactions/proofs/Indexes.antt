@@ -127,12 +127,12 @@ pub get_same : {X : Type 0} (t : List X) (j k : ℕ) (x y : X) → slice_get t j
 get_same t j k x y h g e = cc
 
 -- where the element that is at j is after one is taken out at k
-abbrev pub behind : ℕ → ℕ → ℕ
-behind k zero = zero
-behind zero (suc j) = j
-behind (suc k) (suc j) = suc (behind k j)
+abbrev pub following : ℕ → ℕ → ℕ
+following k zero = zero
+following zero (suc j) = j
+following (suc k) (suc j) = suc (following k j)
 
-pub remove_others : {X : Type 0} (t : List X) (k j : ℕ) → j ≢ k → slice_get (remove t k) (behind k j) ≡ slice_get t j
+pub remove_others : {X : Type 0} (t : List X) (k j : ℕ) → j ≢ k → slice_get (remove t k) (following k j) ≡ slice_get t j
 remove_others [] zero j ne = refl
 remove_others [] (suc k) j ne = refl
 remove_others (y ∷ t) zero zero ne = absurd (ne refl)

@@ -26,5 +26,5 @@ pub mod Beside
 pub mod Fitting
 pub mod Beginning
 pub mod Restart
-pub mod Settling
+pub mod MostSettled
 pub mod code

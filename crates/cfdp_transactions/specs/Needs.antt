@@ -5,7 +5,7 @@
 --     StepNeeds, DataNeeds, TakeNeeds   for each entry of a sound world
 --     Follows W event reply V   what a call may do: nothing, where memory was refused, and else what the table says
 --     FollowsIsSound            then the world stays sound
---     may_want_memory thrifty event   whether the event may be refused memory, where the store takes none, or some
+--     may_lack_memory thrifty event   whether the event may be refused memory, where the store takes none, or some
 --     OnlyTakeHandsOut          no other event's reply has an outcome
 use Rattle.std.specs.Prelude.{◌≡◌, ℕ, ◌+◌, ◌-◌, max, ◌≤◌, Bool, true, false, not, IsTrue, IsFalse, length, Some, slice_get}
 use Rattle.std.specs.List.{AllByRecursion}
@@ -65,9 +65,9 @@ OnlyTakeHandsOut = (W : World) (event : Event) (reply : Reply) (V : World) → F
     IsFalse (is_take event) → IsFalse (hands_out reply)
 
 -- a new entry and an outcome take memory; octets that come and items do where the store does
-abbrev pub may_want_memory : (takes_no_memory : Bool) → Event → Bool
-may_want_memory takes_no_memory (MetadataCame h m) = true
-may_want_memory takes_no_memory (Take id) = true
-may_want_memory takes_no_memory (DataCame h piece) = not takes_no_memory
-may_want_memory takes_no_memory (Step id) = not takes_no_memory
-may_want_memory takes_no_memory event = false
+abbrev pub may_lack_memory : (takes_no_memory : Bool) → Event → Bool
+may_lack_memory takes_no_memory (MetadataCame h m) = true
+may_lack_memory takes_no_memory (Take id) = true
+may_lack_memory takes_no_memory (DataCame h piece) = not takes_no_memory
+may_lack_memory takes_no_memory (Step id) = not takes_no_memory
+may_lack_memory takes_no_memory event = false

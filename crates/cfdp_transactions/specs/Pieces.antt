@@ -34,7 +34,7 @@ with_range a b (r ∷ rs) =
 
 -- one range, unless it is empty
 abbrev pub range : ℕ → ℕ → Ranges → Ranges
-range a b behind = if nat_lt a b then (a, b) ∷ behind else behind
+range a b following = if nat_lt a b then (a, b) ∷ following else following
 
 abbrev pub between : ℕ → Ranges → ℕ → Ranges
 between at [] limit = range at limit []

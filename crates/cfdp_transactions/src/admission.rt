@@ -15,7 +15,7 @@ ghost use Rattle.cfdp_transactions.specs.code.Books.{Carries, IsBooked, world_of
 ghost use Rattle.cfdp_transactions.specs.code.TableEntries.{kept_index};
 
 use crate::books::Books;
-use crate::entry::TableEntry;
+use crate::table_entry::TableEntry;
 use crate::{Config, Phase, Reply};
 use cfdp_actions::Filestore;
 use cfdp_paths::Memory;

@@ -13,8 +13,8 @@ ghost use Rattle.cfdp_transactions.specs.code.Books.{AnswersAt, IsBooked, IsLive
 
 use crate::admission::{bound_of, names_file};
 use crate::books::Books;
-use crate::entry::TableEntry;
 use crate::phase_changes::{end, finish, turn};
+use crate::table_entry::TableEntry;
 use crate::{Config, Phase, Reply};
 use cfdp_actions::Filestore;
 use cfdp_pdus::Eof;

@@ -6,7 +6,7 @@ ghost use Rattle.std.specs.Option.{ForSome};
 ghost use Rattle.cfdp_tlv.specs.Field.{lv};
 ghost use Rattle.cfdp_tlv.specs.Grammar.{names_as_lv};
 ghost use Rattle.cfdp_pdus.specs.Canonical.{fault_location, finished_field, is_short_response, pdu_octets, response_field};
-ghost use Rattle.cfdp_pdus.specs.Placing.{filled, with_octets_at};
+ghost use Rattle.cfdp_pdus.specs.BufferParts.{filled, with_octets_at};
 ghost use Rattle.cfdp_transactions.specs.code.FinishedInBuffer.{answered_with, responses_field, unperformed_field};
 ghost use Rattle.cfdp_transactions.specs.Outcome.{answered, responses_of};
 ghost use Rattle.cfdp_transactions.specs.code.TakenOutcome.{statuses_of};
@@ -21,7 +21,7 @@ use cfdp_tlv::{ENTITY_ID, FILESTORE_RESPONSE, FilestoreRequest};
 
 /// How many octets a Finished PDU has at most: a header of 28, 2 before the responses, 64 responses of 257, and a fault
 /// location of 10.
-const MOST_OCTETS: usize = 16_488;
+const LONGEST_FINISHED: usize = 16_488;
 
 /// What is said of an outcome whose Finished PDU was written into a buffer.
 #[derive(Clone, Copy, Debug, PartialEq, Eq)]
@@ -158,7 +158,7 @@ fn find_shortage(
     ensures enough { let o = answered_with requests.now performed outcome.now in
         IfNone result (length (pdu_octets false o.header (finished_field o.header o.finished)) ≤ room) }
 {
-    if room >= MOST_OCTETS {
+    if room >= LONGEST_FINISHED {
         return None;
     }
     let field_len = field_len(outcome, requests, performed);

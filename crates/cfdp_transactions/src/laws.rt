@@ -43,12 +43,14 @@ pub fn next_is_sound()
     lower_laws();
 }
 
-/// From each sound world to the next, whatever the event: a transaction that is admitted has what
-/// the reply grants and has spent nothing; items are performed as the action table says, succeed,
-/// and are paid for; a transaction keeps its requests, items and grant, and spends just the blocks
-/// that the filestore grows by; one that completes has 'successful' for every request, in order, and
-/// 'not performed' for none; no more is spent than granted; and no event of one transaction changes
-/// another's entry or a path leased to it.
+/// Whatever the event, from each sound world to the next:
+///
+/// - a transaction that is admitted has what the reply grants and has spent nothing;
+/// - items are performed as the action table says, succeed, and are paid for;
+/// - a transaction keeps its requests, items and grant, and spends just the blocks that the filestore grows by;
+/// - one that completes has 'successful' for every request, in order, and 'not performed' for none;
+/// - no more is spent than granted;
+/// - no event of one transaction changes another's entry or a path leased to it.
 pub fn next_is_promised()
     ensures { NextIsPromised }
 {

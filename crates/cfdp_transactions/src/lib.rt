@@ -11,7 +11,6 @@ mod books;
 mod config;
 mod copying;
 mod delivery;
-mod entry;
 mod equality;
 mod event;
 mod file_data;
@@ -26,6 +25,7 @@ mod ranges;
 mod reply;
 mod step;
 mod table;
+mod table_entry;
 mod taken_outcome;
 mod the_core;
 

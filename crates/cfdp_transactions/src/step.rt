@@ -6,7 +6,7 @@ ghost use Rattle.cfdp_transactions.specs.Sound.{Sound};
 ghost use Rattle.cfdp_transactions.specs.code.LowerLaws.{LowerLaws};
 ghost use Rattle.cfdp_transactions.specs.Execution.{stepped};
 ghost use Rattle.cfdp_transactions.specs.Books.{IsAnswered};
-ghost use Rattle.cfdp_transactions.specs.code.Books.{AnswersAt, IsBooked, IsSteady, Settles, world_of};
+ghost use Rattle.cfdp_transactions.specs.code.Books.{AnswersAt, IsBooked, IsSteady, BooksSlot, world_of};
 
 use crate::books::Books;
 use crate::item::{ItemDone, act};
@@ -15,13 +15,13 @@ use cfdp_actions::Filestore;
 use cfdp_quota::Quota;
 
 /// The transaction in the slot took or gave back blocks: this many were free before, and this many are free now.
-pub(crate) fn settle_quota(quota: &mut Quota, slot: u8, before: u32, after: u32)
+pub(crate) fn book_quota(quota: &mut Quota, slot: u8, before: u32, after: u32)
     requires slot { slot < 64 }
     requires opened { entry_at quota.old slot ≡ Some (reserve_at quota.old slot) }
     requires unused { before ≡ quota.old.free }
     requires taken { before ≤ after + reserve_at quota.old slot }
     requires given { after ≤ before + used quota.old }
-    ensures { Settles quota.old quota.new slot before after }
+    ensures { BooksSlot quota.old quota.new slot before after }
 {
     if after >= before {
         quota.gave(slot, after - before);
@@ -58,7 +58,7 @@ pub(crate) fn step<S: Filestore>(store: &mut S, books: &mut Books, index: usize)
         return Reply::Memory;
     };
     let after = store.free();
-    settle_quota(&mut books.quota, slot, before, after);
+    book_quota(&mut books.quota, slot, before, after);
     let done = ItemDone {
         next,
         last,

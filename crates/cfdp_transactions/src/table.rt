@@ -6,8 +6,8 @@ ghost use Rattle.cfdp_transactions.specs.code.TableEntries.{first_executing, fir
 ghost use Rattle.cfdp_transactions.specs.code.TableChanges.{Becomes, CanAdvance, CanStore};
 
 use crate::Phase;
-use crate::entry::TableEntry;
 use crate::item::ItemDone;
+use crate::table_entry::TableEntry;
 use cfdp_paths::Memory;
 use cfdp_pdus::Eof;
 use cfdp_status::TransactionId;
@@ -21,7 +21,7 @@ pub(crate) const MOST_TRANSACTIONS: usize = 64;
 /// How many items and outcomes there are at most: of each of 64 transactions an install, 64 requests and an outcome.
 pub const MOST_SETTLED: usize = 4_224;
 
-/// The transactions in order of admission, which are found by name. Contracts see them as a list of rows.
+/// The transactions in order of admission, which are found by name. Contracts see them as a list of entries.
 #[derive(Drop)]
 pub(crate) struct Table {
     entries: IndexMap<TransactionId, TableEntry>,
@@ -40,12 +40,13 @@ impl Model for Table {
 }
 
 impl Table {
-    /// No transactions, and room for 64.
+    /// No transactions. The map has room for 128, twice the most that are known. When that is used up, at most half of
+    /// it is in use, and the map removes in place what ended transactions left there. So it never asks for more memory.
     pub(crate) fn new(alloc: Global) -> Result<Table, Memory>
         ensures { IfOk result (λ table. table ≡ []) }
     {
         Ok(Table {
-            entries: IndexMap::with_capacity(alloc, MOST_TRANSACTIONS)?,
+            entries: IndexMap::with_capacity(alloc, 2 * MOST_TRANSACTIONS)?,
         })
     }
 

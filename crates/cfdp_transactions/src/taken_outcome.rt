@@ -17,9 +17,9 @@ ghost use Rattle.cfdp_transactions.specs.Writable.{IsWritable};
 
 use crate::admission::names_file;
 use crate::books::Books;
-use crate::entry::TableEntry;
 use crate::finished_in_buffer::{ShortBuffer, TakenFinished, put_finished};
 use crate::outcome::{Outcome, SharedOutcome};
+use crate::table_entry::TableEntry;
 use crate::{Phase, Reply};
 use cfdp_actions::Filestore;
 use cfdp_paths::Memory;
@@ -140,8 +140,8 @@ pub(crate) fn take_finished<S: Filestore>(
     requires writable { let W = world_of (S.state store.now) books.old in
         (e : Transaction) → slice_get W.table index ≡ Some e → IsFalse (is_live e.phase) → IsWritable (outcome_of e) }
     ensures ok { let W = world_of (S.state store.now) books.old in
-        IfOk result (λ told. (e : Transaction) → slice_get W.table index ≡ Some e →
-        Issues (taken_out W index (Some e)) (world_of (S.state store.now) books.new) out.old out.new told) }
+        IfOk result (λ returned. (e : Transaction) → slice_get W.table index ≡ Some e →
+        Issues (taken_out W index (Some e)) (world_of (S.state store.now) books.new) out.old out.new returned) }
     ensures err { let W = world_of (S.state store.now) books.old in
         IfErr result (λ short. (e : Transaction) → slice_get W.table index ≡ Some e →
         FallsShort (taken_out W index (Some e)) W (world_of (S.state store.now) books.new) out.old out.new short) }

@@ -7,11 +7,11 @@ ghost use Rattle.cfdp_transactions.specs.Beginning.{IsGoodStart, IsNotPut, Memor
 ghost use Rattle.cfdp_transactions.specs.Sound.{Sound};
 ghost use Rattle.cfdp_transactions.specs.World.{leases_of, next_outcome, next_runnable, spare_blocks, start};
 ghost use Rattle.cfdp_transactions.specs.Events.{Cancel, Check, DataCame, EofCame, MetadataCame, Step, Take};
-ghost use Rattle.cfdp_pdus.specs.Placing.{filled};
+ghost use Rattle.cfdp_pdus.specs.BufferParts.{filled};
 ghost use Rattle.cfdp_transactions.specs.FinishedInBuffer.{sent, taken_by};
 ghost use Rattle.cfdp_transactions.specs.Next.{next};
 ghost use Rattle.cfdp_transactions.specs.Writable.{IsWritable};
-ghost use Rattle.cfdp_transactions.specs.Needs.{Follows, may_want_memory};
+ghost use Rattle.cfdp_transactions.specs.Needs.{Follows, may_lack_memory};
 ghost use Rattle.cfdp_transactions.specs.code.Adding.{IsRuled};
 ghost use Rattle.cfdp_transactions.specs.Books.{IsAnswered};
 ghost use Rattle.cfdp_transactions.specs.Entry.{gaps, name_of, progress, reach};
@@ -276,7 +276,7 @@ impl<S: Filestore> Core<S> {
         Ok(Some(taken_outcome::make_outcome(self.alloc, entry)?))
     }
 
-    /// The free blocks that nobody was granted.
+    /// The free blocks that nobody was granted. Costs nothing.
     pub fn spare(&self) -> u32
         ensures { result ≡ spare_blocks self.now.world }
     {
@@ -284,7 +284,7 @@ impl<S: Filestore> Core<S> {
     }
 
     /// The store. It has as many blocks as the configuration says, and takes no memory exactly where the core's store
-    /// takes none.
+    /// takes none. Costs nothing.
     pub fn store(&self) -> &S
         ensures filestore { (S.state result.now).filestore ≡ self.now.world.filestore }
         ensures capacity { (S.state result.now).capacity ≡ self.now.world.config.blocks }
@@ -293,14 +293,14 @@ impl<S: Filestore> Core<S> {
         &self.store
     }
 
-    /// What the live transactions lease, in order of admission.
+    /// What the live transactions lease, in order of admission. Costs nothing.
     pub fn leases(&self) -> &Leases
         ensures { result.now ≡ leases_of self.now.world.table }
     {
         &self.books.leases
     }
 
-    /// The configuration.
+    /// The configuration. Costs nothing.
     pub fn config(&self) -> &Config
         ensures { result.now ≡ self.now.world.config }
     {
@@ -324,7 +324,7 @@ impl<S: Filestore> Core<S> {
     /// request. All else costs a look-up.
     pub fn apply(&mut self, event: &Event) -> Reply
         ensures follows { Follows self.old.world event.now result self.new.world }
-        ensures answered { IsFalse (may_want_memory self.old.takes_no_memory event.now) → IsAnswered result }
+        ensures answered { IsFalse (may_lack_memory self.old.takes_no_memory event.now) → IsAnswered result }
         ensures lean { AsksForNone self.old.world event.now → IsAnswered result }
         ensures steady { self.new.takes_no_memory ≡ self.old.takes_no_memory }
     {
@@ -346,11 +346,12 @@ impl<S: Filestore> Core<S> {
     }
 
     /// Like [`apply`](Core::apply), but takes the event by value: its Metadata is moved, not copied. Out of memory the
-    /// event is dropped. Cost: as `apply`, less the copy of the Metadata. Vectors of it that have room to spare keep
-    /// that room as long as the transaction is in the table; those of [`read_event`](crate::read_event) have none.
+    /// event is dropped. Cost: as `apply`, less the copy of the Metadata. A vector of the event
+    /// that has spare capacity keeps it while the transaction is in the table. The vectors of
+    /// [`read_event`](crate::read_event) have none.
     pub fn apply_owned(&mut self, event: Event) -> Reply
         ensures follows { Follows self.old.world event result self.new.world }
-        ensures answered { IsFalse (may_want_memory self.old.takes_no_memory event) → IsAnswered result }
+        ensures answered { IsFalse (may_lack_memory self.old.takes_no_memory event) → IsAnswered result }
         ensures lean { AsksForNone self.old.world event → IsAnswered result }
         ensures steady { self.new.takes_no_memory ≡ self.old.takes_no_memory }
     {
@@ -364,11 +365,11 @@ impl<S: Filestore> Core<S> {
     }
 
     /// Like [`apply`](Core::apply), but returns the reply twice: once for the journal, once for the caller. An
-    /// outcome's second handle is made before anything changes.
+    /// outcome's second handle is made before anything changes. Cost: that of `apply`.
     pub fn apply_both(&mut self, event: &Event) -> (Reply, Reply)
         ensures follows { Follows self.old.world event.now result.0 self.new.world }
         ensures same { result.1 ≡ result.0 }
-        ensures answered { IsFalse (may_want_memory self.old.takes_no_memory event.now) → IsAnswered result.0 }
+        ensures answered { IsFalse (may_lack_memory self.old.takes_no_memory event.now) → IsAnswered result.0 }
         ensures lean { AsksForNone self.old.world event.now → IsAnswered result.0 }
         ensures steady { self.new.takes_no_memory ≡ self.old.takes_no_memory }
     {
@@ -415,7 +416,7 @@ impl<S: Filestore> Core<S> {
         out: &mut [u8],
     ) -> Result<Option<TakenFinished>, ShortBuffer>
         requires writable { IfSome (outcome_in self.old.world id) IsWritable }
-        ensures told { IfOk result (λ told. told ≡ taken_by (next self.old.world (Take id)).1) }
+        ensures returned { IfOk result (λ returned. returned ≡ taken_by (next self.old.world (Take id)).1) }
         ensures world { OnOk result (self.new.world ≡ (next self.old.world (Take id)).0) }
         ensures written { OnOk result (out.new ≡ filled (sent (next self.old.world (Take id)).1) out.old) }
         ensures fits { OnOk result (length (sent (next self.old.world (Take id)).1) ≤ length out.old) }

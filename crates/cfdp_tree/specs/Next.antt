@@ -11,8 +11,8 @@ use Rattle.cfdp_actions.specs.Store.{kind_of}
 use Rattle.cfdp_tree.specs.declared.next.NextEntry.{NextEntry}
 
 pub record IsNext (F : Filestore) (p q : Path) : Type 0 where
-  pub stands : IsSome (node_at F q)
-  pub behind : path_cmp p q ≡ Less
+  pub exists : IsSome (node_at F q)
+  pub following : path_cmp p q ≡ Less
   pub least : (r : Path) → IsSome (node_at F r) → path_cmp p r ≡ Less → path_cmp q r ≢ Greater
 
 abbrev pub IsLast : Filestore → Path → Type 0

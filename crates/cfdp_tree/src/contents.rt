@@ -8,8 +8,8 @@ ghost use Rattle.cfdp_tree.specs.code.Nodes.{nodes_in};
 ghost use Rattle.cfdp_tree.specs.code.Runs.{IsAt, Apart, Spares, nth};
 ghost use Rattle.cfdp_tree.specs.code.Ways.{HasWays, KeepsWays};
 ghost use Rattle.cfdp_tree.specs.code.Contents.{IsFilled, contents_in};
-ghost use Rattle.cfdp_tree.specs.code.Kept.{contents_told, file_of};
-ghost use Rattle.cfdp_tree.specs.code.NodeFields.{node_fields_of, kind_told};
+ghost use Rattle.cfdp_tree.specs.code.Kept.{contents_of_fields, file_of};
+ghost use Rattle.cfdp_tree.specs.code.NodeFields.{node_fields_of, kind_of_octet};
 
 use crate::header::PAYLOAD_OCTETS;
 use crate::node_block::{first_of, kind_of, last_of, size_of, sum_of};
@@ -39,7 +39,7 @@ pub(crate) fn blocks_of(octets: u32) -> u32
 /// The octets of a file, by its node's block.
 pub(crate) fn contents_of(block: &Block) -> Contents
     requires { (node_fields_of block.now).size ≤ 7864320 }
-    ensures { result ≡ contents_told Kind.File (node_fields_of block.now) }
+    ensures { result ≡ contents_of_fields Kind.File (node_fields_of block.now) }
 {
     let size = size_of(block);
     Contents {
@@ -55,7 +55,7 @@ pub(crate) fn contents_of(block: &Block) -> Contents
 
 /// What a node holds, by its block: the octets of a file, and of a directory none.
 pub(crate) fn held_by(block: &Block) -> Contents
-    requires { kind_told (node_fields_of block.now).kind ≡ Kind.File → (node_fields_of block.now).size ≤ 7864320 }
+    requires { kind_of_octet (node_fields_of block.now).kind ≡ Kind.File → (node_fields_of block.now).size ≤ 7864320 }
     ensures { result ≡ file_of block.now }
 {
     match kind_of(block) {

@@ -11,7 +11,7 @@ ghost use Rattle.cfdp_tree.specs.code.Contents.{IsFilled, contents_in};
 ghost use Rattle.cfdp_tree.specs.code.Tree.{IsNode, IsTree, node_fields_at, name_at, path_of_node};
 ghost use Rattle.cfdp_tree.specs.code.Index.{IsIndex};
 ghost use Rattle.cfdp_tree.specs.code.Orders.{IsInOrders};
-ghost use Rattle.cfdp_tree.specs.code.Kept.{contents_told};
+ghost use Rattle.cfdp_tree.specs.code.Kept.{contents_of_fields};
 ghost use Rattle.cfdp_tree.specs.code.Files.{with_contents, with_run};
 
 use crate::contents::{Contents, contents_of};
@@ -47,7 +47,8 @@ pub(crate) fn find_file(
         (node_fields_at (nodes_in arena.now) b).size ≤ 7864320 }
     ensures node { IsNode (nodes_in arena.now) result.node }
     ensures path { path_of_node (nodes_in arena.now) result.node ≡ path.now }
-    ensures contents { result.contents ≡ contents_told Kind.File (node_fields_at (nodes_in arena.now) result.node) }
+    ensures contents { result.contents ≡ contents_of_fields Kind.File
+        (node_fields_at (nodes_in arena.now) result.node) }
 {
     let node = find_path(arena, heads, orders, path).unwrap();
     FoundFile {
@@ -95,7 +96,7 @@ pub(crate) fn set_contents(arena: &mut Arena, node: &BlockId, contents: &Content
     requires held { IsHeld arena.old contents.now.run }
     ensures nodes { nodes_in arena.new
         ≡ with_block (nodes_in arena.old) node.now (octets_of (nodes_in arena.new) node.now) }
-    ensures row { node_fields_at (nodes_in arena.new) node.now ≡ with_contents
+    ensures fields { node_fields_at (nodes_in arena.new) node.now ≡ with_contents
         (node_fields_at (nodes_in arena.old) node.now) contents.now }
     ensures name { name_at (nodes_in arena.new) node.now ≡ name_at (nodes_in arena.old) node.now }
     ensures whole { length (octets_of (nodes_in arena.new) node.now) ≡ 128 }
@@ -115,7 +116,7 @@ pub(crate) fn set_contents(arena: &mut Arena, node: &BlockId, contents: &Content
 fn set_run(block: &mut Block, run: &Run)
     requires first { 0 < run.now.count → run.now.first < 65536 }
     requires last { 0 < run.now.count → run.now.last < 65536 }
-    ensures row { node_fields_of block.new ≡ with_run (node_fields_of block.old) run.now }
+    ensures fields { node_fields_of block.new ≡ with_run (node_fields_of block.old) run.now }
     ensures header { block_header block.new ≡ block_header block.old }
     ensures name { drop 32 block.new ≡ drop 32 block.old }
 {

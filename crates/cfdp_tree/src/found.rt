@@ -6,7 +6,7 @@ ghost use Rattle.cfdp_actions.specs.Filestore.{node_at, file_octets_at};
 ghost use Rattle.cfdp_tree.specs.Found.{found_of, octets_read, with_octets};
 
 use crate::contents::contents_of;
-use crate::listing::{Found, tell};
+use crate::listing::{Found, found_at};
 use crate::lookup::find_names;
 use crate::node_block::kind_of;
 use crate::tree_store::TreeStore;
@@ -21,7 +21,7 @@ impl TreeStore {
         ensures { result ≡ option_map found_of (node_at self.now.filestore names.entry) }
     {
         let node = find_names(&self.arena, &self.heads, &self.orders, names)?;
-        Some(tell(&self.arena, &node))
+        Some(found_at(&self.arena, &node))
     }
 
     /// Copies a file's octets from offset `at` on to the front of the buffer, as many as there are and as fit, and

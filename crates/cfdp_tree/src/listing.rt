@@ -3,13 +3,13 @@ ghost use Rattle.std.specs.Prelude.{◌≡◌, [], ◌∷◌, Some, All, IfOk, l
 ghost use Rattle.cfdp_arena.specs.Arena.{octets_of};
 ghost use Rattle.cfdp_checksum.specs.Checksum.{checksum};
 ghost use Rattle.cfdp_actions.specs.Filestore.{octets_in};
-ghost use Rattle.cfdp_actions.specs.Store.{listing_entry, kind_of, standing_of};
+ghost use Rattle.cfdp_actions.specs.Store.{listing_entry, kind_of, existing_node};
 ghost use Rattle.cfdp_tree.specs.code.Kept.{node_of};
 ghost use Rattle.cfdp_tree.specs.code.Nodes.{nodes_in};
 ghost use Rattle.cfdp_tree.specs.code.NodesBelow.{shown_node, IsSoundNode};
 
 use crate::node_block::{kind_of, size_of, sum_of};
-use cfdp_actions::{Entry, Kind, Standing};
+use cfdp_actions::{Entry, ExistingNode, Kind};
 use cfdp_arena::{Arena, BlockId};
 use cfdp_paths::{Memory, Path};
 use std::alloc::Global;
@@ -19,18 +19,18 @@ use std::alloc::Global;
 /// # Errors
 ///
 /// [`Memory`] where there was none for the vector: one allocation.
-pub(crate) fn standings(
+pub(crate) fn existing_nodes(
     alloc: Global,
     arena: &Arena,
     found: Vec<(Path, BlockId)>,
-) -> Result<Vec<Standing>, Memory>
+) -> Result<Vec<ExistingNode>, Memory>
     requires sound { All (IsSoundNode arena.now) found.items }
     ensures { IfOk result (λ all. all.items
-        ≡ map (λ e. standing_of (shown_node arena.now (nodes_in arena.now) e)) found.items) }
+        ≡ map (λ e. existing_node (shown_node arena.now (nodes_in arena.now) e)) found.items) }
 {
     let mut all = Vec::with_capacity(alloc, found.len())?;
     for (path, node) in found {
-        all.push(standing(arena, path, &node))?;
+        all.push(existing(arena, path, &node))?;
     }
     Ok(all)
 }
@@ -40,22 +40,22 @@ pub(crate) fn standings(
 /// # Errors
 ///
 /// [`Memory`] when out of memory: one allocation for the path and one for the vector.
-pub(crate) fn only_standing(
+pub(crate) fn only_existing(
     alloc: Global,
     arena: &Arena,
     path: &Path,
     node: &BlockId,
-) -> Result<Vec<Standing>, Memory>
+) -> Result<Vec<ExistingNode>, Memory>
     requires { IsSoundNode arena.now (path.now, node.now) }
     ensures { IfOk result (λ all. all.items
-        ≡ standing_of (shown_node arena.now (nodes_in arena.now) (path.now, node.now)) ∷ []) }
+        ≡ existing_node (shown_node arena.now (nodes_in arena.now) (path.now, node.now)) ∷ []) }
 {
     let mut all = Vec::with_capacity(alloc, 1)?;
-    all.push(standing(arena, path.copy(alloc)?, node))?;
+    all.push(existing(arena, path.copy(alloc)?, node))?;
     Ok(all)
 }
 
-/// Like `standings`, with the checksums of the files. In time linear in the number of the nodes.
+/// Like `existing_nodes`, with the checksums of the files. In time linear in the number of the nodes.
 ///
 /// # Errors
 ///
@@ -77,18 +77,18 @@ pub(crate) fn entries(
 }
 
 /// What is at a node.
-fn standing(arena: &Arena, path: Path, node: &BlockId) -> Standing
+fn existing(arena: &Arena, path: Path, node: &BlockId) -> ExistingNode
     requires { IsSoundNode arena.now (path, node.now) }
-    ensures { result ≡ standing_of (shown_node arena.now (nodes_in arena.now) (path, node.now)) }
+    ensures { result ≡ existing_node (shown_node arena.now (nodes_in arena.now) (path, node.now)) }
 {
     let block = arena.bytes(*node);
     match kind_of(block) {
-        Kind::Directory => Standing {
+        Kind::Directory => ExistingNode {
             path,
             kind: Kind::Directory,
             size: 0,
         },
-        Kind::File => Standing {
+        Kind::File => ExistingNode {
             path,
             kind: Kind::File,
             size: u64::from(size_of(block)),
@@ -96,17 +96,17 @@ fn standing(arena: &Arena, path: Path, node: &BlockId) -> Standing
     }
 }
 
-/// Like `standing`, with the checksum of a file.
+/// Like `existing`, with the checksum of a file.
 fn entry(arena: &Arena, path: Path, node: &BlockId) -> Entry
     requires { IsSoundNode arena.now (path, node.now) }
     ensures { result ≡ listing_entry (shown_node arena.now (nodes_in arena.now) (path, node.now)) }
 {
-    let told = tell(arena, node);
+    let found = found_at(arena, node);
     Entry {
         path,
-        kind: told.kind,
-        size: told.size,
-        checksum: told.checksum,
+        kind: found.kind,
+        size: found.size,
+        checksum: found.checksum,
     }
 }
 
@@ -122,7 +122,7 @@ pub struct Found {
 }
 
 /// What is at a node. In constant time.
-pub(crate) fn tell(arena: &Arena, node: &BlockId) -> Found
+pub(crate) fn found_at(arena: &Arena, node: &BlockId) -> Found
     requires { IsSoundNode arena.now ([], node.now) }
     ensures kind { result.kind ≡ kind_of (node_of arena.now (octets_of (nodes_in arena.now) node.now)) }
     ensures size { result.size ≡ length (octets_in (Some

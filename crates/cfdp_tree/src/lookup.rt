@@ -28,12 +28,12 @@ pub(crate) fn find_names(
     ensures none { IfNone result ((b : ℕ) → IsNode (nodes_in arena.now) b →
         path_of_node (nodes_in arena.now) b ≡ names.entry → ⊥) }
 {
-    let mut directory = None;
+    let mut reached = None;
     for name in names {
-        let node = find(arena, heads, orders, directory, name)?;
-        directory = Some(node);
+        let node = find(arena, heads, orders, reached, name)?;
+        reached = Some(node);
     }
-    directory
+    reached
 }
 
 /// The node of the path of the first `depth` names; none for no name. In expected time linear in their octets.

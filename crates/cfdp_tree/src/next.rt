@@ -8,7 +8,7 @@ ghost use Rattle.cfdp_tree.specs.code.Orders.{IsInOrders};
 ghost use Rattle.cfdp_tree.specs.Next.{IsNextEntry, IsLast};
 ghost use Rattle.cfdp_tree.specs.code.Next.{ComesAfter, IsFirst};
 
-use crate::listing::tell;
+use crate::listing::found_at;
 use crate::orders::Orders;
 use crate::spelling::write_path;
 use crate::tree_store::TreeStore;
@@ -53,12 +53,12 @@ impl TreeStore {
     {
         let node = next_below(&self.arena, &self.orders, &None, after)?;
         let start = write_path(&self.arena, &node, text);
-        let told = tell(&self.arena, &node);
+        let found = found_at(&self.arena, &node);
         Some(NextEntry {
             start,
-            kind: told.kind,
-            size: told.size,
-            checksum: told.checksum,
+            kind: found.kind,
+            size: found.size,
+            checksum: found.checksum,
         })
     }
 }

@@ -3,7 +3,7 @@ ghost use Rattle.std.specs.Prelude.{◌≡◌, ◌<◌, ◌≤◌, ◌↔◌, Is
 ghost use Rattle.cfdp_arena.specs.Blocks.{blank_block};
 ghost use Rattle.cfdp_tree.specs.code.Block.{block_header, tagged};
 ghost use Rattle.cfdp_tree.specs.code.Tree.{home_in};
-ghost use Rattle.cfdp_tree.specs.code.NodeFields.{node_fields_of, node_name, standing_octet, kind_told, plain_fields};
+ghost use Rattle.cfdp_tree.specs.code.NodeFields.{node_fields_of, node_name, octet_of_kind, kind_of_octet, plain_fields};
 
 use crate::header::{BlockKind, HEADER_OCTETS, number_in, set_number, set_tag};
 use crate::payload::put_part;
@@ -26,7 +26,7 @@ pub(crate) fn write_node(block: &mut Block, own: BlockId, parent: BlockId, kind:
     requires parent { parent < 65536 }
     requires short { length name.now ≤ 96 }
     ensures header { block_header block.new ≡ tagged (block_header block.old) own 0 BlockKind.Node }
-    ensures row { node_fields_of block.new ≡ plain_fields parent kind name.now }
+    ensures fields { node_fields_of block.new ≡ plain_fields parent kind name.now }
     ensures name { node_name block.new ≡ name.now }
     ensures whole { length block.new ≡ 128 }
 {
@@ -70,7 +70,7 @@ pub(crate) fn home_is(block: &Block, own: &BlockId, directory: &Option<BlockId>)
 /// Gives the node a name of at most 96 octets. The rest of the block stays.
 pub(crate) fn set_name(block: &mut Block, name: &[u8])
     requires short { length name.now ≤ 96 }
-    ensures row { node_fields_of block.new ≡ record (node_fields_of block.old) { name_length = length name.now } }
+    ensures fields { node_fields_of block.new ≡ record (node_fields_of block.old) { name_length = length name.now } }
     ensures header { block_header block.new ≡ block_header block.old }
     ensures name { node_name block.new ≡ name.now }
     ensures whole { length block.new ≡ 128 }
@@ -81,7 +81,7 @@ pub(crate) fn set_name(block: &mut Block, name: &[u8])
 
 /// Whether the node is a file or a directory.
 pub(crate) fn kind_of(block: &Block) -> Kind
-    ensures { result ≡ kind_told (node_fields_of block.now).kind }
+    ensures { result ≡ kind_of_octet (node_fields_of block.now).kind }
 {
     if block[KIND_AT] == 0 {
         Kind::Directory
@@ -92,7 +92,7 @@ pub(crate) fn kind_of(block: &Block) -> Kind
 
 /// Says whether the node is a file or a directory. The rest of the block stays.
 pub(crate) fn set_kind(block: &mut Block, kind: Kind)
-    ensures row { node_fields_of block.new ≡ record (node_fields_of block.old) { kind = standing_octet kind } }
+    ensures fields { node_fields_of block.new ≡ record (node_fields_of block.old) { kind = octet_of_kind kind } }
     ensures header { block_header block.new ≡ block_header block.old }
     ensures name { drop 32 block.new ≡ drop 32 block.old }
     ensures whole { length block.new ≡ 128 }
@@ -122,7 +122,7 @@ pub(crate) fn home_of(block: &Block, own: &BlockId) -> Option<BlockId>
 /// Puts the node into another directory. The rest of the block stays.
 pub(crate) fn set_parent(block: &mut Block, parent: BlockId)
     requires small { parent < 65536 }
-    ensures row { node_fields_of block.new ≡ record (node_fields_of block.old) { parent = parent } }
+    ensures fields { node_fields_of block.new ≡ record (node_fields_of block.old) { parent = parent } }
     ensures header { block_header block.new ≡ block_header block.old }
     ensures name { drop 32 block.new ≡ drop 32 block.old }
     ensures whole { length block.new ≡ 128 }
@@ -141,7 +141,7 @@ pub(crate) fn first_of(block: &Block) -> BlockId
 /// Names the first block of a file's octets. The rest of the block stays.
 pub(crate) fn set_first(block: &mut Block, first: BlockId)
     requires small { first < 65536 }
-    ensures row { node_fields_of block.new ≡ record (node_fields_of block.old) { first = first } }
+    ensures fields { node_fields_of block.new ≡ record (node_fields_of block.old) { first = first } }
     ensures header { block_header block.new ≡ block_header block.old }
     ensures name { drop 32 block.new ≡ drop 32 block.old }
     ensures whole { length block.new ≡ 128 }
@@ -160,7 +160,7 @@ pub(crate) fn last_of(block: &Block) -> BlockId
 /// Names the last block of a file's octets. The rest of the block stays.
 pub(crate) fn set_last(block: &mut Block, last: BlockId)
     requires small { last < 65536 }
-    ensures row { node_fields_of block.new ≡ record (node_fields_of block.old) { last = last } }
+    ensures fields { node_fields_of block.new ≡ record (node_fields_of block.old) { last = last } }
     ensures header { block_header block.new ≡ block_header block.old }
     ensures name { drop 32 block.new ≡ drop 32 block.old }
     ensures whole { length block.new ≡ 128 }
@@ -179,7 +179,7 @@ pub(crate) fn same_head_of(block: &Block) -> BlockId
 /// Names the next node of the same index head. The rest of the block stays.
 pub(crate) fn set_same_head(block: &mut Block, same_head: BlockId)
     requires small { same_head < 65536 }
-    ensures row { node_fields_of block.new ≡ record (node_fields_of block.old) { same_head = same_head } }
+    ensures fields { node_fields_of block.new ≡ record (node_fields_of block.old) { same_head = same_head } }
     ensures header { block_header block.new ≡ block_header block.old }
     ensures name { drop 32 block.new ≡ drop 32 block.old }
     ensures whole { length block.new ≡ 128 }
@@ -203,7 +203,7 @@ pub(crate) fn sum_of(block: &Block) -> u32
 
 /// Says what the checksum of a file's octets is. The rest of the block stays.
 pub(crate) fn set_sum(block: &mut Block, sum: u32)
-    ensures row { node_fields_of block.new ≡ record (node_fields_of block.old) { sum = sum } }
+    ensures fields { node_fields_of block.new ≡ record (node_fields_of block.old) { sum = sum } }
     ensures header { block_header block.new ≡ block_header block.old }
     ensures name { drop 32 block.new ≡ drop 32 block.old }
     ensures whole { length block.new ≡ 128 }
@@ -217,7 +217,7 @@ pub(crate) fn set_sum(block: &mut Block, sum: u32)
 
 /// Says how many octets a file has. The rest of the block stays.
 pub(crate) fn set_size(block: &mut Block, size: u32)
-    ensures row { node_fields_of block.new ≡ record (node_fields_of block.old) { size = size } }
+    ensures fields { node_fields_of block.new ≡ record (node_fields_of block.old) { size = size } }
     ensures header { block_header block.new ≡ block_header block.old }
     ensures name { drop 32 block.new ≡ drop 32 block.old }
     ensures whole { length block.new ≡ 128 }

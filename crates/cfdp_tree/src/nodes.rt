@@ -26,7 +26,8 @@ pub(crate) fn create_node(
     ensures within { result < length arena.old }
     ensures nodes { nodes_in arena.new ≡ with_block (nodes_in arena.old) result
         (octets_of (nodes_in arena.new) result) }
-    ensures row { node_fields_at (nodes_in arena.new) result ≡ plain_fields (unwrap_or directory result) kind name.now }
+    ensures fields { node_fields_at (nodes_in arena.new) result
+        ≡ plain_fields (unwrap_or directory result) kind name.now }
     ensures home { home (nodes_in arena.new) result ≡ directory }
     ensures name { name_at (nodes_in arena.new) result ≡ name.now }
     ensures whole { length (octets_of (nodes_in arena.new) result) ≡ 128 }
@@ -53,10 +54,11 @@ pub(crate) fn rename_node(
     requires short { length name.now ≤ 96 }
     ensures nodes { nodes_in arena.new
         ≡ with_block (nodes_in arena.old) node.now (octets_of (nodes_in arena.new) node.now) }
-    ensures row { node_fields_at (nodes_in arena.new) node.now ≡ record (node_fields_at (nodes_in arena.old) node.now) {
-      parent = unwrap_or directory node.now;
-      name_length = length name.now;
-    } }
+    ensures fields { node_fields_at (nodes_in arena.new) node.now
+        ≡ record (node_fields_at (nodes_in arena.old) node.now) {
+          parent = unwrap_or directory node.now;
+          name_length = length name.now;
+        } }
     ensures home { home (nodes_in arena.new) node.now ≡ directory }
     ensures name { name_at (nodes_in arena.new) node.now ≡ name.now }
     ensures whole { length (octets_of (nodes_in arena.new) node.now) ≡ 128 }

@@ -8,7 +8,7 @@ ghost use Rattle.cfdp_tree.specs.code.Walk.{walk_from};
 ghost use Rattle.cfdp_tree.specs.code.NodesBelow.{path_and_node};
 
 use crate::orders::Orders;
-use crate::spelling::{MOST_OCTETS, path_of};
+use crate::spelling::{LONGEST_PATH, path_of};
 use crate::walk::collect_nodes;
 use cfdp_arena::{Arena, BlockId};
 use cfdp_paths::{Memory, Path};
@@ -24,21 +24,21 @@ pub(crate) fn nodes_below(
     alloc: Global,
     arena: &Arena,
     orders: &Orders,
-    directory: &Option<BlockId>,
+    top: &Option<BlockId>,
     depth: usize,
 ) -> Result<Vec<(Path, BlockId)>, Memory>
     requires tree { IsTree (nodes_in arena.now) }
     requires ordered { IsInOrders (nodes_in arena.now) orders.now None }
-    requires directory { (d : ℕ) → directory.now ≡ Some d → IsNode (nodes_in arena.now) d }
-    requires depth { length (path_at (nodes_in arena.now) directory.now) ≡ depth }
+    requires top { (d : ℕ) → top.now ≡ Some d → IsNode (nodes_in arena.now) d }
+    requires depth { length (path_at (nodes_in arena.now) top.now) ≡ depth }
     ensures { IfOk result (λ found. found.items
-        ≡ map (path_and_node (nodes_in arena.now)) (walk_from orders.now depth directory.now)) }
+        ≡ map (path_and_node (nodes_in arena.now)) (walk_from orders.now depth top.now)) }
 {
     let mut nodes = Vec::new(alloc);
-    if let Some(node) = directory {
+    if let Some(node) = top {
         nodes.push(*node)?;
     }
-    collect_nodes(arena, orders, orders.of(directory), depth + 1, &mut nodes)?;
+    collect_nodes(arena, orders, orders.of(top), depth + 1, &mut nodes)?;
     with_paths(alloc, arena, &nodes)
 }
 
@@ -56,7 +56,7 @@ fn with_paths(
     ensures { IfOk result (λ found. found.items ≡ map (path_and_node (nodes_in arena.now)) nodes.now) }
 {
     let mut found = Vec::with_capacity(alloc, nodes.len())?;
-    let mut text = [0; MOST_OCTETS];
+    let mut text = [0; LONGEST_PATH];
     for made in 0..nodes.len() {
         let node = &nodes[nodes.len() - 1 - made];
         found.push((path_of(alloc, arena, node, &mut text)?, *node))?;

@@ -3,7 +3,7 @@ ghost use Rattle.std.specs.Option.{option_map};
 ghost use Rattle.std.specs.Prelude.{◌≡◌, ◌≢◌, ◌<◌, ◌≤◌, ℕ, Option, Some, None, All, IfOk, IfSome, IfNone, length};
 ghost use Rattle.cfdp_tree.specs.code.Nodes.{nodes_in};
 ghost use Rattle.cfdp_tree.specs.code.Tree.{IsTree, IsNode, IsEntry, name_at};
-ghost use Rattle.cfdp_tree.specs.code.Next.{name_cmp, IsBehind, IsLeast};
+ghost use Rattle.cfdp_tree.specs.code.Next.{name_cmp, IsFollowing, IsLeast};
 ghost use Rattle.cfdp_tree.specs.code.Orders.{order_at, in_order, IsKnown, IsInOrders};
 
 use crate::node_block::{name_in, name_is};
@@ -177,7 +177,7 @@ impl Orders {
         requires directory { (d : ℕ) → directory.now ≡ Some d → IsNode (nodes_in arena.now) d }
         ensures least { IfSome result (λ b. IsLeast (nodes_in arena.now)
             (option_map (λ name. name.now) after.entry) (in_order self.now directory.now) b) }
-        ensures none { IfNone result (All (λ c. IsBehind (option_map (λ name. name.now) after.entry)
+        ensures none { IfNone result (All (λ c. IsFollowing (option_map (λ name. name.now) after.entry)
             (name_at (nodes_in arena.now) c) → ⊥) (in_order self.now directory.now)) }
     {
         // Read for its contract alone: an arena has 1 to 65,536 blocks.

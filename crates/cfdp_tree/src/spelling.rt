@@ -11,7 +11,7 @@ use cfdp_paths::{LONGEST_NAME, MOST_NAMES, Memory, Path};
 use std::alloc::Global;
 
 /// The most octets of the names of a path, with a slash before each.
-pub(crate) const MOST_OCTETS: usize = MOST_NAMES * (LONGEST_NAME + 1);
+pub(crate) const LONGEST_PATH: usize = MOST_NAMES * (LONGEST_NAME + 1);
 
 /// What is between the names that [`Path::from_names`] takes.
 const SEPARATOR: u8 = 0;
@@ -26,7 +26,7 @@ struct Spelled {
 }
 
 /// The path of a node, whose names are good and are not looked at again. The text is overwritten, and has room for at
-/// least [`MOST_OCTETS`] octets. In time linear in the octets of the path.
+/// least [`LONGEST_PATH`] octets. In time linear in the octets of the path.
 ///
 /// # Errors
 ///

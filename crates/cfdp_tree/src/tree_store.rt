@@ -10,7 +10,7 @@ use crate::contents::{Contents, contents_of, held_by};
 use crate::files::{find_file, set_contents};
 use crate::index;
 use crate::index::{ListHead, insert};
-use crate::listing::{entries, only_standing, standings};
+use crate::listing::{entries, existing_nodes, only_existing};
 use crate::lookup::{find_path, lookup};
 use crate::node_block::{home_of, kind_of, size_of, sum_of};
 use crate::nodes::{create_node, delete_node, rename_node};
@@ -18,7 +18,7 @@ use crate::nodes_below::nodes_below;
 use crate::orders::Orders;
 use crate::slots::Slot;
 use crate::walk::deepest_in;
-use cfdp_actions::{Entry, Filestore, Kind, Standing};
+use cfdp_actions::{Entry, ExistingNode, Filestore, Kind};
 use cfdp_arena::Arena;
 use cfdp_paths::{Memory, Path};
 use cfdp_ways::Way;
@@ -27,13 +27,16 @@ use std::marker::Model;
 
 /// A store whose files and directories are in the blocks of an arena.
 ///
-/// In the arena are the nodes, one block for each file or directory, with its name and the checksum of a file's octets,
-/// and the octets of files and of staged lists, 120 in each block. Beside the arena are the ways back from block to
-/// block, one for each block ([`Way`]), the heads of the index's lists, one for each block, the entries of each
-/// directory and of the root in order of their names (`cfdp_order`), with links and an order for each block, and 64
-/// slots, each with the size, the checksum, the first and the last block of a staged list, where it was last written,
-/// and what of it was never written. [`TreeStore::new`] takes the memory of all of these, and none of them grows after
-/// it. `listing` and `standing` take memory for what they return, and no other call takes any.
+/// In the arena:
+///
+/// - the nodes: a block for each file or directory, with its name and the checksum of a file's octets;
+/// - the octets of files and of staged lists, 120 in each block.
+///
+/// Beside the arena, for each block: its way back ([`Way`]), the head of a list of the index, and links and an order,
+/// in which the entries of each directory and of the root are in order of their names (`cfdp_order`). And 64 slots:
+/// each has the size, the checksum, the first and the last block of a staged list, where it was last written, and what
+/// of it was never written. [`TreeStore::new`] takes the memory of all of these, and none of them grows after
+/// it. `listing` and `existing` take memory for what they return, and no other call takes any.
 ///
 /// Cost: a call looks each name of its paths up by the directory and the name, in expected constant time whatever else
 /// the directory has. Where strangers chose many names of one hash, a look-up compares at most 31 names. `kind`,
@@ -48,15 +51,17 @@ use std::marker::Model;
 /// octets that come in order, in reverse or with neighbours swapped are summed once. `append` sums the second file
 /// unless the first one's size is a multiple of 4. `read`, `read_staged` and `stage_put` find the offset in at most 3
 /// steps for each binary digit of the number of blocks, so 48 in a file of 65,536 blocks, in whatever order its octets
-/// came and are read. `deepest` and `standing` go through what is at and below the path, and `listing` through
+/// came and are read. `deepest` and `existing` go through what is at and below the path, and `listing` through
 /// everything but the octets, in time linear in it; they sort nothing. `has_beside` looks at the entries of the
-/// directory that are among the others and at one more. `deepest_beside` goes through what is below the path, and never
-/// below an entry that is among the others. Both first compare each of the others twice, at most. Where these are
-/// children of the directory in path order, an entry is then compared with the logarithm of their number, else with
-/// each of them: in `has_beside` each entry that it looks at, in `deepest_beside` each directory with entries, and of
-/// the other entries those up to the first that is not among the others. `deepest` and `deepest_beside` end at a path
-/// of 8 names. `next_entry` compares at most 45 names in each directory on the way, and looks its names up in the
-/// orders, not in the index.
+/// directory that are among the others and at 22 more, at most. `deepest_beside` goes through what is below the path,
+/// and never below an entry that is among the others. Both first compare each of the others twice, at most. Where these
+/// are children of the directory in path order, an entry divides them into those before it and those after it, and is
+/// compared with the logarithm of their number: that is so of at most 22 entries for each of the others, and entries
+/// among which none of the others can be are compared with none. Else an entry is compared with each of the others: in
+/// `has_beside` each entry that it looks at, in `deepest_beside` each directory with entries, and of the other entries
+/// those up to the first that is not among the others. `deepest` and `deepest_beside` end at a path of 8 names.
+/// `next_entry` compares at most 45 names in each directory on the way, and looks its names up in the orders, not in
+/// the index.
 #[derive(Drop)]
 pub struct TreeStore {
     pub(crate) arena: Arena,
@@ -199,9 +204,6 @@ impl Filestore for TreeStore {
         match find_path(&self.arena, &self.heads, &self.orders, path) {
             Some(node) => {
                 let entries = self.orders.of(&Some(node));
-                if others.is_empty() {
-                    return deepest_in(&self.arena, &self.orders, entries, path.depth() + 1) as u8;
-                }
                 let left_out = Others::new(path, others);
                 deepest_beside(&self.arena, &self.orders, entries, &left_out, 0) as u8
             }
@@ -236,16 +238,16 @@ impl Filestore for TreeStore {
         entries(alloc, &self.arena, found)
     }
 
-    fn standing(&self, alloc: Global, path: &Path) -> Result<Vec<Standing>, Memory> {
+    fn existing(&self, alloc: Global, path: &Path) -> Result<Vec<ExistingNode>, Memory> {
         let Some(node) = find_path(&self.arena, &self.heads, &self.orders, path) else {
             return Ok(Vec::new(alloc));
         };
-        let directory = &Some(node);
-        if self.orders.of(directory).is_empty() {
-            return only_standing(alloc, &self.arena, path, &node);
+        let top = &Some(node);
+        if self.orders.of(top).is_empty() {
+            return only_existing(alloc, &self.arena, path, &node);
         }
-        let found = nodes_below(alloc, &self.arena, &self.orders, directory, path.depth())?;
-        standings(alloc, &self.arena, found)
+        let found = nodes_below(alloc, &self.arena, &self.orders, top, path.depth())?;
+        existing_nodes(alloc, &self.arena, found)
     }
 
     fn make_file(&mut self, path: &Path) -> Result<u32, Memory> {

@@ -4,21 +4,21 @@ ghost use Rattle.cfdp_order.specs.Orders.{nodes, IsOrder};
 ghost use Rattle.cfdp_tree.specs.code.Nodes.{nodes_in};
 ghost use Rattle.cfdp_tree.specs.code.Tree.{IsTree};
 ghost use Rattle.cfdp_tree.specs.code.Orders.{IsInOrders};
-ghost use Rattle.cfdp_tree.specs.code.Walk.{walks_at, most_names_in, StandAt};
+ghost use Rattle.cfdp_tree.specs.code.Walk.{walks_at, most_names_in, AreAtDepth};
 
 use crate::orders::Orders;
 use cfdp_arena::{Arena, BlockId};
 use cfdp_order::Order;
 use cfdp_paths::{MOST_NAMES, Memory};
 
-/// The number of names of the longest path among the nodes of an order, each of which has a path of `depth` names, and
-/// all that is below them; 0 for an empty order. Takes no memory, and reads no block. In time linear in the nodes, by
-/// at most 23 calls within one another for each directory on the way down. It ends at a path of 8 names.
+/// The most names of a path at or below the nodes of an order, whose own paths have `depth` names; 0 if the order is
+/// empty. Takes no memory, and reads no block. In time linear in the nodes, by at most 23 calls within one another for
+/// each directory on the way down. It ends at a path of 8 names.
 pub(crate) fn deepest_in(arena: &Arena, orders: &Orders, order: Order, depth: usize) -> usize
     requires tree { IsTree (nodes_in arena.now) }
     requires ordered { IsInOrders (nodes_in arena.now) orders.now None }
     requires order { IsOrder orders.now.links.items order }
-    requires deep { StandAt (nodes_in arena.now) depth (nodes orders.now.links.items order) }
+    requires deep { AreAtDepth (nodes_in arena.now) depth (nodes orders.now.links.items order) }
     ensures value { result ≡ most_names_in (nodes_in arena.now)
         (walks_at orders.now depth (nodes orders.now.links.items order)) }
     ensures within { result ≤ 8 }
@@ -58,9 +58,8 @@ pub(crate) fn deepest_in(arena: &Arena, orders: &Orders, order: Order, depth: us
     sofar.max(after)
 }
 
-/// Puts the nodes of an order, each of which has a path of `depth` names, at the end of a vector, and what is below
-/// each after it: so they come in path order. In time linear in the nodes, by at most 23 calls within one another for
-/// each directory on the way down.
+/// Appends the nodes of an order, whose paths have `depth` names, and after each what is below it: so all are in path
+/// order. In time linear in the nodes, by at most 23 calls within one another for each directory on the way down.
 ///
 /// # Errors
 ///
@@ -75,7 +74,7 @@ pub(crate) fn collect_nodes(
     requires tree { IsTree (nodes_in arena.now) }
     requires ordered { IsInOrders (nodes_in arena.now) orders.now None }
     requires order { IsOrder orders.now.links.items order }
-    requires deep { StandAt (nodes_in arena.now) depth (nodes orders.now.links.items order) }
+    requires deep { AreAtDepth (nodes_in arena.now) depth (nodes orders.now.links.items order) }
     ensures { OnOk result (found.new.items ≡ found.old.items
         ++ walks_at orders.now depth (nodes orders.now.links.items order)) }
 {

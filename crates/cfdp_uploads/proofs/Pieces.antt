@@ -65,19 +65,19 @@ pub each_map : {X Y : Type 0} (P : Y → Type 0) (f : X → Y) (xs : List X) →
 each_map P f [] all = tt
 each_map P f (x ∷ xs) all = (all.0, each_map P f xs all.1)
 
-pub told_of : {X : Type 0} (P : X → Type 0) (xs : List X) (n : ℕ) → AllByRecursion P xs → IfSome (slice_get xs n) P
-told_of P [] n all = tt
-told_of P (x ∷ xs) zero all = all.0
-told_of P (x ∷ xs) (suc n) all = told_of P xs n all.1
+pub known_of : {X : Type 0} (P : X → Type 0) (xs : List X) (n : ℕ) → AllByRecursion P xs → IfSome (slice_get xs n) P
+known_of P [] n all = tt
+known_of P (x ∷ xs) zero all = all.0
+known_of P (x ∷ xs) (suc n) all = known_of P xs n all.1
 
 among : {X Y : Type 0} (f : X → Y) (xs : List X) (y : Y) (n : ℕ) (x : X) → n < length xs → x ≡ get_or xs n x → slice_get (map f xs ++ y ∷ []) n ≡ Some (f x)
 among f [] y n x lt is = absurd (omega arith)
 among f (z ∷ xs) y zero x lt is = ap (λ w. Some (f w)) (sym is)
 among f (z ∷ xs) y (suc n) x lt is = among f xs y n x (omega arith) is
 
-behind : {X Y : Type 0} (f : X → Y) (xs : List X) (y : Y) → slice_get (map f xs ++ y ∷ []) (length xs) ≡ Some y
-behind f [] y = refl
-behind f (z ∷ xs) y = behind f xs y
+following : {X Y : Type 0} (f : X → Y) (xs : List X) (y : Y) → slice_get (map f xs ++ y ∷ []) (length xs) ≡ Some y
+following f [] y = refl
+following f (z ∷ xs) y = following f xs y
 
 pub piece_at : (u : UploadFields) (number index : ℕ) → 0 < number → number - 1 < length u.order → index ≡ get_or u.order (number - 1) index
     → slice_get (upload_pdus u) number ≡ Some (piece_pdu u index)
@@ -86,7 +86,7 @@ piece_at u number index some lt is =
     ap (slice_get (upload_pdus u)) e ∙ among (piece_pdu u) u.order (pdus.Eof u.header (eof_of u)) (number - 1) index lt is
 
 pub end_at : (u : UploadFields) (number : ℕ) → number ≡ suc (length u.order) → slice_get (upload_pdus u) number ≡ Some (pdus.Eof u.header (eof_of u))
-end_at u number e = ap (slice_get (upload_pdus u)) e ∙ behind (piece_pdu u) u.order (pdus.Eof u.header (eof_of u))
+end_at u number e = ap (slice_get (upload_pdus u)) e ∙ following (piece_pdu u) u.order (pdus.Eof u.header (eof_of u))
 
 -- ---- what is written is read
 
@@ -204,4 +204,4 @@ end_written {u = u} {v = v} same number order eof r old new some order_is le lt 
     subst (λ (o : Option Pdu). OnOk r (IfSome o (λ pdu. new ≡ old ++ sent_octets pdu))) (sym (end_at v number last)) whole
 
 pub spelled_at : {u v : UploadFields} → u ≡ v → IsUpload u → (number : ℕ) → IfSome (slice_get (upload_pdus v) number) (λ pdu. SpellsPdu (sent_octets pdu) pdu)
-spelled_at {u = u} {v = v} same is number = told_of (λ pdu. SpellsPdu (sent_octets pdu) pdu) (upload_pdus v) number (read_back v (subst IsUpload same is))
+spelled_at {u = u} {v = v} same is number = known_of (λ pdu. SpellsPdu (sent_octets pdu) pdu) (upload_pdus v) number (read_back v (subst IsUpload same is))

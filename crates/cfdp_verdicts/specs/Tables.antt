@@ -13,8 +13,8 @@ use Rattle.std.specs.Prelude.{ℕ, ◌+◌, ◌-◌, ◌==◌, if◌then◌else�
 use Rattle.cfdp_paths.specs.Paths.{Path, joined}
 use Rattle.cfdp_actions.specs.Actions.{Item, Install, Perform, action_in, first_in, second_in}
 use Rattle.cfdp_leases.specs.Footprint.{exclusive_in, read_in}
-use Rattle.cfdp_texts.specs.Replies.{labelled}
-use Rattle.cfdp_verdicts.specs.Words.{acted, grouped, shown}
+use Rattle.cfdp_texts.specs.Replies.{labelled, shown}
+use Rattle.cfdp_verdicts.specs.Words.{acted, grouped}
 use Rattle.cfdp_verdicts.specs.Costs.{Cost}
 
 unfoldable pub padded : ℕ → List ℕ → List ℕ

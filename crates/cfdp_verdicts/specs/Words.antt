@@ -2,7 +2,6 @@
 --     with_commas digits    digits with a comma before each three of them, from the last one
 --     grouped n             a number in decimal, with these commas
 --     counted n one many    a number, and what is counted: one of it, or many
---     shown octets          the octets of a name as listings print paths
 --     verb_of, word_between  an action in words;  the word between its two names
 --     acted                 an action in words, with its names
 --     request_words r       a request
@@ -16,7 +15,7 @@
 --     grant_words, verdict_words      what is granted;  a verdict
 --     verdict_line          the line of a verdict, with the name of the transaction
 use Rattle.std.specs.Prelude.{ℕ, ◌+◌, ◌%◌, ◌==◌, ◌&&◌, nat_lt, if◌then◌else◌, List, [], ◌∷◌, ◌++◌, length, Option, Some, None, unwrap_or, codes, decimal}
-use Rattle.std.specs.List.{flat_map, slice_get}
+use Rattle.std.specs.List.{slice_get}
 use Rattle.cfdp_status.specs.Codes.{octet_of}
 use Rattle.cfdp_status.specs.Transaction.{transaction_name}
 use Rattle.cfdp_status.specs.declared.action.Action.{Action}
@@ -30,7 +29,7 @@ use Rattle.cfdp_verifier.specs.declared.refusal.Place.{Place}
 use Rattle.cfdp_verifier.specs.declared.refusal.Place.TheVariants as place
 use Rattle.cfdp_verifier.specs.declared.refusal.Refusal.{Refusal}
 use Rattle.cfdp_verifier.specs.declared.refusal.Refusal.TheVariants.{TooManyRequests, BadPath, Conflict, DestinationNotAllowed, WouldFail, TooLong, NoRoom}
-use Rattle.cfdp_texts.specs.Replies.{labelled, line, word, two_digits, shown_octet}
+use Rattle.cfdp_texts.specs.Replies.{labelled, line, word, two_digits, shown}
 
 -- numbers and names ------------------------------------------------------------------
 
@@ -45,9 +44,6 @@ grouped n = with_commas (decimal n)
 
 unfoldable pub counted : ℕ → (one many : List ℕ) → List ℕ
 counted n one many = grouped n ++ (if n == 1 then one else many)
-
-unfoldable pub shown : List ℕ → List ℕ
-shown octets = flat_map shown_octet octets
 
 -- requests ---------------------------------------------------------------------------
 

@@ -3,8 +3,8 @@
 ghost use Rattle.std.specs.Prelude.{◌≡◌, ◌++◌, OnOk};
 ghost use Rattle.cfdp_verdicts.specs.Words.{absent, cause_of, not_allowed, octets_not_allowed, rename_not_allowed, said_of_name};
 
-use crate::names::push_shown;
 use cfdp_status::{Action, Status};
+use cfdp_texts::push_shown;
 use std::alloc::AllocError;
 
 /// Appends a name, and what is said of it.

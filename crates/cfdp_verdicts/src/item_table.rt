@@ -6,15 +6,16 @@ ghost use Rattle.cfdp_actions.specs.Actions.{Install, Perform};
 ghost use Rattle.cfdp_leases.specs.Items.{items_of};
 ghost use Rattle.cfdp_paths.specs.Paths.{joined};
 ghost use Rattle.cfdp_verdicts.specs.Tables.{heading, item_words, numbers_text, padded, paths_words, row_text, rows_text, table_text};
-ghost use Rattle.cfdp_verdicts.specs.Words.{grouped, shown};
+ghost use Rattle.cfdp_texts.specs.Replies.{shown};
+ghost use Rattle.cfdp_verdicts.specs.Words.{grouped};
 
 use crate::costing::Cost;
-use crate::names::{push_grouped, push_shown};
+use crate::names::push_grouped;
 use crate::requests::push_acted;
 use cfdp_actions::Request;
 use cfdp_paths::Path;
 use cfdp_status::Action;
-use cfdp_texts::push_labelled;
+use cfdp_texts::{push_labelled, push_shown};
 use std::alloc::{AllocError, Global};
 
 /// How many octets a number has at least, with the spaces before it.

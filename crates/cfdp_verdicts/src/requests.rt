@@ -4,9 +4,8 @@ ghost use Rattle.std.specs.Prelude.{◌≡◌, ◌+◌, ◌++◌, ◌<◌, ◌^�
 ghost use Rattle.std.specs.Option.{option_map};
 ghost use Rattle.cfdp_verdicts.specs.Words.{acted, word_between, numbered, request_words, second_words, verb_of};
 
-use crate::names::push_shown;
 use cfdp_status::Action;
-use cfdp_texts::push_labelled;
+use cfdp_texts::{push_labelled, push_shown};
 use cfdp_tlv::FilestoreRequest;
 use std::alloc::AllocError;
 

@@ -114,8 +114,8 @@ module _ (prefixes : List Path) (F : Filestore) (x : List ℕ) (p : Path) (reque
 
   answered_so : installed_if done ≡ (row prefixes (alone (only (footprint_of (Install p ∷ map Perform requests)) F) x) 0 (Install p)).answer
   answered_so =
-      let told = tells (alone (only fp F) []) (blocks (alone (only fp F) [])) (blocks (alone (only fp F) [])) 0 x seen long in
-      subst (λ (fp : Footprint). installed_if done ≡ (row prefixes (alone (only fp F) x) 0 (Install p)).answer) is told.0
+      let stated = tells (alone (only fp F) []) (blocks (alone (only fp F) [])) (blocks (alone (only fp F) [])) 0 x seen long in
+      subst (λ (fp : Footprint). installed_if done ≡ (row prefixes (alone (only fp F) x) 0 (Install p)).answer) is stated.0
 
   pub not_installed : done ≡ false → (spare : ℕ) → judged_apart prefixes F spare x (Install p ∷ map Perform requests) None ≡ Refuse DestinationNotAllowed
   not_installed failed spare =
@@ -135,14 +135,14 @@ module _ (prefixes : List Path) (F : Filestore) (x : List ℕ) (p : Path) (reque
       let s = blocks (alone G []) in
       let both = covered prefixes F x items in
       let now = subst (λ (fp : Footprint). Seen (alone (only fp F) []) (blocks (alone (only fp F) [])) (blocks (alone (only fp F) [])) 0) is seen in
-      let told = tells (alone G []) s s 0 x now long in
-      let installed : (row prefixes H 0 (Install p)).answer ≡ Installed = sym told.0 ∙ ap installed_if ok in
+      let stated = tells (alone G []) s s 0 x now long in
+      let installed : (row prefixes H 0 (Install p)).answer ≡ Installed = sym stated.0 ∙ ap installed_if ok in
       record {
         here = K;
         start = s;
         high = max s (max (blocks H) (blocks K));
         taken = 0 + (1 + step_bound H (Install p));
-        seen = told.1 ok;
+        seen = stated.1 ok;
         within = omega arith;
         allowed = both.allowed ∙ ap succeeded installed;
         failures = ap (first_failure 0) both.statuses ∙ ap (λ a. first_failure 0 (a ∷ statuses prefixes K 0 (map Perform requests))) installed;

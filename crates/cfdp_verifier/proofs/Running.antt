@@ -55,9 +55,9 @@ pub some_of : {A : Type 0} (P : A → Type 0) (o : Option A) (a : A) → o ≡ S
 some_of P o a is h = subst (λ o. IfSome o P) is h
 
 -- what a view says of an item, at the list's prefixes
-pub told_at : (prefixes : List Path) (v w : Sketch) (item : Item) (answer : Answer) → v.prefixes ≡ prefixes → Tells v w item answer →
+pub answer_at : (prefixes : List Path) (v w : Sketch) (item : Item) (answer : Answer) → v.prefixes ≡ prefixes → Tells v w item answer →
     Goes (IsViewOf v) (IsViewOf w) prefixes item answer
-told_at prefixes v w item answer same tells = subst (λ (ps : List Path). Goes (IsViewOf v) (IsViewOf w) ps item answer) same tells
+answer_at prefixes v w item answer same tells = subst (λ (ps : List Path). Goes (IsViewOf v) (IsViewOf w) ps item answer) same tells
 
 pub view_counts : (w : Sketch) → Counts (IsViewOf w) w
 view_counts w G start most spent seen = (seen.need, seen.steps)
@@ -90,11 +90,11 @@ abbrev pub AfterSparse : Sketch → List Item → Status → Filestore → ℕ �
 AfterSparse w items status G start most spent = is_successful status ≡ true → IsSparseViewOf w items G start most spent
 
 -- what a view of what a list sees says of its next request
-pub told_at_sparse : (prefixes : List Path) (v w : Sketch) (requests : List Request) (number : ℕ) (request : Request) (status : Status) →
+pub answer_at_sparse : (prefixes : List Path) (v w : Sketch) (requests : List Request) (number : ℕ) (request : Request) (status : Status) →
     number < length requests → request ≡ get_or requests number request → v.prefixes ≡ prefixes → TellsSparse v w request status →
     Goes (IsSparseViewOf v (map Perform (drop number requests))) (AfterSparse w (map Perform (drop (number + 1) requests)) status) prefixes
     (Perform request) (Performed status)
-told_at_sparse prefixes v w requests number request status more is same tells =
+answer_at_sparse prefixes v w requests number request status more is same tells =
     subst (λ (items : List Item). Goes (IsSparseViewOf v items) (AfterSparse w (map Perform (drop (number + 1) requests)) status) prefixes
     (Perform request) (Performed status)) (sym (next_of_them requests number request more is))
     (subst (λ (ps : List Path). Goes (IsSparseViewOf v (Perform request ∷ map Perform (drop (number + 1) requests)))
@@ -116,15 +116,15 @@ module _ (prefixes : List Path) (F : Filestore) (items : List Item) (start high 
       GoesOn prefixes F items start high taken Seen number (Perform request ∷ rest) → GoesOn prefixes F items start high taken Next (number + 1) rest
   unfolding steps peak
   goes Seen Next number request rest status tells done g =
-      let told = tells g.here start g.most g.spent g.seen in
+      let stated = tells g.here start g.most g.spent g.seen in
       let next = performed prefixes g.here 0 (Perform request) in
       record {
         here = next;
         most = max g.most (blocks next);
         spent = g.spent + (1 + step_bound g.here (Perform request));
-        seen = told.1;
+        seen = stated.1;
         within = omega arith;
-        failure = g.failure ∙ first_of_them prefixes g.here number request rest status told.0
+        failure = g.failure ∙ first_of_them prefixes g.here number request rest status stated.0
             ∙ ap (λ b. cond b (first_failure (number + 1) (statuses prefixes next 0 rest)) (Some (number, status))) done;
         peaks = g.peaks ∙ raised g.most (blocks g.here) (blocks next) (peak prefixes next 0 rest) g.within (low prefixes next rest);
         counts = g.counts ∙ grouped g.spent (1 + step_bound g.here (Perform request)) (steps prefixes next 0 rest);
@@ -134,9 +134,9 @@ module _ (prefixes : List Path) (F : Filestore) (items : List Item) (start high 
       Goes Seen Next prefixes (Perform request) (Performed status) → is_successful status ≡ false →
       GoesOn prefixes F items start high taken Seen number (Perform request ∷ rest) → first_failure 0 (statuses prefixes F 0 items) ≡ Some (number, status)
   fails Seen Next number request rest status tells failed g =
-      let told = tells g.here start g.most g.spent g.seen in
+      let stated = tells g.here start g.most g.spent g.seen in
       let next = performed prefixes g.here 0 (Perform request) in
-      g.failure ∙ first_of_them prefixes g.here number request rest status told.0
+      g.failure ∙ first_of_them prefixes g.here number request rest status stated.0
       ∙ ap (λ b. cond b (first_failure (number + 1) (statuses prefixes next 0 rest)) (Some (number, status))) failed
 
   -- said in another way
@@ -181,5 +181,5 @@ module _ (prefixes : List Path) (F : Filestore) (items : List Item) (start high 
       let none = ap (map Perform) (drop-past requests number all) in
       let last = subst (λ (rest : List Item). GoesOn prefixes F items start high taken Seen number rest) none g in
       let highest : last.most ≡ max high (peak prefixes F 0 items) = omega (arith, last.peaks, last.within) in
-      let told = counts last.here start last.most last.spent last.seen in
-      (last.failure, told.0 ∙ ap (λ n. min (n - start) most_need) highest, told.1 ∙ ap capped (sym (last.counts ∙ add-zero last.spent)))
+      let stated = counts last.here start last.most last.spent last.seen in
+      (last.failure, stated.0 ∙ ap (λ n. min (n - start) most_need) highest, stated.1 ∙ ap capped (sym (last.counts ∙ add-zero last.spent)))

@@ -45,8 +45,8 @@ pub fn begin_list(ways: &mut [Way], block: BlockId)
     };
 }
 
-/// A block comes after the last one of a list, of which it is no block yet. No other block's way changes. In constant
-/// time.
+/// Adds a block after the last one of a list. The block must not be in the list yet. No other block's way changes. In
+/// constant time.
 pub fn extend_list(ways: &mut [Way], last: &Cursor, block: BlockId)
     requires within { block < length ways.old }
     requires small { length ways.old ≤ 65536 }

@@ -11,9 +11,10 @@
 --   code_field        a field with a code, and what it means
 --   name_field        a field with a name
 --   digits_field      a field with octets in hexadecimal
-use Rattle.std.specs.Prelude.{ℕ, ◌+◌, ◌==◌, ◌&&◌, ◌||◌, Bool, true, false, not, nat_le, if◌then◌else◌, List, [], ◌∷◌, ◌++◌, map, codes, decimal}
+use Rattle.std.specs.Prelude.{ℕ, ◌+◌, ◌==◌, ◌&&◌, ◌||◌, Bool, true, false, nat_le, if◌then◌else◌, List, [], ◌∷◌, ◌++◌, map, codes, decimal}
 use Rattle.std.specs.List.{flat_map}
 use Rattle.hex.specs.Hex.{encode_lower}
+use Rattle.cfdp_texts.specs.Replies.{is_plain}
 use Rattle.cfdp_words.specs.Names.{name_words}
 use Rattle.cfdp_words.specs.declared.names.Name.{Name}
 use Rattle.cfdp_words.specs.declared.style.Style.{Style}
@@ -21,9 +22,6 @@ use Rattle.cfdp_words.specs.declared.style.Style.TheVariants.{Text, Json}
 
 abbrev pub key_octet : ℕ → ℕ
 key_octet octet = if octet == 32 then 95 else if nat_le 65 octet && nat_le octet 90 then octet + 32 else octet
-
-abbrev pub is_plain_octet : ℕ → Bool
-is_plain_octet octet = nat_le 33 octet && nat_le octet 126 && not (octet == 37)
 
 abbrev pub is_quoted : ℕ → Bool
 is_quoted octet = (octet == 34) || (octet == 92)
@@ -33,7 +31,7 @@ plain_octet Text octet = octet ∷ []
 plain_octet Json octet = if is_quoted octet then 92 ∷ octet ∷ [] else octet ∷ []
 
 abbrev pub octet_text : Style → ℕ → List ℕ
-octet_text style octet = if is_plain_octet octet then plain_octet style octet else 37 ∷ encode_lower (octet ∷ [])
+octet_text style octet = if is_plain octet then plain_octet style octet else 37 ∷ encode_lower (octet ∷ [])
 
 abbrev pub name_text : Style → List ℕ → List ℕ
 name_text style name = flat_map (octet_text style) name

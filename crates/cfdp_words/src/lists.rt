@@ -12,7 +12,7 @@ use crate::codes::{action_words, status_words};
 use crate::fields::{push_code_field, push_digits_field, push_field, push_label, push_name_field};
 use crate::names::Name;
 use crate::style::{push_decimal, push_digits};
-use cfdp_directives::Range;
+use cfdp_directives::NakRange;
 use cfdp_pdus::Messages;
 use cfdp_status::Action;
 use cfdp_tlv::{FilestoreRequest, FilestoreResponse};
@@ -125,7 +125,7 @@ fn push_response(
 }
 
 /// Appends a segment request.
-fn push_range(style: Style, range: &Range, text: &mut Vec<u8>) -> Result<(), AllocError>
+fn push_range(style: Style, range: &NakRange, text: &mut Vec<u8>) -> Result<(), AllocError>
     ensures { OnOk result (text.new.items ≡ text.old.items ++ range_item style range.now) }
 {
     let (start, end) = *range;
@@ -200,7 +200,7 @@ fn push_each_response(
 }
 
 /// Appends segment requests, with what comes between them.
-fn push_each_range(style: Style, ranges: &[Range], text: &mut Vec<u8>) -> Result<(), AllocError>
+fn push_each_range(style: Style, ranges: &[NakRange], text: &mut Vec<u8>) -> Result<(), AllocError>
     ensures { OnOk result (text.new.items ≡ text.old.items ++ each style (range_item style) ranges.now) }
 {
     let [first, rest @ ..] = ranges else {
@@ -268,7 +268,7 @@ pub(crate) fn push_responses(
 #[tactic(auto, unfolding(crate::specs::Shown::list_text))]
 pub(crate) fn push_ranges(
     style: Style,
-    ranges: &[Range],
+    ranges: &[NakRange],
     text: &mut Vec<u8>,
 ) -> Result<(), AllocError>
     ensures { OnOk result (text.new.items ≡ text.old.items

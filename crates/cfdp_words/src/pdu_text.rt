@@ -23,7 +23,7 @@ use crate::lists::{push_messages, push_ranges, push_requests, push_responses};
 use crate::names::{Name, PduKind};
 use crate::style::push_decimal;
 use cfdp_crc::{CrcFault, unseal};
-use cfdp_directives::{Ack, Directive, Nak, NakFault, Prompt, Range, read_directive, read_nak};
+use cfdp_directives::{Ack, Directive, Nak, NakFault, NakRange, Prompt, read_directive, read_nak};
 use cfdp_pdus::{
     Eof, FileData, Finished, Header, Messages, Metadata, Pdu, PduFault, directive, read_messages,
     read_pdu,
@@ -31,11 +31,11 @@ use cfdp_pdus::{
 use std::alloc::{AllocError, Global};
 
 /// How many requests a NAK PDU has at most.
-const MOST_REQUESTS: usize = 8_190;
+const MOST_NAK_REQUESTS: usize = 8_190;
 
 /// How many octets came, and whether they had a CRC.
 #[derive(Clone, Copy)]
-struct Came {
+struct SizeAndCrc {
     len: usize,
     has_crc: bool,
 }
@@ -163,7 +163,7 @@ fn push_header(
 /// Appends the beginning of a PDU: its kind and its header.
 fn push_start(
     style: Style,
-    came: Came,
+    came: SizeAndCrc,
     kind: PduKind,
     header: &Header,
     text: &mut Vec<u8>,
@@ -321,7 +321,7 @@ fn prompt_words(prompt: Prompt) -> &'static [u8]
 fn push_nak(
     style: Style,
     nak: &Nak,
-    requests: &[Range],
+    requests: &[NakRange],
     text: &mut Vec<u8>,
 ) -> Result<(), AllocError>
     requires { nak.now.count ≤ length requests.now }
@@ -388,7 +388,7 @@ fn nak_fault_words(fault: NakFault) -> &'static [u8]
 /// Appends an ACK PDU.
 fn push_ack_pdu(
     style: Style,
-    came: Came,
+    came: SizeAndCrc,
     header: &Header,
     ack: &Ack,
     text: &mut Vec<u8>,
@@ -404,7 +404,7 @@ fn push_ack_pdu(
 /// Appends a Prompt PDU.
 fn push_prompt_pdu(
     style: Style,
-    came: Came,
+    came: SizeAndCrc,
     header: &Header,
     prompt: Prompt,
     text: &mut Vec<u8>,
@@ -421,7 +421,7 @@ fn push_prompt_pdu(
 /// Appends a Keep Alive PDU.
 fn push_keep_alive_pdu(
     style: Style,
-    came: Came,
+    came: SizeAndCrc,
     header: &Header,
     progress: u64,
     text: &mut Vec<u8>,
@@ -438,7 +438,7 @@ fn push_keep_alive_pdu(
 /// Appends an ACK, Prompt or Keep Alive PDU.
 fn push_directive(
     style: Style,
-    came: Came,
+    came: SizeAndCrc,
     octets: &[u8],
     text: &mut Vec<u8>,
 ) -> Result<(), AllocError>
@@ -460,9 +460,9 @@ fn push_directive(
 /// Appends a NAK PDU.
 fn push_nak_pdu(
     style: Style,
-    came: Came,
+    came: SizeAndCrc,
     nak: &Nak,
-    requests: &[Range],
+    requests: &[NakRange],
     text: &mut Vec<u8>,
 ) -> Result<(), AllocError>
     requires { nak.now.count ≤ length requests.now }
@@ -479,14 +479,14 @@ fn push_nak_pdu(
 fn push_read_nak(
     alloc: Global,
     style: Style,
-    came: Came,
+    came: SizeAndCrc,
     octets: &[u8],
     text: &mut Vec<u8>,
 ) -> Result<(), AllocError>
     ensures { OnOk result (text.new.items ≡ text.old.items
         ++ nak_text style came.len came.has_crc (nak_within 8190 octets.now)) }
 {
-    let mut requests = vec![in alloc; (0u64, 0u64); MOST_REQUESTS]?;
+    let mut requests = vec![in alloc; (0u64, 0u64); MOST_NAK_REQUESTS]?;
     match read_nak(octets, &mut requests) {
         Ok(nak) => push_nak_pdu(style, came, &nak, &requests, text),
         Err(fault) => push_damaged(style, came.len, nak_fault_words(fault), text),
@@ -497,7 +497,7 @@ fn push_read_nak(
 fn push_other(
     alloc: Global,
     style: Style,
-    came: Came,
+    came: SizeAndCrc,
     octets: &[u8],
     code: u8,
     text: &mut Vec<u8>,
@@ -514,7 +514,7 @@ fn push_other(
 /// Appends a Metadata PDU.
 fn push_metadata_pdu(
     style: Style,
-    came: Came,
+    came: SizeAndCrc,
     header: &Header,
     messages: Messages<'_>,
     metadata: &Metadata,
@@ -532,7 +532,7 @@ fn push_metadata_pdu(
 /// Appends a File Data PDU.
 fn push_data_pdu(
     style: Style,
-    came: Came,
+    came: SizeAndCrc,
     header: &Header,
     file_data: &FileData,
     text: &mut Vec<u8>,
@@ -548,7 +548,7 @@ fn push_data_pdu(
 /// Appends an EOF PDU.
 fn push_eof_pdu(
     style: Style,
-    came: Came,
+    came: SizeAndCrc,
     header: &Header,
     eof: &Eof,
     text: &mut Vec<u8>,
@@ -564,7 +564,7 @@ fn push_eof_pdu(
 /// Appends a Finished PDU.
 fn push_finished_pdu(
     style: Style,
-    came: Came,
+    came: SizeAndCrc,
     header: &Header,
     finished: &Finished,
     text: &mut Vec<u8>,
@@ -581,7 +581,7 @@ fn push_finished_pdu(
 fn push_plain(
     alloc: Global,
     style: Style,
-    came: Came,
+    came: SizeAndCrc,
     octets: &[u8],
     text: &mut Vec<u8>,
 ) -> Result<(), AllocError>
@@ -619,7 +619,7 @@ pub fn show(alloc: Global, style: Style, octets: &mut [u8]) -> Result<Vec<u8>, A
     let len = octets.len();
     match unseal(octets) {
         Ok(plain) => {
-            let came = Came {
+            let came = SizeAndCrc {
                 len,
                 has_crc: plain < len,
             };

@@ -2,9 +2,9 @@
 
 ghost use Rattle.std.specs.Prelude.{◌≡◌, ◌++◌, OnOk, decimal, map};
 ghost use Rattle.hex.specs.Hex.{encode_lower};
-ghost use Rattle.cfdp_words.specs.Style.{key_octet, is_plain_octet, is_quoted, octet_text, name_text};
+ghost use Rattle.cfdp_words.specs.Style.{key_octet, is_quoted, octet_text, name_text};
 
-use cfdp_texts::{encode, push_number};
+use cfdp_texts::{encode, is_plain, push_number};
 use std::alloc::AllocError;
 
 /// How a PDU is shown.
@@ -50,13 +50,6 @@ pub(crate) fn push_digits(octets: &[u8], text: &mut Vec<u8>) -> Result<(), Alloc
     ensures { OnOk result (text.new.items ≡ text.old.items ++ encode_lower octets.now) }
 {
     encode(octets, text)
-}
-
-/// Whether an octet of a name is written as it is.
-fn is_plain(octet: u8) -> bool
-    ensures { result ≡ is_plain_octet octet }
-{
-    octet.is_ascii_graphic() && octet != b'%'
 }
 
 /// Whether an octet has a `\` before it in JSON.

@@ -6,11 +6,11 @@ use Rattle.std.specs.Prelude.{◌-◌, ◌==◌, Bool, true, false, if◌then◌
 use Rattle.cfdp_draw.specs.declared.axis.AxisPosition.{AxisPosition}
 use Rattle.cfdp_draw.specs.declared.chart.Lane.{Lane}
 use Rattle.cfdp_draw.specs.declared.chart.PhaseChange.{PhaseChange}
-use Rattle.cfdp_draw.specs.declared.kinds.MarkKind.{MarkKind}
-use Rattle.cfdp_draw.specs.declared.kinds.MarkKind.TheVariants.{FileData}
-use Rattle.cfdp_draw.specs.declared.kinds.DrawnPhase.{DrawnPhase}
-use Rattle.cfdp_draw.specs.declared.kinds.Direction.{Direction}
-use Rattle.cfdp_draw.specs.declared.kinds.Direction.TheVariants.{Came, Dropped, Sent}
+use Rattle.cfdp_draw.specs.declared.mark_kinds.MarkKind.{MarkKind}
+use Rattle.cfdp_draw.specs.declared.mark_kinds.MarkKind.TheVariants.{FileData}
+use Rattle.cfdp_draw.specs.declared.mark_kinds.DrawnPhase.{DrawnPhase}
+use Rattle.cfdp_draw.specs.declared.mark_kinds.Direction.{Direction}
+use Rattle.cfdp_draw.specs.declared.mark_kinds.Direction.TheVariants.{Came, Dropped, Sent}
 
 abbrev pub is_dropped : Direction → Bool
 is_dropped Dropped = true

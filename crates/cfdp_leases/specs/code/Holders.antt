@@ -4,13 +4,13 @@
 --                               one, or both
 --     holders_at grants p       those by all grants, in order of admission
 --     others id holders         those of other transactions
---     holders_in row            the holders that a row of the map has
---     own_row row p             the holders that a row has, where it is the path's
---     under_hash paths p        those that the row under the path's hash has, where it is the path's;  IsOtherPath
+--     holders_in held_path      the holders that a record of the map has
+--     own_holders held_path p   the holders that a record has, where it is the path's
+--     under_hash paths p        those that the record under the path's hash has, where it is the path's;  IsOtherPath
 --                               paths p: it is not
---     holders_by_path paths p   the holders of a path: of its own row, else by the map of the other paths
---     HasHash hash row          the row's path, if there is a row, has this hash
---     Holds paths holders       the two maps have exactly these holders: each path's, and no row more
+--     holders_by_path paths p   the holders of a path: of its own record, else by the map of the other paths
+--     HasHash hash held_path    the record's path, if there is a record, has this hash
+--     Holds paths holders       the two maps have exactly these holders: each path's, and no record more
 --     AreFree at holders        nobody holds a path of the test;  AreOwn id at holders: nobody but the transaction does
 --     HoldsSome id at holders paths      these holders, and of the transaction whichever, where `at` is true
 use Rattle.std.specs.Prelude.{◌≡◌, ℕ, Bool, true, false, not, if◌then◌else◌, List, [], ◌∷◌, ◌++◌, Option, Some, None, filter, flat_map, IsSome}
@@ -26,7 +26,7 @@ use Rattle.cfdp_leases.specs.declared.leased_paths.Holder.{Holder}
 use Rattle.cfdp_leases.specs.declared.leased_paths.Holders.{Holders}
 use Rattle.cfdp_leases.specs.declared.leased_paths.Holders.TheVariants.{One, Many}
 use Rattle.cfdp_leases.specs.declared.leased_paths.LeasedPaths.{LeasedPaths}
-use Rattle.cfdp_leases.specs.declared.leased_paths.Row.{Row}
+use Rattle.cfdp_leases.specs.declared.leased_paths.LeasedPath.{LeasedPath}
 use Rattle.cfdp_leases.specs.Footprint.{Footprint}
 use Rattle.cfdp_leases.specs.Leases.{Grants, is_same}
 
@@ -48,37 +48,37 @@ abbrev pub unless_none : List Holder → Option (List Holder)
 unless_none [] = None
 unless_none (h ∷ holders) = Some (h ∷ holders)
 
--- the holders that a row of the map has
+-- the holders that a record of the map has
 abbrev pub holders_in : Holders → List Holder
 holders_in (One holder) = holder ∷ []
 holders_in (Many holders) = holders.items
 
-abbrev pub own_row : Option Row → Path → Option Holders
-own_row None p = None
-own_row (Some row) p = if same_path row.path p then Some row.holders else None
+abbrev pub own_holders : Option LeasedPath → Path → Option Holders
+own_holders None p = None
+own_holders (Some held_path) p = if same_path held_path.path p then Some held_path.holders else None
 
 abbrev pub under_hash : LeasedPaths → Path → Option Holders
-under_hash paths p = own_row (get nat_cmp paths.rows (hash_of p)) p
+under_hash paths p = own_holders (get nat_cmp paths.by_hash (hash_of p)) p
 
 -- the path is not the one under its hash
 abbrev pub IsOtherPath : LeasedPaths → Path → Type 0
 IsOtherPath paths p = under_hash paths p ≡ None
 
--- the row of a path, wherever it is
+-- the record of a path, wherever it is
 abbrev pub holders_by_path : LeasedPaths → Path → Option Holders
 holders_by_path paths p = option_or (under_hash paths p) (get path_cmp paths.others p)
 
--- a row under a hash has a path of that hash
-abbrev pub HasHash : ℕ → Option Row → Type 0
+-- a record under a hash has a path of that hash
+abbrev pub HasHash : ℕ → Option LeasedPath → Type 0
 HasHash hash None = Unit {0}
-HasHash hash (Some row) = hash_of row.path ≡ hash
+HasHash hash (Some held_path) = hash_of held_path.path ≡ hash
 
--- Each path has the holders that the function says, and no row if it says none. No path is both under its hash and
--- among the others. Each row is under the hash of its path, so the first clause speaks of every row.
+-- Each path has the holders that the function says, and no record if it says none. No path is both under its hash and
+-- among the others. Each record is under the hash of its path, so the first clause speaks of every record.
 pub record Holds (paths : LeasedPaths) (holders : Path → List Holder) : Type 0 where
-  pub rows : (p : Path) → option_map holders_in (holders_by_path paths p) ≡ unless_none (holders p)
+  pub by_hash : (p : Path) → option_map holders_in (holders_by_path paths p) ≡ unless_none (holders p)
   pub once : (p : Path) → IsSome (under_hash paths p) → get path_cmp paths.others p ≡ None
-  pub hashes : (hash : ℕ) → HasHash hash (get nat_cmp paths.rows hash)
+  pub hashes : (hash : ℕ) → HasHash hash (get nat_cmp paths.by_hash hash)
 
 -- nobody holds a path at which the test is true
 abbrev pub AreFree : (Path → Bool) → (Path → List Holder) → Type 0
@@ -92,6 +92,6 @@ AreOwn id at holders = (p : Path) → at p ≡ true → others id (holders p) �
 pub record HoldsSome (id : TransactionId) (at : Path → Bool) (holders : Path → List Holder)
     (paths : LeasedPaths) : Type 0 where
   pub now : Path → List Holder
-  pub rows : Holds paths now
+  pub by_hash : Holds paths now
   pub kept : (p : Path) → others id (now p) ≡ others id (holders p)
   pub elsewhere : (p : Path) → at p ≡ false → now p ≡ holders p

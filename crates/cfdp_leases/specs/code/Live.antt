@@ -37,4 +37,4 @@ pub record AreKept (footprints : Slab Footprint) (live : List LiveGrant) (paths 
   pub no_others : HasNoOthers footprints live
   pub rooted : AllByRecursion (λ g. HasAncestors g.1) (grants_of footprints live)
   pub apart : AreApart (grants_of footprints live)
-  pub rows : Holds paths (holders_at (grants_of footprints live))
+  pub are_held : Holds paths (holders_at (grants_of footprints live))

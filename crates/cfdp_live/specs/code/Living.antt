@@ -4,4 +4,4 @@ use Rattle.std.specs.Prelude.{ℕ, List, ◌++◌}
 use Rattle.cfdp_live.specs.Living.{Out}
 
 abbrev pub with_sent : Out → List (List ℕ) → Out
-with_sent o pdus = record { sent = o.sent ++ pdus; told = o.told; ended = o.ended }
+with_sent o pdus = record { sent = o.sent ++ pdus; reported = o.reported; ended = o.ended }

@@ -15,7 +15,7 @@
 --     DoesOrNot, PerformsOrNot                   or there was no memory to make a path, though it would be successful,
 --                                                and it is as before
 --     gives_way, can_install                     whether a file may be put where this is, or at a path
---     extent_standing, added ss m                what a store says that is at a path;  the map with all of these
+--     extent_of_existing, added ss m             what a store says that is at a path;  the map with all of these
 --     AddsWhere test F m m'                      the map with what is in F at the paths that pass the test
 --     IsSurvey m test F                          the map says what is in F at these paths, and no more
 use Rattle.std.specs.Prelude.{◌≡◌, ℕ, ◌+◌, ◌≤◌, ◌^◌, Bool, true, false, not, ◌&&◌, is_some, IsTrue, if◌then◌else◌, List, [], ◌∷◌, Option, Some, None, Result, Ok, Err}
@@ -27,7 +27,7 @@ use Rattle.cfdp_status.specs.declared.status.Status.{Status}
 use Rattle.cfdp_actions.specs.Filestore.{Filestore, blocks_of, after}
 use Rattle.cfdp_actions.specs.Actions.{Request, Item, Perform, Performed, succeeded, is_protected, table, row}
 use Rattle.cfdp_actions.specs.Store.{is_file_kind}
-use Rattle.cfdp_actions.specs.declared.kind.Standing.{Standing}
+use Rattle.cfdp_actions.specs.declared.kind.ExistingNode.{ExistingNode}
 use Rattle.cfdp_leases.specs.Items.{performed, bound_by}
 use Rattle.cfdp_states.specs.declared.extent.Extent.{Extent}
 use Rattle.cfdp_states.specs.declared.extent.Extent.TheVariants as extent
@@ -103,8 +103,8 @@ pub record IsOutline (m : Extents) (F : Filestore) : Type 0 where
   pub found : (p : Path) → finite.get m p ≡ extent_at F p
 
 -- whatever filestore the map describes: the status is the row's, and the map after it describes the filestore after it
-pub record Does (m m' : Extents) (request : Request) (told : Status) : Type 0 where
-  pub status : (F : Filestore) → IsOutline m F → Performed told ≡ (table F request).answer
+pub record Does (m m' : Extents) (request : Request) (stated : Status) : Type 0 where
+  pub status : (F : Filestore) → IsOutline m F → Performed stated ≡ (table F request).answer
   pub outlines : (F : Filestore) → IsOutline m F → IsOutline m' (after F (table F request).changes)
   pub staged : (F : Filestore) → IsOutline m F → (after F (table F request).changes).staged ≡ F.staged
 
@@ -115,8 +115,8 @@ DoesOrNot m m' request (Err memory) = (m' ≡ m) × IsTrue (makes_path request)
     × ((F : Filestore) → IsOutline m F → IsTrue (succeeded (table F request).answer))
 
 -- the same where prefixes are protected
-pub record Performs (prefixes : List Path) (m m' : Extents) (request : Request) (told : Status) : Type 0 where
-  pub status : (F : Filestore) → IsOutline m F → Performed told ≡ (row prefixes F 0 (Perform request)).answer
+pub record Performs (prefixes : List Path) (m m' : Extents) (request : Request) (stated : Status) : Type 0 where
+  pub status : (F : Filestore) → IsOutline m F → Performed stated ≡ (row prefixes F 0 (Perform request)).answer
   pub outlines : (F : Filestore) → IsOutline m F → IsOutline m' (performed prefixes F 0 (Perform request))
   pub staged : (F : Filestore) → IsOutline m F → (performed prefixes F 0 (Perform request)).staged ≡ F.staged
 
@@ -136,13 +136,13 @@ abbrev pub can_install : List Path → Extents → Path → Bool
 can_install prefixes m p = good_parent m p && gives_way prefixes p (finite.get m p)
 
 -- what a store says that is at a path
-abbrev pub extent_standing : Standing → Extent
-extent_standing s = if is_file_kind s.kind then extent.File s.size else extent.Directory
+abbrev pub extent_of_existing : ExistingNode → Extent
+extent_of_existing s = if is_file_kind s.kind then extent.File s.size else extent.Directory
 
 -- with what was found, one after another
-abbrev pub added : List Standing → Extents → Extents
+abbrev pub added : List ExistingNode → Extents → Extents
 added [] m = m
-added (s ∷ ss) m = added ss (finite.insert m s.path (extent_standing s))
+added (s ∷ ss) m = added ss (finite.insert m s.path (extent_of_existing s))
 
 -- at the paths that pass the test and at which something exists, that; at the others as before
 abbrev pub AddsWhere : (Path → Bool) → Filestore → Extents → Extents → Type 0

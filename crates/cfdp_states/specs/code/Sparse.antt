@@ -125,7 +125,7 @@ pub record HidesIn (visible : Path → Bool) (m : Extents) (p : Path) (n : ℕ) 
 -- a path passes as its first 8 names do
 pub record IsSparseSurvey (known visible : Path → Bool) (m : Extents) (done : Path → Bool)
     (F : Filestore) : Type 0 where
-  pub told : (p : Path) → IsTrue (visible p) → finite.get m p ≡ (if done (take 8 p) then extent_at F p else None)
+  pub stated : (p : Path) → IsTrue (visible p) → finite.get m p ≡ (if done (take 8 p) then extent_at F p else None)
   -- a file is one of the filestore, whether it is visible or not
   pub kept : (p : Path) → (finite.get m p ≡ None) ⊎ ((finite.get m p ≡ Some extent.Directory)
       ⊎ (finite.get m p ≡ extent_at F p))

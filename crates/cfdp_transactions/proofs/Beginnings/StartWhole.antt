@@ -40,24 +40,24 @@ none_in (suc n) (suc i) = none_in n i
 pub begun_booked : (s : Store) (b : Books) → b.table ≡ [] → b.leases ≡ [] → s.capacity ≡ b.config.blocks → b.config.blocks ≤ 65536 →
     b.quota ≡ unreserved b.config.blocks (free_blocks s) → IsBooked s b
 begun_booked s b none unleased capacity few quota = record {
-  leases = unleased ∙ sym (ap (λ (rows : List TableEntryFields). leases_of (table_of s.filestore rows)) none);
+  leases = unleased ∙ sym (ap (λ (table_entries : List TableEntryFields). leases_of (table_of s.filestore table_entries)) none);
   budget = record {
     in_all = ap (λ (q : Budget). q.capacity) quota;
     not_used = ap (λ (q : Budget). q.free) quota ∙ ap (λ (n : ℕ). n - blocks s.filestore) capacity;
     not_granted = omega (
       arith,
       ap spare quota,
-      ap (λ (rows : List TableEntryFields). reserves (table_of s.filestore rows)) none,
+      ap (λ (table_entries : List TableEntryFields). reserves (table_of s.filestore table_entries)) none,
       capacity,
       sum_by-replicate reserve_of 64 None,
     );
     opened = λ k e at. absurd (let empty : slice_get (table_of s.filestore b.table) k
-        ≡ None = ap (λ (rows : List TableEntryFields). slice_get (table_of s.filestore rows) k) none in cc);
+        ≡ None = ap (λ (table_entries : List TableEntryFields). slice_get (table_of s.filestore table_entries) k) none in cc);
     closed = λ slot vacant. ap (λ (q : Budget). entry_at q slot) quota ∙ none_in 64 slot;
   };
   capacity = capacity;
   few = few;
-  pieces = λ k r at. absurd (let empty : slice_get b.table k ≡ None = ap (λ (rows : List TableEntryFields). slice_get rows k) none in cc);
+  pieces = λ k r at. absurd (let empty : slice_get b.table k ≡ None = ap (λ (table_entries : List TableEntryFields). slice_get table_entries k) none in cc);
 }
 
 pub room_in : (s : Store) (b : Books) (p : Path) (node : Node) → IsBooked s b → put_fault (world_of s b) p node ≡ None → weight (Some node) ≤ free_blocks s

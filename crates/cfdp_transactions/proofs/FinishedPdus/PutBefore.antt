@@ -2,9 +2,9 @@
 use Rattle.std.proofs.Common.{◌≡◌, ◌≤◌, ℕ, ◌+◌, ◌*◌, List, ◌++◌, length, take, drop, false, sym, ap, ◌∙◌, append_assoc, arith}
 use Rattle.std.proofs.lemmas.List.{length-append, length-take-le, take-append-le, take-append-drop, drop_at}
 use Rattle.cfdp_pdus.specs.Canonical.{header_octets, pdu_octets}
-use Rattle.cfdp_pdus.specs.Placing.{filled, with_octets_at}
+use Rattle.cfdp_pdus.specs.BufferParts.{filled, with_octets_at}
 use Rattle.cfdp_pdus.specs.declared.header.Header.{Header}
-use Rattle.cfdp_pdus.proofs.Placing.{length-header_octets, at_front}
+use Rattle.cfdp_pdus.proofs.BufferParts.{length-header_octets, at_front}
 
 pub before : (buffer now new xs ys : List ℕ) (at next : ℕ)
     → next ≤ length buffer → now ≡ with_octets_at buffer next ys → new ≡ with_octets_at now at xs

@@ -8,8 +8,8 @@ use Rattle.cfdp_tlv.specs.Values.{RequestFields, ResponseFields}
 use Rattle.cfdp_pdus.specs.declared.header.Header.{Header}
 use Rattle.cfdp_pdus.specs.Values.{FinishedFields}
 use Rattle.cfdp_pdus.specs.Canonical.{finished_fits, is_short_response, response_field}
-use Rattle.cfdp_pdus.specs.Placing.{with_octets_at}
-use Rattle.cfdp_pdus.proofs.Placing.{overwritten-overwritten}
+use Rattle.cfdp_pdus.specs.BufferParts.{with_octets_at}
+use Rattle.cfdp_pdus.proofs.BufferParts.{overwritten-overwritten}
 use Rattle.cfdp_transactions.specs.code.FinishedInBuffer.{unperformed_field}
 use Rattle.cfdp_transactions.specs.Outcome.{answered, responses_of}
 use Rattle.cfdp_transactions.specs.code.TakenOutcome.{statuses_of}

@@ -15,16 +15,16 @@ use Rattle.cfdp_actions.specs.Actions.{Answer}
 use Rattle.cfdp_transactions.specs.Execution.{replied}
 use Rattle.cfdp_transactions.specs.declared.books.Books.{Books}
 use Rattle.cfdp_transactions.proofs.Indexes.{get_same}
-use Rattle.cfdp_transactions.proofs.KeptTable.WorldOfTable.{row_at}
+use Rattle.cfdp_transactions.proofs.KeptTable.WorldOfTable.{table_entry_at}
 use Rattle.cfdp_paths.proofs.Scanning.{or_false}
 
 pub live_at : (s : Store) (b : Books) (k : ℕ) (r : TableEntryFields) → slice_get b.table k ≡ Some r → IsTrue (is_live r.phase) → IsLiveAt (world_of s b) k
-live_at s b k r at live = (entry_in s.filestore r, row_at s.filestore b.table k r at, live)
+live_at s b k r at live = (entry_in s.filestore r, table_entry_at s.filestore b.table k r at, live)
 
 pub entry_is : (s : Store) (b : Books) (k : ℕ) (r : TableEntryFields) → slice_get b.table k ≡ Some r → (e : Entry) → slice_get (world_of s b).table k ≡ Some e →
     e
     ≡ entry_in s.filestore r
-entry_is s b k r at e there = get_same (world_of s b).table k k e (entry_in s.filestore r) there (row_at s.filestore b.table k r at) refl
+entry_is s b k r at e there = get_same (world_of s b).table k k e (entry_in s.filestore r) there (table_entry_at s.filestore b.table k r at) refl
 
 pub phase_is : (s : Store) (b : Books) (k : ℕ) (r : TableEntryFields) → slice_get b.table k ≡ Some r → (e : Entry) → slice_get (world_of s b).table k ≡ Some e →
     (phase : Phase) → r.phase ≡ phase → e.phase ≡ phase

@@ -2,7 +2,7 @@
 use Rattle.std.proofs.Common.{◌≡◌, ◌≢◌, ℕ, zero, suc, ◌+◌, ◌-◌, ◌≤◌, ◌<◌, List, [], ◌∷◌, length, refl, ap, ◌∙◌, arith, get_or-set_same, get_or-set_other}
 use Rattle.std.specs.Prelude.{Option, Some, None, slice_set, slice_index_or}
 use Rattle.cfdp_quota.specs.Budget.{Budget, entry_at, reserve_at, spare, giving, taking, closing, reserving}
-use Rattle.cfdp_transactions.specs.code.Books.{Settles}
+use Rattle.cfdp_transactions.specs.code.Books.{BooksSlot}
 
 inside : (xs : List (Option ℕ)) (i m : ℕ) → slice_index_or xs i None ≡ Some m → i < length xs
 inside [] i m h = absurd cc
@@ -43,8 +43,8 @@ reserved_elsewhere q slot n other ne = get_or-set_other q.reserves slot other (S
 -- this many blocks were free before, and this many are after -------------------------------
 
 module _ (q p : Budget) (slot before after : ℕ) (opened : entry_at q slot ≡ Some (reserve_at q slot)) (apart : spare p ≡ spare q) where
-  pub settled_given : before ≤ after → p ≡ giving q slot (after - before) → Settles q p slot before after
-  settled_given more is = record {
+  pub booking_given : before ≤ after → p ≡ giving q slot (after - before) → BooksSlot q p slot before after
+  booking_given more is = record {
     all = rw is refl;
     unused = rw is (omega arith);
     apart = apart;
@@ -52,8 +52,8 @@ module _ (q p : Budget) (slot before after : ℕ) (opened : entry_at q slot ≡ 
     elsewhere = λ other ne. rw is (given_elsewhere q slot (after - before) other ne);
   }
 
-  pub settled_taken : after ≤ before → before ≡ q.free → p ≡ taking q slot (before - after) → Settles q p slot before after
-  settled_taken fewer unused is = record {
+  pub booking_taken : after ≤ before → before ≡ q.free → p ≡ taking q slot (before - after) → BooksSlot q p slot before after
+  booking_taken fewer unused is = record {
     all = rw is refl;
     unused = rw is (omega arith);
     apart = apart;

@@ -20,7 +20,7 @@ use Rattle.cfdp_transactions.specs.code.Books.{EndsAt, StoresAt, Carries, IsBook
 use Rattle.cfdp_transactions.proofs.KeptTable.Answering.{carry, plain_end}
 use Rattle.cfdp_transactions.proofs.Indexes.{get_set_same}
 use Rattle.cfdp_transactions.proofs.Received.RangesAdded.{pieces_kept}
-use Rattle.cfdp_transactions.proofs.KeptTable.WorldOfTable.{row_at}
+use Rattle.cfdp_transactions.proofs.KeptTable.WorldOfTable.{table_entry_at}
 
 -- what follows once it is staged ---------------------------------------------------------
 
@@ -36,7 +36,8 @@ pub stored_length : (s t : Store) (b d : Books) (k : ℕ) (r : TableEntryFields)
     StoresAt (world_of s b) (world_of t d) k piece → length d.table ≡ length b.table
 stored_length s t b d k r piece at stores_is =
     let e = entry_in s.filestore r in
-    let is : world_of t d ≡ stores (world_of s b) k e (kept_with e.received piece.offset piece.octets) = stores_is e (row_at s.filestore b.table k r at) in
+    let is : world_of t d ≡ stores (world_of s b) k e (kept_with e.received piece.offset piece.octets) = stores_is e
+    (table_entry_at s.filestore b.table k r at) in
     sym (length-map d.table (entry_in t.filestore)) ∙ ap (λ (W : World). length W.table) is
     ∙ length-set (table_of s.filestore b.table) k (storing s.filestore e (kept_with e.received piece.offset piece.octets))
     ∙ length-map b.table (entry_in s.filestore)
@@ -48,17 +49,17 @@ module _ (s : Store) (b : Books) (booked : IsBooked s b) (k : ℕ) (r : TableEnt
   abbrev count : ℕ
   count = length (with_range piece.offset (piece.offset + length piece.octets) r.ranges)
 
-  pieces_row : pieces (kept_with (entry_in s.filestore r).received piece.offset piece.octets) ≡ count
-  pieces_row =
+  pieces_entry : pieces (kept_with (entry_in s.filestore r).received piece.offset piece.octets) ≡ count
+  pieces_entry =
       let is : (entry_in s.filestore r).received ≡ received_in r.ranges (staged_in s.filestore r.slot) = rw live refl in
       ap (λ (rs : Received). pieces (kept_with rs piece.offset piece.octets)) is
       ∙ pieces_kept r.ranges (staged_in s.filestore r.slot) piece.offset piece.octets (booked.pieces k r at live).pieces some
 
   pub many_pieces : nat_le count 32 ≡ false → nat_lt 32 (pieces (kept_with (entry_in s.filestore r).received piece.offset piece.octets)) ≡ true
-  many_pieces h = let is = pieces_row in grind (arith, nat_tests)
+  many_pieces h = let is = pieces_entry in grind (arith, nat_tests)
 
   pub few_pieces : nat_le count 32 ≡ true → pieces (kept_with (entry_in s.filestore r).received piece.offset piece.octets) ≤ 32
-  few_pieces h = let is = pieces_row in grind (arith, nat_tests)
+  few_pieces h = let is = pieces_entry in grind (arith, nat_tests)
 
 -- the tests before ---------------------------------------------------------------------------
 

@@ -27,7 +27,7 @@ use Rattle.cfdp_transactions.proofs.Soundness.EachEvent.{storing_moves}
 use Rattle.cfdp_transactions.proofs.Received.FillingGaps.{staged_anew}
 use Rattle.cfdp_transactions.proofs.Soundness.Needs.{data_live, data_needs}
 use Rattle.cfdp_transactions.proofs.Received.RangesAdded.{end_added, pieces_added, pieces_kept}
-use Rattle.cfdp_transactions.proofs.KeptTable.EntryChanged.{entry_at_k, kept_row, least_spent, most_spent, reserve_open, table_now, booked_now}
+use Rattle.cfdp_transactions.proofs.KeptTable.EntryChanged.{entry_at_k, kept_entry, least_spent, most_spent, reserve_open, table_now, booked_now}
 use Rattle.cfdp_transactions.proofs.SlotChanges.{blocks-staged}
 use Rattle.cfdp_transactions.proofs.Soundness.Turning.{length-staged_of, reserve_live}
 use Rattle.cfdp_transactions.proofs.Received.Writing.{kept_length}
@@ -73,10 +73,10 @@ module _ (s : Store) (b : Books) (sound : Sound (world_of s b)) (booked : IsBook
   pieces_here = (booked.pieces k r at live).pieces
 
   pub zeros_here : staged_of (received_in r.ranges xs) ≡ xs
-  zeros_here = rw (← is_received) (sym (kept_row s b sound booked k r at live).staged)
+  zeros_here = rw (← is_received) (sym (kept_entry s b sound booked k r at live).staged)
 
   old_long : length e.received ≡ length xs
-  old_long = sym (length-staged_of e.received) ∙ ap length (sym (kept_row s b sound booked k r at live).staged)
+  old_long = sym (length-staged_of e.received) ∙ ap length (sym (kept_entry s b sound booked k r at live).staged)
 
   long : length received ≡ max (length xs) end
   long = rw (← old_long) (kept_length e.received piece.offset piece.octets there.some)
@@ -159,7 +159,7 @@ module _ (s : Store) (b : Books) (sound : Sound (world_of s b)) (booked : IsBook
     -- the ranges are those of what is staged
 
     staged_now : staged_in G r.slot ≡ staged_of received
-    staged_now = staged_anew s r.slot (staged_of received) (kept_row s b sound booked k r at live).slot
+    staged_now = staged_anew s r.slot (staged_of received) (kept_entry s b sound booked k r at live).slot
 
     now_long : length (staged_in G r.slot) ≡ max (length xs) end
     now_long = ap length staged_now ∙ length-staged_of received ∙ long
@@ -175,7 +175,7 @@ module _ (s : Store) (b : Books) (sound : Sound (world_of s b)) (booked : IsBook
 
     grown : blocks G ≡ blocks F + taken
     unfolding blocks_of
-    grown = let h = blocks-staged F r.slot (staged_of received) (kept_row s b sound booked k r at live).slot in
+    grown = let h = blocks-staged F r.slot (staged_of received) (kept_entry s b sound booked k r at live).slot in
         omega (arith, h, ap blocks_of (length-staged_of received), taken_is, long)
 
     left_now : blocks_left r.blocks_granted now.blocks_spent + taken ≡ reserve e

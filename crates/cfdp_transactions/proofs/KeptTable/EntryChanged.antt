@@ -17,15 +17,15 @@ use Rattle.cfdp_transactions.proofs.Balance.{left_is}
 use Rattle.cfdp_transactions.proofs.Indexes.{set_each, get_same}
 use Rattle.cfdp_transactions.proofs.SlotChanges.{IsInSlot, after-elsewhere, blocks-staged}
 use Rattle.cfdp_transactions.proofs.KeptTable.Accounts.{Adjusts, fits_after, leases_changed, leases_ended}
-use Rattle.cfdp_transactions.proofs.KeptTable.WorldOfTable.{row_at, set_in}
+use Rattle.cfdp_transactions.proofs.KeptTable.WorldOfTable.{table_entry_at, set_in}
 
-pub live_row : (s : Store) (b : Books) (k : ℕ) (r : TableEntryFields) → IsLiveAt (world_of s b) k → slice_get b.table k ≡ Some r → IsTrue (is_live r.phase)
-live_row s b k r there at =
+pub live_entry : (s : Store) (b : Books) (k : ℕ) (r : TableEntryFields) → IsLiveAt (world_of s b) k → slice_get b.table k ≡ Some r → IsTrue (is_live r.phase)
+live_entry s b k r there at =
     let same : there.0 ≡ entry_in s.filestore r = get_same (world_of s b).table k k there.0 (entry_in s.filestore r) there.1
-    (row_at s.filestore b.table k r at) refl in
+    (table_entry_at s.filestore b.table k r at) refl in
     rw (← ap (λ (e : Entry). e.phase) same) there.2
 
--- what is known of a live row --------------------------------------------------------
+-- what is known of a live entry --------------------------------------------------------
 
 module _ (s : Store) (b : Books) (sound : Sound (world_of s b)) (booked : IsBooked s b) (k : ℕ) (r : TableEntryFields) (at : slice_get b.table k ≡ Some r)
     (live : IsTrue (is_live r.phase)) where
@@ -36,13 +36,13 @@ module _ (s : Store) (b : Books) (sound : Sound (world_of s b)) (booked : IsBook
   e = entry_in F r
 
   pub entry_at_k : slice_get (world_of s b).table k ≡ Some e
-  entry_at_k = row_at F b.table k r at
+  entry_at_k = table_entry_at F b.table k r at
 
-  pub kept_row : IsKept b.config F e
-  kept_row = sound.live k e entry_at_k live
+  pub kept_entry : IsKept b.config F e
+  kept_entry = sound.live k e entry_at_k live
 
   pub slot_below : r.slot < 64
-  slot_below = omega (arith, kept_row.slot, sound.slots)
+  slot_below = omega (arith, kept_entry.slot, sound.slots)
 
   pub least_spent : negsuc 65535 ≤ℤ r.blocks_spent
   least_spent = let h = sound.honest k e entry_at_k in let l = left_is r.blocks_granted r.blocks_spent h.blocks in
@@ -59,7 +59,7 @@ module _ (s : Store) (b : Books) (sound : Sound (world_of s b)) (booked : IsBook
 
   pub blocks-unstaged : blocks (after F (Stages r.slot [] ∷ [])) + blocks_of (length (staged_in F r.slot)) ≡ blocks F
   unfolding blocks_of
-  blocks-unstaged = omega (arith, blocks-staged F r.slot [] kept_row.slot)
+  blocks-unstaged = omega (arith, blocks-staged F r.slot [] kept_entry.slot)
 
   module _ (changes : List Change) (in_slot : AllByRecursion (IsInSlot r.slot) changes) (now : TableEntryFields) where
     abbrev G : Filestore
@@ -67,7 +67,7 @@ module _ (s : Store) (b : Books) (sound : Sound (world_of s b)) (booked : IsBook
 
     staged_other : (j : ℕ) (q : TableEntryFields) → slice_get b.table j ≡ Some q → j ≢ k → IsTrue (is_live q.phase) → staged_in G q.slot ≡ staged_in F q.slot
     staged_other j q there ne alive =
-        after-elsewhere F r.slot q.slot changes in_slot (sound.apart j k (entry_in F q) e (row_at F b.table j q there) entry_at_k ne alive live).slots
+        after-elsewhere F r.slot q.slot changes in_slot (sound.apart j k (entry_in F q) e (table_entry_at F b.table j q there) entry_at_k ne alive live).slots
 
     pub table_now : table_of G (slice_set b.table k now) ≡ slice_set (table_of F b.table) k (entry_in G now)
     table_now = set_in F G b.table k now staged_other

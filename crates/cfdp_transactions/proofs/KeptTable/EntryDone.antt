@@ -14,17 +14,17 @@ use Rattle.cfdp_transactions.specs.declared.books.Books.{Books}
 use Rattle.cfdp_transactions.proofs.KeptTable.Accounts.{Adjusts}
 use Rattle.cfdp_transactions.proofs.KeptTable.Answering.{entry_is}
 use Rattle.cfdp_transactions.proofs.KeptTable.Budgets.{closed_here, closed_elsewhere, reserve_is}
-use Rattle.cfdp_transactions.proofs.KeptTable.EntryChanged.{entry_at_k, kept_row, reserve_open, table_now, booked_now}
+use Rattle.cfdp_transactions.proofs.KeptTable.EntryChanged.{entry_at_k, kept_entry, reserve_open, table_now, booked_now}
 use Rattle.cfdp_transactions.proofs.Soundness.Turning.{empty_by_length}
 
-none_behind : (n : ℕ) → drop n (let none : List Item = [] in none) ≡ []
-none_behind zero = refl
-none_behind (suc n) = refl
+none_following : (n : ℕ) → drop n (let none : List Item = [] in none) ≡ []
+none_following zero = refl
+none_following (suc n) = refl
 
 drop_nothing : (phase : Phase) (items : List Item) → items ≡ [] → items_left phase items ≡ []
 drop_nothing Receiving items is = is
 drop_nothing (Awaiting checks) items is = is
-drop_nothing (Executing next) items is = rw is (none_behind next)
+drop_nothing (Executing next) items is = rw is (none_following next)
 drop_nothing Refused items is = refl
 drop_nothing Done items is = refl
 drop_nothing (Ended condition) items is = refl
@@ -40,7 +40,7 @@ module _ (s : Store) (b : Books) (sound : Sound (world_of s b)) (booked : IsBook
   nothing_received : received_by s.filestore r ≡ []
   nothing_received =
       let at_k = entry_at_k s b sound booked k r at live in
-      let kept = kept_row s b sound booked k r at live in
+      let kept = kept_entry s b sound booked k r at live in
       let none : rest e ≡ [] = drop_nothing r.phase r.items (bare e at_k) in
       let no_install : IsFalse (is_next_install (rest e)) = rw none refl in
       empty_by_length (received_by s.filestore r) (omega (arith, kept.fits, kept.nothing no_install))

@@ -33,11 +33,12 @@ pub got : {X : Type 0} (t : List X) (new : X) → slice_get (t ++ new ∷ []) (l
 got [] x = refl
 got (y ∷ t) x = got t x
 
-pub remove_last : (rows : List TableEntryFields) (new : TableEntryFields) (index : ℕ) → index ≡ length rows → remove (rows ++ new ∷ []) index ≡ rows
+pub remove_last : (table_entries : List TableEntryFields) (new : TableEntryFields) (index : ℕ) → index ≡ length table_entries
+    → remove (table_entries ++ new ∷ []) index ≡ table_entries
 remove_last [] new zero e = refl
 remove_last [] new (suc index) e = absurd (omega arith)
-remove_last (r ∷ rows) new zero e = absurd (omega arith)
-remove_last (r ∷ rows) new (suc index) e = ap (λ (rs : List TableEntryFields). r ∷ rs) (remove_last rows new index (omega (arith, e)))
+remove_last (r ∷ table_entries) new zero e = absurd (omega arith)
+remove_last (r ∷ table_entries) new (suc index) e = ap (λ (rs : List TableEntryFields). r ∷ rs) (remove_last table_entries new index (omega (arith, e)))
 
 -- nobody of that name holds leases
 holds_step : (e : Entry) (t : List Entry) (id : TransactionId) (live b : Bool) → is_live e.phase ≡ live → is_same (name_of e) id ≡ b →
@@ -61,8 +62,8 @@ module _ (s : Store) (b : Books) (sound : Sound (world_of s b)) (booked : IsBook
   abbrev W : World
   W = world_of s b
 
-  abbrev row : TableEntryFields
-  row = fresh_entry h m Receiving slot items blocks steps
+  abbrev table_entry : TableEntryFields
+  table_entry = fresh_entry h m Receiving slot items blocks steps
 
   abbrev new : Entry
   new = new_entry h m Receiving slot items blocks steps
@@ -70,11 +71,12 @@ module _ (s : Store) (b : Books) (sound : Sound (world_of s b)) (booked : IsBook
   vacant : IsVacant W.table slot
   vacant = rw free_is (free_vacant W.table (free_slot W.table) (free_slot_is W.table (omega (arith, few, length_in s.filestore b.table))).free)
 
-  granted_entry : entry_in s.filestore row ≡ new
+  granted_entry : entry_in s.filestore table_entry ≡ new
   granted_entry = rw (sound.vacant slot vacant) refl
 
-  pub granted_adds : AddsEntry W (world_of s (record b { table = b.table ++ row ∷ [] })) (new_entry h m Receiving (free_slot W.table) items blocks steps)
-  granted_adds = world_added s b row ∙ ap (with_new W) (granted_entry ∙ ap (λ n. new_entry h m Receiving n items blocks steps) free_is)
+  pub granted_adds : AddsEntry W (world_of s (record b { table = b.table ++ table_entry ∷ [] }))
+      (new_entry h m Receiving (free_slot W.table) items blocks steps)
+  granted_adds = world_added s b table_entry ∙ ap (with_new W) (granted_entry ∙ ap (λ n. new_entry h m Receiving n items blocks steps) free_is)
 
   module _ (q : Budget) (reserved : q ≡ reserving b.quota slot blocks) (opened : entry_at q slot ≡ Some blocks) (kept : spare q + blocks ≡ spare b.quota) where
     old_open : (k : ℕ) (d : Entry) → slice_get W.table k ≡ Some d → IsTrue (is_live d.phase) → entry_at q d.slot ≡ Some (reserve d)
@@ -95,20 +97,21 @@ module _ (s : Store) (b : Books) (sound : Sound (world_of s b)) (booked : IsBook
       closed = closed_now;
     }
 
-    granted_pieces : (k : ℕ) (r : TableEntryFields) → slice_get (b.table ++ row ∷ []) k ≡ Some r → ArePiecesIn s.filestore r
-    granted_pieces k r at = elim (append_cases b.table row k r at) [
+    granted_pieces : (k : ℕ) (r : TableEntryFields) → slice_get (b.table ++ table_entry ∷ []) k ≡ Some r → ArePiecesIn s.filestore r
+    granted_pieces k r at = elim (append_cases b.table table_entry k r at) [
       | inl last ↦ λ live. rw (last.1, sound.vacant slot vacant) (record { pieces = record { runs = tt; within = tt }; to_end = refl })
       | inr before ↦ booked.pieces k r before.1
     ]
 
     pub granted_booked : IsBooked s (record {
       config = b.config;
-      table = b.table ++ row ∷ [];
+      table = b.table ++ table_entry ∷ [];
       leases = b.leases ++ (id_of h, footprint_of items) ∷ [];
       quota = q;
     })
     granted_booked =
-        let world : world_of s (record b { table = b.table ++ row ∷ [] }) ≡ with_new W new = world_added s b row ∙ ap (with_new W) granted_entry in
+        let world : world_of s (record b { table = b.table ++ table_entry ∷ [] }) ≡ with_new W new = world_added s b table_entry
+        ∙ ap (with_new W) granted_entry in
         record {
           leases = ap (λ (ls : Grants). ls ++ (id_of h, footprint_of items) ∷ []) booked.leases
               ∙ sym (ap (λ (V : World). leases_of V.table) world ∙ leases_added W.table new);

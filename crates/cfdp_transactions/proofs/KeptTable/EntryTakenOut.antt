@@ -20,8 +20,8 @@ use Rattle.cfdp_transactions.specs.code.TakenOutcome.{statuses_of}
 use Rattle.cfdp_transactions.proofs.KeptTable.Accounts.{leases_removed}
 use Rattle.cfdp_transactions.proofs.KeptTable.Answering.{entry_is}
 use Rattle.cfdp_transactions.proofs.Soundness.OwnChange.{reserves_total}
-use Rattle.cfdp_transactions.proofs.Indexes.{before, behind, remove_index, remove_others, get_same, total-remove}
-use Rattle.cfdp_transactions.proofs.KeptTable.WorldOfTable.{row_at, remove_in}
+use Rattle.cfdp_transactions.proofs.Indexes.{before, following, remove_index, remove_others, get_same, total-remove}
+use Rattle.cfdp_transactions.proofs.KeptTable.WorldOfTable.{table_entry_at, remove_in}
 
 -- the responses ---------------------------------------------------------------------------
 
@@ -84,7 +84,7 @@ module _ (s : Store) (b : Books) (booked : IsBooked s b) (k : ℕ) (r : TableEnt
   e = entry_in s.filestore r
 
   at_k : slice_get W.table k ≡ Some e
-  at_k = row_at s.filestore b.table k r at
+  at_k = table_entry_at s.filestore b.table k r at
 
   pub taken_answer : (o : Outcome) → o ≡ outcome_of e → (f : Entry) → slice_get W.table k ≡ Some f → taken_out W k (Some f)
       ≡ (world_of s (record b { table = remove b.table k }), Reply.Taken o)
@@ -112,7 +112,7 @@ module _ (s : Store) (b : Books) (booked : IsBooked s b) (k : ℕ) (r : TableEnt
       none,
     );
     opened = λ j d there. booked.budget.opened (before k j) d (sym (remove_index W.table k j) ∙ there);
-    closed = λ slot vacant. booked.budget.closed slot (λ j d there live. vacant (behind k j) d
+    closed = λ slot vacant. booked.budget.closed slot (λ j d there live. vacant (following k j) d
         (remove_others W.table k j (λ q. let same : d ≡ e = get_same W.table j k d e there at_k q in
         both_ways (is_live r.phase) over (subst (λ (x : Entry). IsTrue (is_live x.phase)) same live)) ∙ there) live);
   }

@@ -19,7 +19,7 @@ use Rattle.cfdp_transactions.specs.code.Books.{EndsAt, TurnsAt, IsDoneAt, IsBook
 use Rattle.cfdp_transactions.specs.declared.books.Books.{Books}
 use Rattle.cfdp_transactions.proofs.KeptTable.Answering.{plain_end}
 use Rattle.cfdp_transactions.proofs.Received.RangeSteps.{all_is_whole}
-use Rattle.cfdp_transactions.proofs.KeptTable.EntryChanged.{kept_row}
+use Rattle.cfdp_transactions.proofs.KeptTable.EntryChanged.{kept_entry}
 use Rattle.cfdp_paths.proofs.Scanning.{or_true}
 use Rattle.cfdp_transactions.proofs.Received.Writing.{length-received}
 
@@ -87,7 +87,7 @@ pub eof_whole : (W : World) (k : ℕ) (eof : Eof) (e : Entry) → (length e.item
     is_whole eof.size e.received ≡ true → eof_without_error W k e eof ≡ whole W k e eof.checksum
 eof_whole W k eof e some file right all = by_tests W k e eof false true false true some file right all
 
--- what the row's ranges and the staged list say of what was received ---------------------
+-- what the entry's ranges and the staged list say of what was received ---------------------
 
 module _ (s : Store) (b : Books) (sound : Sound (world_of s b)) (booked : IsBooked s b) (k : ℕ) (r : TableEntryFields) (at : slice_get b.table k ≡ Some r)
     (live : IsTrue (is_live r.phase)) where
@@ -103,8 +103,8 @@ module _ (s : Store) (b : Books) (sound : Sound (world_of s b)) (booked : IsBook
   pub received_size : length e.received ≡ length xs
   received_size = rw is_received (length-received 0 r.ranges xs)
 
-  pub whole_row : (size : ℕ) → is_whole size e.received ≡ is_all size r.ranges
-  whole_row size = rw is_received (all_is_whole size r.ranges xs (booked.pieces k r at live).pieces (booked.pieces k r at live).to_end)
+  pub whole_entry : (size : ℕ) → is_whole size e.received ≡ is_all size r.ranges
+  whole_entry size = rw is_received (all_is_whole size r.ranges xs (booked.pieces k r at live).pieces (booked.pieces k r at live).to_end)
 
-  pub right_row : (sum : ℕ) → is_right_checksum e sum ≡ ((r.metadata.checksum_type == 15) || (checksum xs == sum))
-  right_row sum = rw (← (kept_row s b sound booked k r at live).staged) refl
+  pub right_entry : (sum : ℕ) → is_right_checksum e sum ≡ ((r.metadata.checksum_type == 15) || (checksum xs == sum))
+  right_entry sum = rw (← (kept_entry s b sound booked k r at live).staged) refl

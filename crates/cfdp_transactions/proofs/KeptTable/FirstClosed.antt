@@ -27,12 +27,12 @@ taken_at [] slot h = absurd cc
 taken_at (e ∷ t) slot h = elim (or_cases (has_slot slot e) (taken slot t) h) [
   | inl here ↦ let both = and_parts (is_live e.phase) (e.slot == slot) here in
       record { index = 0; entry = e; at = refl; live = both.0; same = eqb-true e.slot slot both.1 }
-  | inr later ↦ let behind = taken_at t slot later in record {
-    index = suc behind.index;
-    entry = behind.entry;
-    at = behind.at;
-    live = behind.live;
-    same = behind.same;
+  | inr later ↦ let following = taken_at t slot later in record {
+    index = suc following.index;
+    entry = following.entry;
+    at = following.at;
+    live = following.live;
+    same = following.same;
   }
 ]
 

@@ -21,7 +21,7 @@ use Rattle.cfdp_transactions.specs.code.Books.{AnswersAt, Carries, IsBooked, IsL
 use Rattle.cfdp_transactions.specs.CoreFields.{may_begin, outcome_in}
 use Rattle.cfdp_transactions.specs.code.CoreFields.{IsWholeCore}
 use Rattle.cfdp_transactions.specs.declared.books.Books.{Books}
-use Rattle.cfdp_transactions.proofs.KeptTable.WorldOfTable.{index_among, get_in, row_at}
+use Rattle.cfdp_transactions.proofs.KeptTable.WorldOfTable.{index_among, get_in, table_entry_at}
 
 pub carries_follows : (W V : World) (event : Event) (reply : Reply) → Carries W V (next W event) reply → Follows W event reply V
 carries_follows W V event Reply.Memory h = h
@@ -47,7 +47,7 @@ module _ (s : Store) (b : Books) (id : TransactionId) where
       AnswersAt W V index (f index) reply → Carries W V (f (index_of W id) (entry_of W id)) reply
   found_carries f V reply index is within answers =
       let here = get_at b.table index within in
-      let at = row_at s.filestore b.table index here.0 here.1 in
+      let at = table_entry_at s.filestore b.table index here.0 here.1 in
       let is_index : index_of W id ≡ index = index_is ∙ sym is in
       rw (is_index, at) (answers (entry_in s.filestore here.0) at)
 
@@ -79,7 +79,7 @@ module _ (s : Store) (b : Books) (id : TransactionId) where
   pub found_entry : (index : ℕ) → index ≡ kept_index id b.table → index < length b.table → (e : Entry) × (entry_of (world_of s b) id ≡ Some e)
   found_entry index is within =
       let here = get_at b.table index within in
-      (entry_in s.filestore here.0, rw (index_is s b id ∙ sym is) (row_at s.filestore b.table index here.0 here.1))
+      (entry_in s.filestore here.0, rw (index_is s b id ∙ sym is) (table_entry_at s.filestore b.table index here.0 here.1))
 
   -- where a look-up finds it, and where it finds nothing
   pub found_some : (o : Option ℕ) → IfSome o (λ index. index ≡ kept_index id b.table) → IfSome o (λ index. index < length b.table) → is_some o ≡ true →
@@ -94,7 +94,7 @@ module _ (s : Store) (b : Books) (id : TransactionId) where
   pub live_index : (index : ℕ) → index ≡ kept_index id b.table → index < length b.table → IsNone (outcome_in (world_of s b) id) → IsLiveAt (world_of s b) index
   live_index index is within none =
       let here = get_at b.table index within in
-      let at = row_at s.filestore b.table index here.0 here.1 in
+      let at = table_entry_at s.filestore b.table index here.0 here.1 in
       (entry_in s.filestore here.0, at, live_where_none (world_of s b) id (entry_in s.filestore here.0) (rw (index_is s b id ∙ sym is) at) none)
 
 pub still_whole : FollowsIsSound → (s t : Store) (b d : Books) (event : Event) (reply : Reply) → IsWholeCore s b →
@@ -127,21 +127,23 @@ begins_so W h m begun =
 pub begins_when : (W : World) (h : Header) (m : MetadataFields) → Begins W h m → IsTrue (may_begin W h m)
 begins_when W h m b = rw (b.mine, b.absent, lt-ltb (length W.table) 64 b.few, le-leb (length m.requests) 64 b.short) refl
 
-absent_step : (F : Filestore) (id : TransactionId) (r : TableEntryFields) (rows : List TableEntryFields) (b : Bool) →
-    (slice_get (table_of F rows) (index_in id (table_of F rows)) ≡ None → kept_index id rows ≡ length rows) →
-    slice_get (entry_in F r ∷ table_of F rows) (if b then 0 else suc (index_in id (table_of F rows))) ≡ None → (if b then 0 else suc (kept_index id rows))
-    ≡ suc (length rows)
-absent_step F id r rows true later none = absurd cc
-absent_step F id r rows false later none = ap suc (later none)
+absent_step : (F : Filestore) (id : TransactionId) (r : TableEntryFields) (table_entries : List TableEntryFields) (b : Bool) →
+    (slice_get (table_of F table_entries) (index_in id (table_of F table_entries)) ≡ None → kept_index id table_entries ≡ length table_entries) →
+    slice_get (entry_in F r ∷ table_of F table_entries) (if b then 0 else suc (index_in id (table_of F table_entries))) ≡ None
+    → (if b then 0 else suc (kept_index id table_entries))
+    ≡ suc (length table_entries)
+absent_step F id r table_entries true later none = absurd cc
+absent_step F id r table_entries false later none = ap suc (later none)
 
-absent_rows : (F : Filestore) (id : TransactionId) (rows : List TableEntryFields) → slice_get (table_of F rows) (index_in id (table_of F rows)) ≡ None →
-    kept_index id rows
-    ≡ length rows
-absent_rows F id [] none = refl
-absent_rows F id (r ∷ rows) none = absent_step F id r rows (is_same (kept_name r) id) (absent_rows F id rows) none
+absent_entries : (F : Filestore) (id : TransactionId) (table_entries : List TableEntryFields)
+    → slice_get (table_of F table_entries) (index_in id (table_of F table_entries)) ≡ None →
+    kept_index id table_entries
+    ≡ length table_entries
+absent_entries F id [] none = refl
+absent_entries F id (r ∷ table_entries) none = absent_step F id r table_entries (is_same (kept_name r) id) (absent_entries F id table_entries) none
 
 pub absent_index : (s : Store) (b : Books) (id : TransactionId) → entry_of (world_of s b) id ≡ None → kept_index id b.table ≡ length b.table
-absent_index s b id none = absent_rows s.filestore id b.table none
+absent_index s b id none = absent_entries s.filestore id b.table none
 
 -- and that begin none: they meet a full table, or have too long a list
 

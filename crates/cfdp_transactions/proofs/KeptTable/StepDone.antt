@@ -21,7 +21,7 @@ use Rattle.cfdp_transactions.specs.World.{World, free, change_at}
 use Rattle.cfdp_transactions.specs.code.LowerLaws.{LowerLaws}
 use Rattle.cfdp_transactions.specs.Sound.{requests_in, all_successful, Sound}
 use Rattle.cfdp_transactions.specs.code.TableEntries.{TableEntryFields, received_by, entry_in, kept_name, entry_stepped}
-use Rattle.cfdp_transactions.specs.code.Books.{IsBooked, Settles, ArePiecesIn, AnswersAt, world_of}
+use Rattle.cfdp_transactions.specs.code.Books.{IsBooked, BooksSlot, ArePiecesIn, AnswersAt, world_of}
 use Rattle.cfdp_transactions.specs.code.TableChanges.{CanAdvance}
 use Rattle.cfdp_transactions.specs.declared.books.Books.{Books}
 use Rattle.cfdp_transactions.proofs.Soundness.OwnChange.{reserve_within}
@@ -30,7 +30,7 @@ use Rattle.cfdp_transactions.proofs.KeptTable.Accounts.{Adjusts}
 use Rattle.cfdp_transactions.proofs.Balance.{left-spend, spend-free}
 use Rattle.cfdp_transactions.proofs.KeptTable.Budgets.{closed_here, closed_elsewhere, reserve_is}
 use Rattle.cfdp_transactions.proofs.Soundness.RowAnswers.{row_of_request, row_of_install, row_in_slot}
-use Rattle.cfdp_transactions.proofs.KeptTable.EntryChanged.{entry_at_k, kept_row, least_spent, most_spent, reserve_open, in_use, table_now, booked_now}
+use Rattle.cfdp_transactions.proofs.KeptTable.EntryChanged.{entry_at_k, kept_entry, least_spent, most_spent, reserve_open, in_use, table_now, booked_now}
 use Rattle.cfdp_transactions.proofs.Soundness.Stepping.{noted_none, noted_one, enough, succeeded_now, takes_within, steps_within, gone, honest_now, rest_is}
 use Rattle.cfdp_transactions.proofs.Soundness.Turning.{live_counted, reserve_live, empty_by_length}
 use Rattle.cfdp_transactions.proofs.Indexes.{get_inside}
@@ -47,12 +47,12 @@ drop_length (x ∷ xs) zero = omega arith
 drop_length (x ∷ xs) (suc n) = omega (arith, drop_length xs n)
 
 -- the last item, and what is after it
-behind_last : (n : ℕ) (items : List Item) (last : Bool) → (IsTrue last → length items ≡ 0) → (IsFalse last → length items ≢ 0) →
+following_last : (n : ℕ) (items : List Item) (last : Bool) → (IsTrue last → length items ≡ 0) → (IsFalse last → length items ≢ 0) →
     (if last then Done else Executing (suc n)) ≡ phase_before (suc n) items
-behind_last n [] true all some = refl
-behind_last n [] false all some = absurd (some refl refl)
-behind_last n (item ∷ items) true all some = absurd (let h = all refl in omega arith)
-behind_last n (item ∷ items) false all some = refl
+following_last n [] true all some = refl
+following_last n [] false all some = absurd (some refl refl)
+following_last n (item ∷ items) true all some = absurd (let h = all refl in omega arith)
+following_last n (item ∷ items) false all some = refl
 
 -- the statuses, as a number of them
 statuses_after : (prefixes : List Path) (F : Filestore) (slot : ℕ) (it : Item) (p : ℕ) (all : List Status) →
@@ -118,7 +118,7 @@ module _ (laws : LowerLaws) (s : Store) (b : Books) (sound : Sound (world_of s b
 
   -- blocks
   grown : blocks G + o.given ≡ blocks F + o.taken
-  grown = laws.growth b.config.prefixes F r.slot item sound.rooted (kept_row s b sound booked k r at live).slot
+  grown = laws.growth b.config.prefixes F r.slot item sound.rooted (kept_entry s b sound booked k r at live).slot
 
   takes : o.taken ≤ blocks_left r.blocks_granted r.blocks_spent + o.given
   takes = takes_within laws W sound k e n item items at_k executing left
@@ -201,11 +201,11 @@ module _ (laws : LowerLaws) (s : Store) (b : Books) (sound : Sound (world_of s b
     entry_now : entry_in G now ≡ entry_after e n item items o
     entry_now =
         let g = gone laws W sound k e n item items at_k executing left in
-        let behind = drop_length r.items (suc n) in
+        let following = drop_length r.items (suc n) in
         let received = both_none (is_live now.phase) (staged_in G r.slot) none_staged ∙ sym (empty_by_length _ g.none) in
-        let all : IsTrue last → length items ≡ 0 = λ h. let q : (suc n == length r.items) ≡ true = sym is_last ∙ h in grind (arith, nat_tests, behind) in
+        let all : IsTrue last → length items ≡ 0 = λ h. let q : (suc n == length r.items) ≡ true = sym is_last ∙ h in grind (arith, nat_tests, following) in
         let some : IsFalse last → length items ≢ 0 = λ h z. let q : (suc n == length r.items) ≡ false = sym is_last ∙ h in
-        grind (arith, nat_tests, behind, number_below) in
+        grind (arith, nat_tests, following, number_below) in
         let statuses = sym (statuses_after b.config.prefixes F r.slot item r.performed (all_successful r.metadata.requests)
         (honest_now laws W sound k e n item items at_k executing left).in_order
         (λ h. omega (arith, requests_left h, length-map r.metadata.requests (λ (q : RequestFields). Successful q.action)))) in
@@ -215,7 +215,7 @@ module _ (laws : LowerLaws) (s : Store) (b : Books) (sound : Sound (world_of s b
         else e.received)
         (take now.performed (all_successful r.metadata.requests)) (noted e.statuses o.answer) now.blocks_spent
         (spend r.blocks_spent o.taken o.given) now.steps_spent (e.steps_spent + (1 + ticks o))
-        (behind_last n items last all some) (ap (λ (x : Bool). r.installed || x) is_i) received noted_same spent_same
+        (following_last n items last all some) (ap (λ (x : Bool). r.installed || x) is_i) received noted_same spent_same
         (ap (λ (x : ℕ). r.steps_spent + (1 + x)) is_t)
 
     pub stepped_world : world_of (with_changes s o.changes) (record b { table = slice_set b.table k now })
@@ -232,20 +232,20 @@ module _ (laws : LowerLaws) (s : Store) (b : Books) (sound : Sound (world_of s b
         (rw (is_before, is_later) (omega (arith, taken_within, in_reserve, reserve_now))) in
         omega (arith, h, reserve_now)
 
-    module _ (p : Budget) (settles : Settles b.quota p r.slot before later) where
+    module _ (p : Budget) (booking : BooksSlot b.quota p r.slot before later) where
       more_free : p.free ≡ free V
-      more_free = omega (arith, settles.unused, free_before, is_before, is_later, booked.capacity)
+      more_free = omega (arith, booking.unused, free_before, is_before, is_later, booked.capacity)
 
       alive_now : last ≡ false → is_live now.phase ≡ true
       alive_now h = rw h refl
 
       adjusts_more : last ≡ false → Adjusts b.quota p W V e (entry_in G now)
       adjusts_more h = record {
-        in_all = settles.all;
+        in_all = booking.all;
         not_used = more_free;
-        not_granted = rw (alive_now h) (omega (arith, settles.apart, left_now, same_free, is_before, is_later, booked.capacity));
-        here = rw (alive_now h) (settles.here ∙ ap (λ (m : ℕ). Some m) (omega (arith, in_reserve, left_now)));
-        elsewhere = settles.elsewhere;
+        not_granted = rw (alive_now h) (omega (arith, booking.apart, left_now, same_free, is_before, is_later, booked.capacity));
+        here = rw (alive_now h) (booking.here ∙ ap (λ (m : ℕ). Some m) (omega (arith, in_reserve, left_now)));
+        elsewhere = booking.elsewhere;
       }
 
       pub booked_more : last ≡ false → IsBooked (with_changes s o.changes) (record {
@@ -262,12 +262,12 @@ module _ (laws : LowerLaws) (s : Store) (b : Books) (sound : Sound (world_of s b
 
       adjusts_done : (q : Budget) → q ≡ closing p r.slot → spare q ≡ spare p + reserve_at p r.slot → last ≡ true → Adjusts b.quota q W V e (entry_in G now)
       adjusts_done q close back h = record {
-        in_all = rw close settles.all;
+        in_all = rw close booking.all;
         not_used = rw close more_free;
         not_granted = rw (final_now h)
-            (omega (arith, back, settles.apart, reserve_is p r.slot _ settles.here, in_reserve, same_free, is_before, is_later, booked.capacity, taken_within));
-        here = rw (final_now h, close) (closed_here p r.slot _ settles.here);
-        elsewhere = λ other ne. rw close (closed_elsewhere p r.slot other ne ∙ settles.elsewhere other ne);
+            (omega (arith, back, booking.apart, reserve_is p r.slot _ booking.here, in_reserve, same_free, is_before, is_later, booked.capacity, taken_within));
+        here = rw (final_now h, close) (closed_here p r.slot _ booking.here);
+        elsewhere = λ other ne. rw close (closed_elsewhere p r.slot other ne ∙ booking.elsewhere other ne);
       }
 
       pub booked_done : (q : Budget) → q ≡ closing p r.slot → spare q ≡ spare p + reserve_at p r.slot → last ≡ true →

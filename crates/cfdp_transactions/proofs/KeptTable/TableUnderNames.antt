@@ -1,4 +1,4 @@
--- The program's table, which is kept under names, and its list of rows.
+-- The program's table, which is kept under names, and its list of entries.
 use Rattle.std.proofs.Common.{◌≡◌, ℕ, zero, suc, ◌+◌, ◌≤◌, List, [], ◌∷◌, ◌++◌, length, map, refl, ap, sym, ◌∙◌, arith}
 use Rattle.std.specs.Prelude.{Bool, true, false, cond, if◌then◌else◌, Option, Some, None, IfSome, IfNone, ◌&&◌, eqb, slice_get, slice_set, remove, nat_lt, position}
 use Rattle.std.proofs.lemmas.Bool.Decides.{nat_tests}
@@ -14,22 +14,22 @@ use Rattle.cfdp_transactions.specs.code.TableChanges.{AreNamed}
 abbrev pub Named : Type 0
 Named = List (TransactionId × TableEntryFields)
 
-abbrev pub rows_of : Named → List TableEntryFields
-rows_of es = map (λ e. e.1) es
+abbrev pub table_entries_of : Named → List TableEntryFields
+table_entries_of es = map (λ e. e.1) es
 
 -- a value that is replaced by one of the same name -----------------------------------
 
-pub set_named : (es : Named) (k : ℕ) (w : TableEntryFields) → AreNamed es → ((r : TableEntryFields) → slice_get (rows_of es) k ≡ Some r → kept_name w
+pub set_named : (es : Named) (k : ℕ) (w : TableEntryFields) → AreNamed es → ((r : TableEntryFields) → slice_get (table_entries_of es) k ≡ Some r → kept_name w
     ≡ kept_name r) →
     AreNamed (set_value_at es k w)
 set_named [] k w named same = named
 set_named (e ∷ es) zero w named same = (named.0 ∙ sym (same e.1 refl), named.1)
 set_named (e ∷ es) (suc k) w named same = (named.0, set_named es k w named.1 same)
 
-pub rows-set : (es : Named) (k : ℕ) (w : TableEntryFields) → rows_of (set_value_at es k w) ≡ slice_set (rows_of es) k w
-rows-set [] k w = refl
-rows-set (e ∷ es) zero w = refl
-rows-set (e ∷ es) (suc k) w = ap (λ (rs : List TableEntryFields). e.1 ∷ rs) (rows-set es k w)
+pub table_entries-set : (es : Named) (k : ℕ) (w : TableEntryFields) → table_entries_of (set_value_at es k w) ≡ slice_set (table_entries_of es) k w
+table_entries-set [] k w = refl
+table_entries-set (e ∷ es) zero w = refl
+table_entries-set (e ∷ es) (suc k) w = ap (λ (rs : List TableEntryFields). e.1 ∷ rs) (table_entries-set es k w)
 
 pub remove_named : (es : Named) (k : ℕ) → AreNamed es → AreNamed (remove es k)
 remove_named [] zero named = named
@@ -37,11 +37,11 @@ remove_named [] (suc k) named = named
 remove_named (e ∷ es) zero named = named.1
 remove_named (e ∷ es) (suc k) named = (named.0, remove_named es k named.1)
 
-pub rows-remove : (es : Named) (k : ℕ) → rows_of (remove es k) ≡ remove (rows_of es) k
-rows-remove [] zero = refl
-rows-remove [] (suc k) = refl
-rows-remove (e ∷ es) zero = refl
-rows-remove (e ∷ es) (suc k) = ap (λ (rs : List TableEntryFields). e.1 ∷ rs) (rows-remove es k)
+pub table_entries-remove : (es : Named) (k : ℕ) → table_entries_of (remove es k) ≡ remove (table_entries_of es) k
+table_entries-remove [] zero = refl
+table_entries-remove [] (suc k) = refl
+table_entries-remove (e ∷ es) zero = refl
+table_entries-remove (e ∷ es) (suc k) = ap (λ (rs : List TableEntryFields). e.1 ∷ rs) (table_entries-remove es k)
 
 -- where a name is --------------------------------------------------------------------
 
@@ -52,10 +52,10 @@ key_index id (k ∷ ks) = if is_same k id then 0 else suc (key_index id ks)
 abbrev names_of : Named → List TransactionId
 names_of es = map (λ e. e.0) es
 
-rows_as_keys : (id : TransactionId) (es : Named) → AreNamed es → kept_index id (rows_of es) ≡ key_index id (names_of es)
+table_entries_as_keys : (id : TransactionId) (es : Named) → AreNamed es → kept_index id (table_entries_of es) ≡ key_index id (names_of es)
 unfolding key_index
-rows_as_keys id [] named = refl
-rows_as_keys id (e ∷ es) named = rw (named.0, rows_as_keys id es named.1) refl
+table_entries_as_keys id [] named = refl
+table_entries_as_keys id (e ∷ es) named = rw (named.0, table_entries_as_keys id es named.1) refl
 
 cond_suc : (b : Bool) (n : ℕ) → (if b then 0 else suc n) ≡ cond b 0 (1 + n)
 cond_suc true n = refl
@@ -66,7 +66,7 @@ index_same : (id : TransactionId) (test : TransactionId → Bool) → ((k : Tran
 unfolding key_index
 index_same id test same ks = is_position_or_len (key_index id) test refl (λ k ks. rw (same k) (cond_suc (is_same k id) (key_index id ks))) ks
 
-length_names : (es : Named) → length (names_of es) ≡ length (rows_of es)
+length_names : (es : Named) → length (names_of es) ≡ length (table_entries_of es)
 length_names [] = refl
 length_names (e ∷ es) = ap suc (length_names es)
 
@@ -76,10 +76,11 @@ found_case false n m h = tt
 
 pub found_index : (id : TransactionId) (test : TransactionId → Bool) → ((k : TransactionId) → test k ≡ is_same k id) → (es : Named) → AreNamed es →
     (result : Option ℕ) →
-    result ≡ position test (names_of es) → IfSome result (λ index. index ≡ kept_index id (rows_of es))
+    result ≡ position test (names_of es) → IfSome result (λ index. index ≡ kept_index id (table_entries_of es))
 found_index id test same es named result is =
-    rw is (found_case (nat_lt (position_or_len test (names_of es)) (length (names_of es))) (position_or_len test (names_of es)) (kept_index id (rows_of es))
-    (rows_as_keys id es named ∙ index_same id test same (names_of es)))
+    rw is (found_case (nat_lt (position_or_len test (names_of es)) (length (names_of es))) (position_or_len test (names_of es))
+    (kept_index id (table_entries_of es))
+    (table_entries_as_keys id es named ∙ index_same id test same (names_of es)))
 
 index_step : (b : Bool) (n len : ℕ) → n ≤ len → (if b then 0 else suc n) ≤ suc len
 index_step true n len h = omega arith
@@ -96,12 +97,12 @@ absent_case false n m len h le is = grind (arith, nat_tests)
 
 pub absent_index : (id : TransactionId) (test : TransactionId → Bool) → ((k : TransactionId) → test k ≡ is_same k id) → (es : Named) → AreNamed es →
     (result : Option ℕ) →
-    result ≡ position test (names_of es) → IfNone result (kept_index id (rows_of es) ≡ length (rows_of es))
+    result ≡ position test (names_of es) → IfNone result (kept_index id (table_entries_of es) ≡ length (table_entries_of es))
 absent_index id test same es named result is =
     rw (is, ← length_names es)
-    (absent_case (nat_lt (position_or_len test (names_of es)) (length (names_of es))) (position_or_len test (names_of es)) (kept_index id (rows_of es))
+    (absent_case (nat_lt (position_or_len test (names_of es)) (length (names_of es))) (position_or_len test (names_of es)) (kept_index id (table_entries_of es))
     (length (names_of es))
-    (rows_as_keys id es named ∙ index_same id test same (names_of es)) (rw (← index_same id test same (names_of es)) (index_le id (names_of es))) refl)
+    (table_entries_as_keys id es named ∙ index_same id test same (names_of es)) (rw (← index_same id test same (names_of es)) (index_le id (names_of es))) refl)
 
 either_way : (a b : ℕ) → eqb a b ≡ eqb b a
 either_way a b = grind (arith, nat_tests)
@@ -113,15 +114,17 @@ same_either_way id k = rw (either_way id.source k.source, either_way id.number k
 -- one more of a name that is not there ------------------------------------------------
 
 push_step : (e : TransactionId × TableEntryFields) (es : Named) (id : TransactionId) (new : TableEntryFields) (b : Bool) → is_same (kept_name e.1) id ≡ b →
-    (kept_index id (rows_of es) ≡ length (rows_of es) → insert_entry (λ a k. is_same k a) es id new ≡ es ++ (id, new) ∷ []) → e.0 ≡ kept_name e.1 →
-    (if b then 0 else suc (kept_index id (rows_of es))) ≡ suc (length (rows_of es)) → insert_entry (λ a k. is_same k a) (e ∷ es) id new ≡ e ∷ es
+    (kept_index id (table_entries_of es) ≡ length (table_entries_of es) → insert_entry (λ a k. is_same k a) es id new ≡ es ++ (id, new) ∷ [])
+    → e.0 ≡ kept_name e.1 →
+    (if b then 0 else suc (kept_index id (table_entries_of es))) ≡ suc (length (table_entries_of es))
+    → insert_entry (λ a k. is_same k a) (e ∷ es) id new ≡ e ∷ es
     ++ (id, new) ∷ []
 push_step e es id new true is later named h = absurd (omega arith)
 push_step e es id new false is later named h =
     let here : is_same e.0 id ≡ false = ap (λ k. is_same k id) named ∙ is in
     rw here (ap (λ (xs : Named). e ∷ xs) (later (omega (arith, h))))
 
-pushed : (es : Named) (id : TransactionId) (new : TableEntryFields) → AreNamed es → kept_index id (rows_of es) ≡ length (rows_of es) →
+pushed : (es : Named) (id : TransactionId) (new : TableEntryFields) → AreNamed es → kept_index id (table_entries_of es) ≡ length (table_entries_of es) →
     insert_entry (λ a k. is_same k a) es id new ≡ es ++ (id, new) ∷ []
 pushed [] id new named h = refl
 pushed (e ∷ es) id new named h = push_step e es id new (is_same (kept_name e.1) id) refl (pushed es id new named.1) named.0 h
@@ -135,13 +138,13 @@ same_inserted eq same (e ∷ es) id new = rw (same id e.0, same_inserted eq same
 pub push_entry : (eq : TransactionId → TransactionId → Bool) → ((a k : TransactionId) → eq a k ≡ is_same k a) → (es : Named) (id : TransactionId)
     (new : TableEntryFields) →
     AreNamed es →
-    kept_index id (rows_of es) ≡ length (rows_of es) → insert_entry eq es id new ≡ es ++ (id, new) ∷ []
+    kept_index id (table_entries_of es) ≡ length (table_entries_of es) → insert_entry eq es id new ≡ es ++ (id, new) ∷ []
 push_entry eq same es id new named h = same_inserted eq same es id new ∙ pushed es id new named h
 
 pub push_named : (es : Named) (id : TransactionId) (new : TableEntryFields) → AreNamed es → id ≡ kept_name new → AreNamed (es ++ (id, new) ∷ [])
 push_named [] id new named e = (e, tt)
 push_named (x ∷ es) id new named e = (named.0, push_named es id new named.1 e)
 
-pub rows-push : (es : Named) (id : TransactionId) (new : TableEntryFields) → rows_of (es ++ (id, new) ∷ []) ≡ rows_of es ++ new ∷ []
-rows-push [] id new = refl
-rows-push (e ∷ es) id new = ap (λ (rs : List TableEntryFields). e.1 ∷ rs) (rows-push es id new)
+pub table_entries-push : (es : Named) (id : TransactionId) (new : TableEntryFields) → table_entries_of (es ++ (id, new) ∷ []) ≡ table_entries_of es ++ new ∷ []
+table_entries-push [] id new = refl
+table_entries-push (e ∷ es) id new = ap (λ (rs : List TableEntryFields). e.1 ∷ rs) (table_entries-push es id new)

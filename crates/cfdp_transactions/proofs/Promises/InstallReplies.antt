@@ -148,11 +148,11 @@ none_at (x ∷ items) (suc n) item none at = none_at items n item (or_parts (is_
 install_is_first : (file : Bool) (items : List Item) (n : ℕ) (item : Item) → is_next_install items ≡ file → has_install (drop 1 items) ≡ false →
     slice_get items n ≡ Some item →
     is_install item ≡ ((n == 0) && file)
-install_is_first file [] n item first behind at = absurd cc
-install_is_first file (x ∷ items) zero item first behind at = let same : x ≡ item = cc in ap is_install (sym same) ∙ sym (first_is x items) ∙ first
-install_is_first file (x ∷ items) (suc n) item first behind at =
+install_is_first file [] n item first following at = absurd cc
+install_is_first file (x ∷ items) zero item first following at = let same : x ≡ item = cc in ap is_install (sym same) ∙ sym (first_is x items) ∙ first
+install_is_first file (x ∷ items) (suc n) item first following at =
     let later : (suc n == 0) ≡ false = ne_eqb (suc n) 0 (λ e. absurd (omega arith)) in
-    none_at items n item behind at ∙ ap (λ here. here && file) (sym later)
+    none_at items n item following at ∙ ap (λ here. here && file) (sym later)
 
 -- steps ----------------------------------------------------------------------------------
 
@@ -164,7 +164,7 @@ module _ (laws : LowerLaws) (W : World) (s : Sound W) (all : Each IsInOrder W.ta
       let order = all (index_of W id) e found in
       ap says_installed p.reply
       ∙ act_says W.config.prefixes W.filestore (free W) e.slot p.item p.succeeds
-      ∙ install_is_first (has_file e.metadata) e.items n p.item (order.first (rw is refl)) order.behind p.is_next
+      ∙ install_is_first (has_file e.metadata) e.items n p.item (order.first (rw is refl)) order.following p.is_next
 
   in_phase : (id : TransactionId) (e : Entry) (phase : Phase) → entry_of W id ≡ Some e → e.phase ≡ phase → says_installed (next W (Step id)).1
       ≡ (is_first phase && has_file e.metadata)

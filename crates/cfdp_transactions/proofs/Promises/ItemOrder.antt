@@ -32,7 +32,7 @@ use Rattle.cfdp_transactions.proofs.Soundness.Turning.{empty_by_length}
 
 pub record IsInOrder (e : Entry) : Type 0 where
   pub paths : AllByRecursion NamesPaths e.items
-  pub behind : has_install (drop 1 e.items) ≡ false
+  pub following : has_install (drop 1 e.items) ≡ false
   pub first : IsTrue (is_counted e.phase) → is_next_install e.items ≡ has_file e.metadata
   pub due : IsTrue (is_counted e.phase) → (e.installed || has_install (rest e)) ≡ has_file e.metadata
 
@@ -46,7 +46,7 @@ record IsLike (e new : Entry) : Type 0 where
 like_ordered : (e new : Entry) → IsInOrder e → IsLike e new → IsInOrder new
 like_ordered e new s l = record {
   paths = rw l.items s.paths;
-  behind = rw l.items s.behind;
+  following = rw l.items s.following;
   first = λ h. rw (l.items, l.metadata) (s.first (l.counted h));
   due = λ h. rw l.metadata (l.due h ∙ s.due (l.counted h));
 }
@@ -78,9 +78,9 @@ receiving_takes Done h = absurd cc
 receiving_takes (Ended condition) h = absurd cc
 
 -- what is left after an item that went well
-left_behind : (n : ℕ) (all items : List Item) (item : Item) → drop n all ≡ item ∷ items → items_left (phase_before (suc n) items) all ≡ items
-left_behind n all [] item left = refl
-left_behind n all (next ∷ items) item left = drop_next n all (next ∷ items) item left
+items_left_here : (n : ℕ) (all items : List Item) (item : Item) → drop n all ≡ item ∷ items → items_left (phase_before (suc n) items) all ≡ items
+items_left_here n all [] item left = refl
+items_left_here n all (next ∷ items) item left = drop_next n all (next ∷ items) item left
 
 pub or_assoc : (a b c : Bool) → ((a || b) || c) ≡ (a || (b || c))
 or_assoc true b c = refl
@@ -154,7 +154,7 @@ module _ (W : World) (all : Each IsInOrder W.table) where
           items = refl;
           counted = λ _. rw is refl;
           due = λ _.
-              ap (λ (behind : List Item). (e.installed || is_install item) || has_install behind) (left_behind n e.items items item left)
+              ap (λ (following : List Item). (e.installed || is_install item) || has_install following) (items_left_here n e.items items item left)
               ∙ or_assoc e.installed (is_install item) (has_install items)
               ∙ ap (λ (all : List Item). e.installed || has_install all) (sym (ap (λ (phase : Phase). items_left phase e.items) is ∙ left));
         }))
@@ -211,15 +211,15 @@ module _ (W : World) (all : Each IsInOrder W.table) where
   added_ordered new s = append_each (λ _ (d : Entry). IsInOrder d) W.table new s (λ j d here. all j d here)
 
   refused_ordered : (h : Header) (m : MetadataFields) (phase : Phase) → is_counted phase ≡ false → IsInOrder (refused_entry h m phase)
-  refused_ordered h m phase final = record { paths = tt; behind = refl; first = λ counted. absurd cc; due = λ counted. absurd cc }
+  refused_ordered h m phase final = record { paths = tt; following = refl; first = λ counted. absurd cc; due = λ counted. absurd cc }
 
   granted_ordered : (h : Header) (m : MetadataFields) (slot : ℕ) (items : List Item) (blocks steps : ℕ) → IsListed (has_file m) items →
       IsInOrder (new_entry h m Receiving slot items blocks steps)
   granted_ordered h m slot items blocks steps l = record {
     paths = l.paths;
-    behind = l.behind;
+    following = l.following;
     first = λ _. l.first;
-    due = λ _. install_at_front items l.behind ∙ l.first;
+    due = λ _. install_at_front items l.following ∙ l.first;
   }
 
   judged_ordered : (h : Header) (m : MetadataFields) (v : Verdict) → verdict W.config.prefixes W.filestore (leases_of W.table) (spare_blocks W)

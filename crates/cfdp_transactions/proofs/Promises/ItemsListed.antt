@@ -33,7 +33,7 @@ has_install (item ∷ items) = is_install item || has_install items
 pub record IsListed (file : Bool) (items : List Item) : Type 0 where
   pub paths : AllByRecursion NamesPaths items
   pub first : is_next_install items ≡ file
-  pub behind : has_install (drop 1 items) ≡ false
+  pub following : has_install (drop 1 items) ≡ false
 
 pub first_is : (item : Item) (items : List Item) → is_next_install (item ∷ items) ≡ is_install item
 first_is (Install p) items = refl
@@ -116,10 +116,10 @@ OfList file (Bad index) = ⊤
 OfList file (Good items) = IsListed file items
 
 requests_listed : (items : List Item) → AreRequests items → IsListed false items
-requests_listed [] h = record { paths = tt; first = refl; behind = refl }
+requests_listed [] h = record { paths = tt; first = refl; following = refl }
 requests_listed (item ∷ items) h =
     let parts = or_parts (is_install item) (has_install items) h.none in
-    record { paths = h.paths; first = rw (first_is item items) parts.0; behind = parts.1 }
+    record { paths = h.paths; first = rw (first_is item items) parts.0; following = parts.1 }
 
 without_file : (q : Parsed) → OfRequests q → OfList false q
 without_file (Bad index) h = tt
@@ -128,7 +128,7 @@ without_file (Good items) h = requests_listed items h
 with_its_file : (p : Option Path) (q : Parsed) → IsOptionalPath p → OfRequests q → OfList true (with_file p q)
 with_its_file None q v h = tt
 with_its_file (Some p) (Bad index) v h = tt
-with_its_file (Some p) (Good items) v h = record { paths = ((v, tt), h.paths); first = refl; behind = h.none }
+with_its_file (Some p) (Good items) v h = record { paths = ((v, tt), h.paths); first = refl; following = h.none }
 
 destination_listed : (file : Bool) (name : List ℕ) (q : Parsed) → OfRequests q → OfList file (with_destination (if file then Some name else None) q)
 destination_listed true name q h = with_its_file (path_of name) q (path_of_path name (path_of name) refl) h

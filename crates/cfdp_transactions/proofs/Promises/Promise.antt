@@ -31,7 +31,7 @@ use Rattle.cfdp_transactions.proofs.Soundness.NextWorld.{next_sound, next_isolat
 -- 'successful' for each request gives one such response for each
 responses_all : (rs : List RequestFields) → responses_of rs (all_successful rs) ≡ map (λ r. answered r (Successful r.action)) rs
 responses_all [] = refl
-responses_all (r ∷ rs) = ap (λ (behind : List ResponseFields). answered r (Successful r.action) ∷ behind) (responses_all rs)
+responses_all (r ∷ rs) = ap (λ (following : List ResponseFields). answered r (Successful r.action) ∷ following) (responses_all rs)
 
 done_good : (c : Config) (e : Entry) → IsHonest c e → e.phase ≡ Done → IsSuccessful e
 done_good c e honest is =

@@ -15,7 +15,7 @@ use Rattle.cfdp_transactions.specs.PieceLaws.{ArePieces, AreWritten}
 use Rattle.cfdp_transactions.specs.code.FileData.{IsPut, PutsOctets, kept}
 use Rattle.cfdp_transactions.proofs.Received.PieceRanges.{is_inside, inside_true}
 use Rattle.cfdp_transactions.proofs.Received.Writing.{length-received, received_at, range_is_added, ranges_keep, staged_are_kept}
-use Rattle.cfdp_transactions.proofs.Received.Overwriting.{overwritten-length, overwritten-before, overwritten-inside, overwritten-behind}
+use Rattle.cfdp_transactions.proofs.Received.Overwriting.{overwritten-length, overwritten-before, overwritten-inside, overwritten-following}
 
 -- the store, with other octets in the slot -----------------------------------------------
 
@@ -49,7 +49,7 @@ module _ (ranges : Ranges) (at : ℕ) (octets xs ys : List ℕ) (from start stop
 
   outside : (i : ℕ) → (i < start) ⊎ (stop ≤ i) → get_or zs i 0 ≡ get_or ys i 0
   outside i (inl h) = overwritten-before ys start (slice_range octets (start - at) (stop - at)) fits i h
-  outside i (inr h) = overwritten-behind ys start (slice_range octets (start - at) (stop - at)) fits i (omega (arith, piece_long, gap.some))
+  outside i (inr h) = overwritten-following ys start (slice_range octets (start - at) (stop - at)) fits i (omega (arith, piece_long, gap.some))
 
   not_in_gap : (i : ℕ) → IsTrue (is_in i ranges) → (i < start) ⊎ (stop ≤ i)
   not_in_gap i in_one = elim (cases_lt i start) [
@@ -82,7 +82,7 @@ module _ (ranges : Ranges) (at : ℕ) (octets xs ys : List ℕ) (from start stop
     long = overwritten-length ys start (slice_range octets (start - at) (stop - at)) fits ∙ put.long;
     kept = λ i below in_one. outside i (not_in_gap i in_one) ∙ put.kept i below in_one;
     before = λ i early below. outside i (inl (omega (arith, gap.from))) ∙ put.before i early below;
-    behind = λ i late below. outside i (inr late) ∙ put.behind i (omega (arith, gap.from, gap.some)) below;
+    following = λ i late below. outside i (inr late) ∙ put.following i (omega (arith, gap.from, gap.some)) below;
     written = written_more;
   }
 
@@ -141,7 +141,7 @@ module _ (ranges : Ranges) (at : ℕ) (octets xs zs : List ℕ) (size : ℕ) (lo
         | inl early ↦ put.before i early inside ∙ zero_before i inside both.1
         | inr late ↦ elim (cases_lt i (at + length octets)) [
           | inl among ↦ absurd (both_ways (is_inside at (at + length octets) i) both.0 (inside_true at (at + length octets) i late among))
-          | inr past ↦ put.behind i past inside ∙ zero_before i inside both.1
+          | inr past ↦ put.following i past inside ∙ zero_before i inside both.1
         ]
       ]
 

@@ -13,7 +13,7 @@ use Rattle.cfdp_transactions.specs.code.TableEntries.{TableEntryFields, entry_in
 use Rattle.cfdp_transactions.specs.code.Books.{IsBooked, world_of}
 use Rattle.cfdp_transactions.specs.declared.books.Books.{Books}
 use Rattle.cfdp_transactions.proofs.Received.PieceRanges.{gaps_are_between}
-use Rattle.cfdp_transactions.proofs.KeptTable.EntryChanged.{kept_row}
+use Rattle.cfdp_transactions.proofs.KeptTable.EntryChanged.{kept_entry}
 use Rattle.cfdp_transactions.proofs.Received.Writing.{length-received}
 
 module _ (s : Store) (b : Books) (sound : Sound (world_of s b)) (booked : IsBooked s b) (k : ℕ) (r : TableEntryFields) (at : slice_get b.table k ≡ Some r) where
@@ -36,7 +36,7 @@ module _ (s : Store) (b : Books) (sound : Sound (world_of s b)) (booked : IsBook
   gaps_by (Awaiting checks) is =
       let live : IsTrue (is_live r.phase) = rw is refl in
       let all = booked.pieces k r at live in
-      let fits = rw is at (kept_row s b sound booked k r at live).fits in
+      let fits = rw is at (kept_entry s b sound booked k r at live).fits in
       let long = ap (λ (rs : Received). length rs) (is_received live) ∙ length-received 0 r.ranges xs in
       ap (λ (rs : Received). gaps_below (awaited r.eof) rs) (is_received live)
       ∙ gaps_are_between (awaited r.eof) r.ranges xs all.pieces (omega (
@@ -51,8 +51,8 @@ module _ (s : Store) (b : Books) (sound : Sound (world_of s b)) (booked : IsBook
   gaps_by Done is = refl
   gaps_by (Ended condition) is = refl
 
-  pub gaps_row : gaps e ≡ kept_gaps r
-  gaps_row = gaps_by r.phase refl
+  pub gaps_entry : gaps e ≡ kept_gaps r
+  gaps_entry = gaps_by r.phase refl
 
   -- the end of the last octet, and up to where the gaps say
   progress_by : (live : Bool) → is_live r.phase ≡ live → progress e ≡ (if live then end_of r.ranges else 0)
@@ -61,8 +61,8 @@ module _ (s : Store) (b : Books) (sound : Sound (world_of s b)) (booked : IsBook
       ap (λ (rs : Received). length rs) (is_received live) ∙ length-received 0 r.ranges xs ∙ sym (booked.pieces k r at live).to_end
   progress_by false is = rw is refl
 
-  pub progress_row : progress e ≡ kept_progress r
-  progress_row = progress_by (is_live r.phase) refl
+  pub progress_entry : progress e ≡ kept_progress r
+  progress_entry = progress_by (is_live r.phase) refl
 
   reach_by : (phase : Phase) → r.phase ≡ phase → reach_in phase e ≡ kept_reach_in phase r
   reach_by Receiving is = progress_by true (rw is refl)
@@ -72,5 +72,5 @@ module _ (s : Store) (b : Books) (sound : Sound (world_of s b)) (booked : IsBook
   reach_by Done is = refl
   reach_by (Ended condition) is = refl
 
-  pub reach_row : reach e ≡ kept_reach r
-  reach_row = reach_by r.phase refl
+  pub reach_entry : reach e ≡ kept_reach r
+  reach_entry = reach_by r.phase refl

@@ -27,8 +27,8 @@ module _ (ys : List ℕ) (a : ℕ) (p : List ℕ) (fits : a + length p ≤ lengt
       get_or_append_left (take a ys ++ p) (drop (a + length p) ys) 0 (a + j) (omega (arith, length-append (take a ys) p, front))
       ∙ ap (λ (k : ℕ). get_or (take a ys ++ p) (k + j) 0) (sym front) ∙ get_or-append-add (take a ys) p j 0
 
-  pub overwritten-behind : (i : ℕ) → a + length p ≤ i → get_or (overwritten ys a p) i 0 ≡ get_or ys i 0
-  overwritten-behind i h =
+  pub overwritten-following : (i : ℕ) → a + length p ≤ i → get_or (overwritten ys a p) i 0 ≡ get_or ys i 0
+  overwritten-following i h =
       let whole : length (take a ys ++ p) ≡ a + length p = omega (arith, length-append (take a ys) p, front) in
       let index : i ≡ length (take a ys ++ p) + (i - (a + length p)) = omega (arith, whole) in
       ap (λ (k : ℕ). get_or (overwritten ys a p) k 0) index ∙ get_or-append-add (take a ys ++ p) (drop (a + length p) ys) (i - (a + length p)) 0

@@ -17,8 +17,8 @@ inside_true s e i from below = and_from _ _ (le-leb s i from) (lt-ltb i e below)
 pub before_false : (s e i : ℕ) → i < s → is_inside s e i ≡ false
 before_false s e i below = and_left _ _ (lt-leb s i below)
 
-pub behind_false : (s e i : ℕ) → e ≤ i → is_inside s e i ≡ false
-behind_false s e i from = and_right _ _ (le-ltb i e from)
+pub outside_after : (s e i : ℕ) → e ≤ i → is_inside s e i ≡ false
+outside_after s e i from = and_right _ _ (le-ltb i e from)
 
 -- the runs begin later
 pub not_yet : (from i : ℕ) (ranges : Ranges) → AreRuns from ranges → i < from → is_in i ranges ≡ false
@@ -33,7 +33,7 @@ runs_sooner from sooner (r ∷ rs) h runs = (omega (arith, runs.0), runs.1, runs
 -- what is passed is no longer looked at
 pub passed : (at s e : ℕ) (rs : Ranges) (xs : List ℕ) → e ≤ at → received_from at ((s, e) ∷ rs) xs ≡ received_from at rs xs
 passed at s e rs [] h = refl
-passed at s e rs (x ∷ xs) h = rw (behind_false s e at h, passed (suc at) s e rs xs (omega arith)) refl
+passed at s e rs (x ∷ xs) h = rw (outside_after s e at h, passed (suc at) s e rs xs (omega arith)) refl
 
 -- pieces --------------------------------------------------------------------------------
 
@@ -88,7 +88,7 @@ count_in_step x xs out inn at s e rs from to runs ends within = elim (cases_lt a
       rw here (inn (suc at) s e rs (omega arith) (omega arith) runs (omega arith)
       (within_more (at + length (x ∷ xs)) (suc at + length xs) rs (omega arith) within))
   | inr over ↦
-      let gone : is_inside s e at || is_in at rs ≡ false = or_from _ _ (behind_false s e at over) (not_yet (e + 1) at rs runs (omega arith)) in
+      let gone : is_inside s e at || is_in at rs ≡ false = or_from _ _ (outside_after s e at over) (not_yet (e + 1) at rs runs (omega arith)) in
       rw (gone, passed (suc at) s e rs xs (omega arith))
       (out (suc at) rs (runs_sooner (e + 1) (suc at) rs (omega arith) runs) (within_more (at + length (x ∷ xs)) (suc at + length xs) rs (omega arith) within))
 ]
@@ -119,9 +119,9 @@ begun_earlier : (begun : Option ℕ) (at : ℕ) → BegunEarlier begun at → Be
 begun_earlier None at h = omega arith
 begun_earlier (Some start) at h = omega arith
 
-closed_range : (begun : Option ℕ) (at : ℕ) (behind : Ranges) → BegunEarlier begun at → closed begun at ++ behind ≡ range (start_of begun at) at behind
-closed_range None at behind h = rw (le-ltb at at (omega arith)) refl
-closed_range (Some start) at behind h = rw (lt-ltb start at h) refl
+closed_range : (begun : Option ℕ) (at : ℕ) (following : Ranges) → BegunEarlier begun at → closed begun at ++ following ≡ range (start_of begun at) at following
+closed_range None at following h = rw (le-ltb at at (omega arith)) refl
+closed_range (Some start) at following h = rw (lt-ltb start at h) refl
 
 closed_alone : (begun : Option ℕ) (at : ℕ) → BegunEarlier begun at → closed begun at ≡ range (start_of begun at) at []
 closed_alone None at h = rw (le-ltb at at (omega arith)) refl

@@ -10,7 +10,7 @@ use Rattle.cfdp_transactions.specs.ReceivedLaws.{AreRuns}
 use Rattle.cfdp_transactions.specs.Pieces.{Ranges, is_in, received_in, with_range, between}
 use Rattle.cfdp_transactions.specs.code.Pieces.{is_all, end_of, IsNextGap, HasAll}
 use Rattle.cfdp_transactions.proofs.Received.Writing.{whole_has_none}
-use Rattle.cfdp_transactions.proofs.Received.PieceRanges.{inside_true, behind_false, not_yet, runs_sooner}
+use Rattle.cfdp_transactions.proofs.Received.PieceRanges.{inside_true, outside_after, not_yet, runs_sooner}
 
 pub with_range_long : (a b : ℕ) (rs : Ranges) → length (with_range a b rs) ≤ 1 + length rs
 with_range_long a b [] = omega arith
@@ -34,8 +34,8 @@ joins_apart a b r rs h = rw (lt-ltb r.1 a h) refl
 pub joins_touching : (a b : ℕ) (r : ℕ × ℕ) (rs : Ranges) → a ≤ r.1 → r.0 ≤ b → with_range a b (r ∷ rs) ≡ with_range (min a r.0) (max b r.1) rs
 joins_touching a b r rs h k = rw (le-ltb r.1 a h, le-ltb b r.0 k) refl
 
-pub joins_behind : (a b : ℕ) (r : ℕ × ℕ) (rs : Ranges) → a ≤ r.1 → b < r.0 → with_range a b (r ∷ rs) ≡ (a, b) ∷ r ∷ rs
-joins_behind a b r rs h k = rw (le-ltb r.1 a h, lt-ltb b r.0 k) refl
+pub joins_following : (a b : ℕ) (r : ℕ × ℕ) (rs : Ranges) → a ≤ r.1 → b < r.0 → with_range a b (r ∷ rs) ≡ (a, b) ∷ r ∷ rs
+joins_following a b r rs h k = rw (le-ltb r.1 a h, lt-ltb b r.0 k) refl
 
 -- the gaps: one more where the range does not begin at once
 pub gap_before : (at : ℕ) (r : ℕ × ℕ) (rs : Ranges) (limit : ℕ) → at < r.0 → between at (r ∷ rs) limit ≡ (at, r.0) ∷ between r.1 rs limit
@@ -69,7 +69,7 @@ searched_on ranges from at r left h s = record {
     | inl before ↦ s.all i lo before
     | inr on ↦ s.later i on ∙ or_left _ _ (inside_true r.0 r.1 i (omega arith) (omega arith))
   ];
-  later = λ i on. s.later i (omega arith) ∙ ap (λ b. b || is_in i left) (behind_false r.0 r.1 i (omega arith));
+  later = λ i on. s.later i (omega arith) ∙ ap (λ b. b || is_in i left) (outside_after r.0 r.1 i (omega arith));
   runs = runs_sooner (r.1 + 1) 0 left (omega arith) s.runs.2;
 }
 
@@ -106,9 +106,9 @@ pub last_end : (rs : Ranges) → 1 ≤ length rs → (slice_index_or rs (length 
 last_end [] h = absurd (omega arith)
 last_end (r ∷ []) h = refl
 last_end (r ∷ s ∷ rs) h =
-    let behind = last_end (s ∷ rs) (omega arith) in
+    let following = last_end (s ∷ rs) (omega arith) in
     let next : suc (suc (length rs)) - 1 ≡ suc (suc (length rs) - 1) = omega arith in
-    rw next behind
+    rw next following
 
 -- and at the index k of the ranges
 module _ (items : Ranges) (from at k : ℕ) (there : k < length items) (s : IsSearched items from at (drop k items)) where

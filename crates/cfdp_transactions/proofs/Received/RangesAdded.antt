@@ -12,7 +12,7 @@ use Rattle.cfdp_transactions.specs.PieceLaws.{AreWithin, ArePieces, AreWritten}
 use Rattle.cfdp_transactions.proofs.Received.OctetsAndGaps.{first_stays}
 use Rattle.cfdp_transactions.proofs.Received.PieceRanges.{pieces_are_ranges}
 use Rattle.cfdp_transactions.proofs.Soundness.Turning.{length-staged_of}
-use Rattle.cfdp_transactions.proofs.Received.Writing.{length-received, received_at, none_behind, brought_there, get_there, kept_length, range_is_added, ranges_keep}
+use Rattle.cfdp_transactions.proofs.Received.Writing.{length-received, received_at, none_past_end, brought_there, get_there, kept_length, range_is_added, ranges_keep}
 
 -- where they end ------------------------------------------------------------------------
 
@@ -32,9 +32,9 @@ some_added a b (r ∷ rs) =
     (λ _. cond_both (nat_lt b r.0) _ _ (λ (out : Ranges). 0 < length out) (λ _. omega arith) (λ _. some_added (min a r.0) (max b r.1) rs))
 
 -- after a range that ends before them, or is one of them
-end_behind : (from b : ℕ) (r : Range) (rs : Ranges) → AreRuns from (r ∷ rs) → r.1 ≤ b → max (end_of rs) b ≡ max (end_of (r ∷ rs)) b
-end_behind from b r [] runs h = omega arith
-end_behind from b r (q ∷ rs) runs h = refl
+end_kept : (from b : ℕ) (r : Range) (rs : Ranges) → AreRuns from (r ∷ rs) → r.1 ≤ b → max (end_of rs) b ≡ max (end_of (r ∷ rs)) b
+end_kept from b r [] runs h = omega arith
+end_kept from b r (q ∷ rs) runs h = refl
 
 end_joined : (from b : ℕ) (r : Range) (rs : Ranges) → AreRuns from (r ∷ rs) → max (end_of rs) (max b r.1) ≡ max (end_of (r ∷ rs)) b
 end_joined from b r [] runs = omega arith
@@ -45,7 +45,7 @@ end_added from a b [] ab runs = omega arith
 end_added from a b (r ∷ rs) ab runs =
     cond_both (nat_lt r.1 a) _ _ (λ (out : Ranges). end_of out ≡ max (end_of (r ∷ rs)) b)
     (λ early. end_one r (with_range a b rs) (some_added a b rs) ∙ end_added (r.1 + 1) a b rs ab runs.2
-    ∙ end_behind from b r rs runs (let h = ltb-true _ _ early in omega arith))
+    ∙ end_kept from b r rs runs (let h = ltb-true _ _ early in omega arith))
     (λ _. cond_both (nat_lt b r.0) _ _ (λ (out : Ranges). end_of out ≡ max (end_of (r ∷ rs)) b)
     (λ late. let h = ltb-true _ _ late in omega (arith, runs.1, end_from from r rs runs))
     (λ _. end_added (r.1 + 1) (min a r.0) (max b r.1) rs (omega arith) runs.2 ∙ end_joined from b r rs runs))
@@ -95,7 +95,7 @@ module _ (ranges : Ranges) (xs : List ℕ) (at : ℕ) (octets : List ℕ) (p : A
   was_missing : (i : ℕ) → IsFalse (is_in i ranges) → octet_at (received_in ranges xs) i ≡ None
   was_missing i new = elim (cases_lt i (length xs)) [
     | inl inside ↦ received_at 0 ranges xs i inside ∙ (let z : 0 + i ≡ i = omega arith in rw (z, new) refl)
-    | inr past ↦ none_behind (received_in ranges xs) i (omega (arith, length-received 0 ranges xs))
+    | inr past ↦ none_past_end (received_in ranges xs) i (omega (arith, length-received 0 ranges xs))
   ]
 
   came : (j : ℕ) → j < length octets → brought at octets (at + j) ≡ Some (get_or octets j 0)

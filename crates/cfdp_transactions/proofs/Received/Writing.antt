@@ -9,7 +9,7 @@ use Rattle.cfdp_transactions.specs.ReceivedLaws.{octet_at, or_offset, AreRuns}
 use Rattle.cfdp_transactions.specs.Pieces.{Ranges, is_in, received_from, received_in, with_range}
 use Rattle.cfdp_transactions.specs.PieceLaws.{AreWithin, ArePieces, AreWritten, WholeHasNone, RangeIsAdded, RangesKeep, StagedAreKept}
 use Rattle.cfdp_transactions.proofs.Received.OctetsAndGaps.{first_stays, greatest_end}
-use Rattle.cfdp_transactions.proofs.Received.PieceRanges.{is_inside, inside_true, before_false, behind_false, runs_sooner, gaps_are_between}
+use Rattle.cfdp_transactions.proofs.Received.PieceRanges.{is_inside, inside_true, before_false, outside_after, runs_sooner, gaps_are_between}
 use Rattle.cfdp_transactions.proofs.Promises.ItemOrder.{or_assoc}
 
 -- what is at an offset ------------------------------------------------------------------
@@ -25,10 +25,10 @@ received_at at ranges [] k below = absurd (omega arith)
 received_at at ranges (x ∷ xs) zero below = let z : at + 0 ≡ at = omega arith in rw z refl
 received_at at ranges (x ∷ xs) (suc k) below = let z : at + suc k ≡ suc at + k = omega arith in rw z (received_at (suc at) ranges xs k (omega arith))
 
-pub none_behind : (rs : Received) (k : ℕ) → length rs ≤ k → octet_at rs k ≡ None
-none_behind [] k h = refl
-none_behind (r ∷ rs) zero h = absurd (omega arith)
-none_behind (r ∷ rs) (suc k) h = none_behind rs k (omega arith)
+pub none_past_end : (rs : Received) (k : ℕ) → length rs ≤ k → octet_at rs k ≡ None
+none_past_end [] k h = refl
+none_past_end (r ∷ rs) zero h = absurd (omega arith)
+none_past_end (r ∷ rs) (suc k) h = none_past_end rs k (omega arith)
 
 pub same_received : (a b : Received) → length a ≡ length b → ((i : ℕ) → i < length a → octet_at a i ≡ octet_at b i) → a ≡ b
 same_received [] [] e h = refl
@@ -49,10 +49,10 @@ get_there [] j h = absurd (omega arith)
 get_there (x ∷ xs) zero h = refl
 get_there (x ∷ xs) (suc j) h = get_there xs j (omega arith)
 
-pub get_behind : (xs : List ℕ) (j : ℕ) → length xs ≤ j → slice_get xs j ≡ None
-get_behind [] j h = refl
-get_behind (x ∷ xs) zero h = absurd (omega arith)
-get_behind (x ∷ xs) (suc j) h = get_behind xs j (omega arith)
+pub get_past_end : (xs : List ℕ) (j : ℕ) → length xs ≤ j → slice_get xs j ≡ None
+get_past_end [] j h = refl
+get_past_end (x ∷ xs) zero h = absurd (omega arith)
+get_past_end (x ∷ xs) (suc j) h = get_past_end xs j (omega arith)
 
 pub brought_there : (at : ℕ) (octets : List ℕ) (i : ℕ) → at ≤ i → brought at octets i ≡ slice_get octets (i - at)
 brought_there zero octets i h = let z : i - 0 ≡ i = omega arith in rw z refl
@@ -67,8 +67,8 @@ touching a b s e i ae sb ab se = elim (cases_lt i (min a s)) [
   | inl below ↦ before_false (min a s) (max b e) i below ∙ sym (or_from (is_inside a b i) (is_inside s e i) (before_false a b i (omega arith))
       (before_false s e i (omega arith)))
   | inr from ↦ elim (cases_lt i (max b e)) [
-    | inr behind ↦ behind_false (min a s) (max b e) i behind ∙ sym (or_from (is_inside a b i) (is_inside s e i) (behind_false a b i (omega arith))
-        (behind_false s e i (omega arith)))
+    | inr following ↦ outside_after (min a s) (max b e) i following ∙ sym (or_from (is_inside a b i) (is_inside s e i) (outside_after a b i (omega arith))
+        (outside_after s e i (omega arith)))
     | inl below ↦ inside_true (min a s) (max b e) i from below ∙ sym (either i from below)
   ]
 ]
@@ -143,7 +143,8 @@ kept_at ranges xs at octets ys p some w i below = elim (cases_Bool (is_in i rang
           let value : get_or ys (at + j) 0 ≡ get_or octets j 0 = w.written j (omega arith) (rw (← index) new) in
           rw now (ap (λ (k : ℕ). Some (get_or ys k 0)) index ∙ ap (λ (x : ℕ). Some x) value
           ∙ sym (brought_there at octets i late ∙ get_there octets j (omega arith)))
-      | inr past ↦ rw (gone new (behind_false at (at + length octets) i past)) (sym (brought_there at octets i late ∙ get_behind octets (i - at) (omega arith)))
+      | inr past ↦ rw (gone new (outside_after at (at + length octets) i past))
+          (sym (brought_there at octets i late ∙ get_past_end octets (i - at) (omega arith)))
     ]
   ])
 ]
@@ -160,7 +161,7 @@ kept_at ranges xs at octets ys p some w i below = elim (cases_Bool (is_in i rang
     absent : is_in i ranges ≡ false → octet_at (received_in ranges xs) i ≡ None
     absent new = elim (cases_lt i (length xs)) [
       | inl inside ↦ received_at 0 ranges xs i inside ∙ (let z : 0 + i ≡ i = omega arith in rw (z, new) refl)
-      | inr past ↦ none_behind (received_in ranges xs) i (omega (arith, length-received 0 ranges xs))
+      | inr past ↦ none_past_end (received_in ranges xs) i (omega (arith, length-received 0 ranges xs))
     ]
 
 pub kept_length : (rs : Received) (at : ℕ) (octets : List ℕ) → 0 < length octets → length (kept_with rs at octets) ≡ max (length rs) (at + length octets)

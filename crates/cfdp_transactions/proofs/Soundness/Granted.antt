@@ -97,14 +97,14 @@ items_length (Perform request ∷ items) h = omega (arith, requests_length items
 
 -- no request fails -----------------------------------------------------------------
 
-answer_good : (answer : Answer) (i : ℕ) (behind : List Answer) → HasStatus answer → first_failure i (answer ∷ behind) ≡ None → IsTrue (succeeded answer)
-    × (first_failure (i + 1) behind ≡ None)
-answer_good (Performed status) i behind h none =
-    cond_both (is_successful status) (first_failure (i + 1) behind) (Some (i, status)) (λ (o : Option (ℕ × Status)). o ≡ None → IsTrue (is_successful status)
-    × (first_failure (i + 1) behind ≡ None))
+answer_good : (answer : Answer) (i : ℕ) (following : List Answer) → HasStatus answer → first_failure i (answer ∷ following) ≡ None → IsTrue (succeeded answer)
+    × (first_failure (i + 1) following ≡ None)
+answer_good (Performed status) i following h none =
+    cond_both (is_successful status) (first_failure (i + 1) following) (Some (i, status)) (λ (o : Option (ℕ × Status)). o ≡ None → IsTrue (is_successful status)
+    × (first_failure (i + 1) following ≡ None))
     (λ good e. (good, e)) (λ _ e. absurd cc) none
-answer_good Installed i behind h none = elim h [ ]
-answer_good NotInstalled i behind h none = elim h [ ]
+answer_good Installed i following h none = elim h [ ]
+answer_good NotInstalled i following h none = elim h [ ]
 
 requests_good : (prefixes : List Path) (F : Filestore) (slot i : ℕ) (items : List Item) → AreRequests items → first_failure i (statuses prefixes F slot items)
     ≡ None → AllSucceeded (statuses prefixes F slot items)
@@ -117,19 +117,19 @@ requests_good prefixes F slot i (Perform request ∷ items) h none =
     (good.0, requests_good prefixes (performed prefixes F slot (Perform request)) slot (i + 1) items h.1 good.1)
 
 -- an install is no request, and is not counted
-install_passed : (answer : Answer) (i : ℕ) (behind : List Answer) → IsTrue (succeeded answer) → first_failure i (answer ∷ behind) ≡ None → (j : ℕ)
-    × (first_failure j behind ≡ None)
-install_passed (Performed status) i behind good none = (i + 1, rw good at none)
-install_passed Installed i behind good none = (i, none)
-install_passed NotInstalled i behind good none = absurd cc
+install_passed : (answer : Answer) (i : ℕ) (following : List Answer) → IsTrue (succeeded answer) → first_failure i (answer ∷ following) ≡ None → (j : ℕ)
+    × (first_failure j following ≡ None)
+install_passed (Performed status) i following good none = (i + 1, rw good at none)
+install_passed Installed i following good none = (i, none)
+install_passed NotInstalled i following good none = absurd cc
 
 items_good : (prefixes : List Path) (F : Filestore) (i : ℕ) (items : List Item) → AreItems items → IsTrue (destination_allowed prefixes F items) →
     first_failure i (statuses prefixes F 0 items) ≡ None → AllSucceeded (statuses prefixes F 0 items)
 unfolding statuses
 items_good prefixes F i [] h allowed none = tt
 items_good prefixes F i (Install p ∷ items) h allowed none =
-    let behind = install_passed (row prefixes F 0 (Install p)).answer i (statuses prefixes (performed prefixes F 0 (Install p)) 0 items) allowed none in
-    (allowed, requests_good prefixes (performed prefixes F 0 (Install p)) 0 behind.0 items h behind.1)
+    let following = install_passed (row prefixes F 0 (Install p)).answer i (statuses prefixes (performed prefixes F 0 (Install p)) 0 items) allowed none in
+    (allowed, requests_good prefixes (performed prefixes F 0 (Install p)) 0 following.0 items h following.1)
 items_good prefixes F i (Perform request ∷ items) h allowed none = requests_good prefixes F 0 i (Perform request ∷ items) (tt, h) none
 
 -- the verdict ----------------------------------------------------------------------

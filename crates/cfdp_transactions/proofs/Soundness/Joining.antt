@@ -8,7 +8,7 @@ use Rattle.cfdp_transactions.specs.Entry.{is_live, Entry, name_of, footprint, re
 use Rattle.cfdp_transactions.specs.World.{World, spare_blocks}
 use Rattle.cfdp_transactions.specs.Admission.{with_new}
 use Rattle.cfdp_transactions.specs.Sound.{Each, IsKept, IsApart, IsHonest, Sound}
-use Rattle.cfdp_transactions.proofs.Indexes.{append_each, append_two, get_append, before, before_apart, behind, remove_index, remove_others, length_remove, total-append, total-remove, get_same}
+use Rattle.cfdp_transactions.proofs.Indexes.{append_each, append_two, get_append, before, before_apart, following, remove_index, remove_others, length_remove, total-append, total-remove, get_same}
 use Rattle.cfdp_transactions.proofs.Soundness.OwnChange.{reserves_total}
 
 -- what a new entry owes: no conflict, a slot of its own, and a promise within the spare blocks
@@ -51,7 +51,7 @@ taken_sound W k e s at final = record {
       (before_apart k i j ne);
   few = omega (arith, s.few, length_remove W.table k);
   slots = s.slots;
-  vacant = λ slot vacant. s.vacant slot (λ j d here live. vacant (behind k j) d
+  vacant = λ slot vacant. s.vacant slot (λ j d here live. vacant (following k j) d
       (remove_others W.table k j (λ q. let same : d ≡ e = get_same W.table j k d e here at q in both_ways (is_live e.phase) final (rw same at live))
       ∙ here) live);
   rooted = s.rooted;

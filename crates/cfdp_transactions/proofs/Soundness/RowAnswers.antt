@@ -7,7 +7,7 @@ use Rattle.std.proofs.lemmas.Bool.{cond_both}
 use Rattle.cfdp_status.specs.declared.action.Action.{Action}
 use Rattle.cfdp_paths.specs.Paths.{Path}
 use Rattle.cfdp_actions.specs.Filestore.{Node, Directory, File, Filestore, staged_in, Change, Becomes, Stages, changed, after}
-use Rattle.cfdp_actions.specs.Actions.{Item, Install, Perform, Request, CreateFile, DeleteFile, RenameFile, AppendFile, ReplaceFile, CreateDirectory, RemoveDirectory, DenyFile, DenyDirectory, Answer, Performed, Installed, NotInstalled, Outcome, create, delete_file, vacating, settled, rename, append, replace, remove_directory, deny_file, deny_directory, install, table, free_row, row, is_barred, is_tree_too_deep, succeeded}
+use Rattle.cfdp_actions.specs.Actions.{Item, Install, Perform, Request, CreateFile, DeleteFile, RenameFile, AppendFile, ReplaceFile, CreateDirectory, RemoveDirectory, DenyFile, DenyDirectory, Answer, Performed, Installed, NotInstalled, Outcome, create, delete_file, vacating, arriving, rename, append, replace, remove_directory, deny_file, deny_directory, install, table, free_row, row, is_barred, is_tree_too_deep, succeeded}
 use Rattle.cfdp_leases.specs.Items.{performed}
 use Rattle.cfdp_transactions.proofs.SlotChanges.{IsInSlot}
 
@@ -35,9 +35,9 @@ vacated_paths : (es : List (Path × Node)) (cs : List Change) → AllByRecursion
 vacated_paths [] cs h = h
 vacated_paths (e ∷ es) cs h = (tt, vacated_paths es cs h)
 
-settled_paths : (p q : Path) (es : List (Path × Node)) → AllByRecursion IsOfPath (settled p q es)
-settled_paths p q [] = tt
-settled_paths p q (e ∷ es) = (tt, settled_paths p q es)
+arriving_paths : (p q : Path) (es : List (Path × Node)) → AllByRecursion IsOfPath (arriving p q es)
+arriving_paths p q [] = tt
+arriving_paths p q (e ∷ es) = (tt, arriving_paths p q es)
 
 of_create : (a : Action) (node : Node) (p : Path) (there : Option Node) (good : Bool) → IsOfRequest (create a node p there good)
 unfolding create
@@ -59,7 +59,7 @@ of_rename p q (Some node) None false below es = record { answer = tt; changes = 
 of_rename p q (Some node) None true true es = record { answer = tt; changes = tt }
 of_rename p q (Some node) None true false es =
     cond_both (is_tree_too_deep p q es) _ _ IsOfRequest (λ _. record { answer = tt; changes = tt })
-    (λ _. record { answer = tt; changes = vacated_paths es (settled p q es) (settled_paths p q es) })
+    (λ _. record { answer = tt; changes = vacated_paths es (arriving p q es) (arriving_paths p q es) })
 
 of_append : (p : Path) (there other : Option Node) → IsOfRequest (append p there other)
 unfolding append

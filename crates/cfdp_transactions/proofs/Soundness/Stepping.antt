@@ -93,9 +93,9 @@ live_before : (n : ℕ) (items : List Item) → IsTrue (is_live (phase_before n 
 live_before n [] h = absurd cc
 live_before n (item ∷ items) h = ((λ q. absurd cc), refl)
 
-rest_before : (n : ℕ) (items behind : List Item) → drop n items ≡ behind → items_left (phase_before n behind) items ≡ behind
+rest_before : (n : ℕ) (items following : List Item) → drop n items ≡ following → items_left (phase_before n following) items ≡ following
 rest_before n items [] h = refl
-rest_before n items (item ∷ behind) h = h
+rest_before n items (item ∷ following) h = h
 
 first_succeeds : (prefixes : List Path) (F : Filestore) (slot : ℕ) (item : Item) (items : List Item) → Succeed prefixes F slot (item ∷ items) →
     IsTrue (succeeded (row prefixes F slot item).answer)

@@ -102,7 +102,7 @@ abbrev pub IsSteady : Store → Store → Type 0
 IsSteady old new = (new.takes_no_memory ≡ old.takes_no_memory) × (new.capacity ≡ old.capacity)
 
 -- of the budget q and the later one p: this many blocks were free before, and this many are after
-pub record Settles (q p : Budget) (slot before after : ℕ) : Type 0 where
+pub record BooksSlot (q p : Budget) (slot before after : ℕ) : Type 0 where
   pub all : p.capacity ≡ q.capacity
   pub unused : p.free + before ≡ q.free + after
   pub apart : spare p ≡ spare q

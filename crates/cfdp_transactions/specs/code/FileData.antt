@@ -12,7 +12,7 @@ pub record IsPut (ranges : Ranges) (at : ℕ) (octets xs ys : List ℕ) (from : 
   pub long : length ys ≡ length xs
   pub kept : (i : ℕ) → i < length xs → IsTrue (is_in i ranges) → slice_index ys i ≡ slice_index xs i
   pub before : (i : ℕ) → i < at → i < length xs → slice_index ys i ≡ slice_index xs i
-  pub behind : (i : ℕ) → from ≤ i → i < length xs → slice_index ys i ≡ slice_index xs i
+  pub following : (i : ℕ) → from ≤ i → i < length xs → slice_index ys i ≡ slice_index xs i
   pub written : (j : ℕ) → j < length octets → at + j < from → IsFalse (is_in (at + j) ranges) → slice_index ys (at + j)
       ≡ slice_index octets j
 

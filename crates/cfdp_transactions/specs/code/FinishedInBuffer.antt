@@ -11,7 +11,7 @@ use Rattle.std.specs.List.{flat_map}
 use Rattle.cfdp_status.specs.declared.status.Status.TheVariants.{NotPerformed}
 use Rattle.cfdp_tlv.specs.Values.{RequestFields}
 use Rattle.cfdp_pdus.specs.Canonical.{response_field}
-use Rattle.cfdp_pdus.specs.Placing.{filled}
+use Rattle.cfdp_pdus.specs.BufferParts.{filled}
 use Rattle.cfdp_transactions.specs.Events.{Outcome, Reply}
 use Rattle.cfdp_transactions.specs.Outcome.{answered, responses_of}
 use Rattle.cfdp_transactions.specs.code.TakenOutcome.{answered_by, statuses_of}
@@ -30,9 +30,9 @@ abbrev pub unperformed_field : RequestFields → List ℕ
 unperformed_field r = response_field (answered r (NotPerformed r.action))
 
 pub record Issues (answer : World × Reply) (V : World) (out written : List ℕ)
-    (told : Option TakenFinished) : Type 0 where
+    (returned : Option TakenFinished) : Type 0 where
   pub world : V ≡ answer.0
-  pub told_is : told ≡ taken_by answer.1
+  pub returned_is : returned ≡ taken_by answer.1
   pub octets : written ≡ filled (sent answer.1) out
   pub fits : length (sent answer.1) ≤ length out
 

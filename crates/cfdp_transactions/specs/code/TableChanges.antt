@@ -1,8 +1,8 @@
 -- How the program's table changes.
 --     AreNamed entries          each is kept under its own name
---     Becomes old new k f       the row at k is what f makes of it, and nothing else changes
---     CanAdvance r install ticks      the row has a next item that may take this many ticks
---     CanStore r start end      there is room for one more range of the row's octets
+--     Becomes old new k f       the entry at k is what f makes of it, and nothing else changes
+--     CanAdvance r install ticks      the entry has a next item that may take this many ticks
+--     CanStore r start end      there is room for one more range of the entry's octets
 use Rattle.std.specs.Prelude.{◌≡◌, ℕ, ◌+◌, ◌≤◌, ◌<◌, length, pos, negsuc, ◌≤ℤ◌, Bool, false, List, Some, slice_get, slice_set}
 use Rattle.std.specs.List.{AllByRecursion}
 use Rattle.cfdp_status.specs.declared.transaction.TransactionId.{TransactionId}

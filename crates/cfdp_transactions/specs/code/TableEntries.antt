@@ -8,10 +8,10 @@
 --     first_entry_over          the first one that is over
 --     kept_progress, kept_reach, kept_reach_in  the end of its last octet;  up to where its gaps say, by its phase
 --     kept_gaps r, kept_gaps_in  what is missing between its ranges, and up to the size of its EOF;  by its phase
---     fresh_entry               a row with nothing received and nothing spent
---     entry_ended, entry_turned  a row that ends, as `ended` says;  that moves to another phase
---     entry_stored              a row for which octets were staged
---     entry_stepped             a row whose next item went well
+--     fresh_entry               an entry with nothing received and nothing spent
+--     entry_ended, entry_turned  an entry that ends, as `ended` says;  that moves to another phase
+--     entry_stored              an entry for which octets were staged
+--     entry_stepped             an entry whose next item went well
 use Rattle.std.specs.Prelude.{ℕ, suc, ◌+◌, ℤ, pos, Bool, false, ◌||◌, if◌then◌else◌, List, [], ◌∷◌, map, take, Option, Some, None}
 use Rattle.cfdp_status.specs.declared.transaction.TransactionId.{TransactionId}
 use Rattle.cfdp_pdus.specs.Values.{MetadataFields}
@@ -67,7 +67,7 @@ entry_in F r = record {
 }
 
 abbrev pub table_of : Filestore → List TableEntryFields → List Entry
-table_of F rows = map (entry_in F) rows
+table_of F table_entries = map (entry_in F) table_entries
 
 abbrev pub kept_name : TableEntryFields → TransactionId
 kept_name r = id_of r.header

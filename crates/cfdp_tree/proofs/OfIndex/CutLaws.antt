@@ -96,11 +96,11 @@ module _ (old : Blocks) (p b : ℕ) (before : (node_fields_at old p).same_head �
       | inr other ↦ (
           let y = (node_fields_at old x).same_head in
           let list = index_chain old (suc m) y in
-          let behind = rest_has x (index_chain old m y) p has other in
+          let following = rest_has x (index_chain old m y) p has other in
           let first = once_first x list once in
           let x_other : x ≢ b = All-contains (λ c. x ≢ c) list b first (links_after (suc m) x has) in
           ap (λ c. x ∷ index_chain new m c) (others x (λ e. other (sym e)))
-          ∙ ap (λ xs. x ∷ xs) (cut_chain m y (rest_once x list once) behind)
+          ∙ ap (λ xs. x ∷ xs) (cut_chain m y (rest_once x list once) following)
           ∙ sym (without_other b x list x_other))
     ]
 

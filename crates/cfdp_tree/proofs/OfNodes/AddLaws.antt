@@ -13,7 +13,7 @@ use Rattle.cfdp_paths.specs.Paths.{Path, path_cmp, same_path}
 use Rattle.cfdp_paths.proofs.Comparing.{same_path-Decides, path_cmp-total}
 use Rattle.cfdp_arena.specs.Arena.{Blocks, octets_at, octets_of, with_block}
 use Rattle.cfdp_actions.specs.Filestore.{Node}
-use Rattle.cfdp_tree.specs.code.NodeFields.{node_fields_of, node_name, kind_told}
+use Rattle.cfdp_tree.specs.code.NodeFields.{node_fields_of, node_name, kind_of_octet}
 use Rattle.cfdp_tree.specs.code.Tree.{IsNode, IsDirectory, name_at, home_in, home, climb, most_names, path_of_node, Ends, IsEntry, IsNamed, IsTree}
 use Rattle.cfdp_tree.specs.code.Directories.{path_at}
 use Rattle.cfdp_tree.specs.code.Kept.{node_of, Shows}
@@ -74,7 +74,7 @@ module _ (old : Blocks) (b : ℕ) (block : List ℕ) (within : b < length old) (
       let other = was_other d was.node in
       record {
         node = subst IsSome (sym (at_other d other)) was.node;
-        directory = ap (λ o. kind_told (node_fields_of o).kind) (octets_other d other)
+        directory = ap (λ o. kind_of_octet (node_fields_of o).kind) (octets_other d other)
             ∙ was.directory;
       }
 

@@ -12,7 +12,7 @@ use Rattle.std.specs.Option.{option_map_or}
 use Rattle.cfdp_arena.specs.Arena.{Blocks}
 use Rattle.cfdp_paths.specs.Paths.{Name, Path}
 use Rattle.cfdp_tree.specs.code.Tree.{IsNode, name_at, home, climb, most_names, path_of_node, Ends, IsEntry, IsTree}
-use Rattle.cfdp_tree.specs.code.Directories.{path_at, StandsAt}
+use Rattle.cfdp_tree.specs.code.Directories.{path_at, IsAtPath}
 use Rattle.cfdp_tree.proofs.OfNodes.TreeLaws.{last_same, same_node}
 
 pub most_is : most_names ≡ suc 7
@@ -77,21 +77,21 @@ module _ (nodes : Blocks) (tree : IsTree nodes) where
   same_bucket (Some c) (Some d) xs ys e = ap Some (same_node nodes tree c d (xs c refl) (ys d refl) e)
 
   -- what has a name more than a directory is in it
-  pub entry_at : (directory : Option ℕ) (p : Path) (name : Name) (b : ℕ) → StandsAt nodes directory p → IsNode nodes b → path_of_node nodes b ≡ p ++ name ∷ [] →
+  pub entry_at : (directory : Option ℕ) (p : Path) (name : Name) (b : ℕ) → IsAtPath nodes directory p → IsNode nodes b → path_of_node nodes b ≡ p ++ name ∷ [] →
       IsEntry nodes directory name b
-  entry_at directory p name b stands node e =
+  entry_at directory p name b exists node e =
       let parts = last_same (path_at nodes (home nodes b)) p (name_at nodes b) name (sym (path_by_home b node) ∙ e) in
       record {
         node = node;
-        there = same_bucket (home nodes b) directory (λ d there. (tree.homes b d node there).node) stands.node (parts.0 ∙ sym stands.path);
+        there = same_bucket (home nodes b) directory (λ d there. (tree.homes b d node there).node) exists.node (parts.0 ∙ sym exists.path);
         named = parts.1;
       }
 
-  pub path_entry : (directory : Option ℕ) (p : Path) (name : Name) (b : ℕ) → StandsAt nodes directory p → IsEntry nodes directory name b → path_of_node nodes b
+  pub path_entry : (directory : Option ℕ) (p : Path) (name : Name) (b : ℕ) → IsAtPath nodes directory p → IsEntry nodes directory name b → path_of_node nodes b
       ≡ p ++ name
       ∷ []
-  path_entry directory p name b stands entry = path_by_home b entry.node ∙ (λ i. path_at nodes (entry.there i) ++ entry.named i ∷ [])
-      ∙ ap (λ q. q ++ name ∷ []) stands.path
+  path_entry directory p name b exists entry = path_by_home b entry.node ∙ (λ i. path_at nodes (entry.there i) ++ entry.named i ∷ [])
+      ∙ ap (λ q. q ++ name ∷ []) exists.path
 
   -- a node for each beginning of its path
   beginning_from : (n b k : ℕ) → IsNode nodes b → Ends nodes n b → 1 ≤ k → k ≤ length (path_of_node nodes b) → (d : ℕ) × IsNode nodes d

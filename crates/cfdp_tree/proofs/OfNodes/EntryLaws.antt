@@ -10,7 +10,7 @@ use Rattle.std.specs.Option.{option_map_or}
 use Rattle.std.specs.Prelude.{IsSome, unwrap_or}
 use Rattle.cfdp_arena.specs.Arena.{Blocks, octets_at, octets_of, with_block}
 use Rattle.cfdp_arena.proofs.Chains.{live_within}
-use Rattle.cfdp_tree.specs.code.NodeFields.{node_fields_of, node_name, kind_told}
+use Rattle.cfdp_tree.specs.code.NodeFields.{node_fields_of, node_name, kind_of_octet}
 use Rattle.cfdp_tree.specs.code.Tree.{IsNode, node_fields_at, name_at, home_in, home, climb, most_names, path_of_node, Ends, IsNamed, IsTree, SameEntries}
 
 -- P is of the nodes that stayed, and of their directories
@@ -72,11 +72,11 @@ module _ (old : Blocks) (b : ℕ) (block : List ℕ) (node : IsNode old b) where
   ]
 
   pub same_entries : IsTree old → IsNamed block → home_in b block ≡ home old b → node_name block ≡ name_at old b
-      → kind_told (node_fields_of block).kind ≡ kind_told (node_fields_at old b).kind → SameEntries old (with_block old b block)
+      → kind_of_octet (node_fields_of block).kind ≡ kind_of_octet (node_fields_at old b).kind → SameEntries old (with_block old b block)
   same_entries tree named there name kind = record {
     nodes = kept_by (λ c entry. is_some entry) (sym node);
     homes = kept_by (λ c entry. home_in c (unwrap_or entry [])) there;
     names = kept_by (λ c entry. node_name (unwrap_or entry [])) name;
-    kinds = kept_by (λ c entry. kind_told (node_fields_of (unwrap_or entry [])).kind) kind;
+    kinds = kept_by (λ c entry. kind_of_octet (node_fields_of (unwrap_or entry [])).kind) kind;
     named = still_named tree named;
   }

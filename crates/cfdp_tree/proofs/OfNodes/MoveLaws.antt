@@ -10,7 +10,7 @@ use Rattle.std.specs.Prelude.{unwrap_or}
 use Rattle.cfdp_paths.specs.Paths.{Name, Path, parent, is_at_or_below, rebased}
 use Rattle.cfdp_paths.proofs.Below.{at_or_below-itself, at_or_below-trans, at_or_below-append, length-at_or_below, is_below-Decides, below_parent, parent-take}
 use Rattle.cfdp_arena.specs.Arena.{Blocks, octets_at, octets_of, with_block}
-use Rattle.cfdp_tree.specs.code.NodeFields.{node_fields_of, node_name, kind_told}
+use Rattle.cfdp_tree.specs.code.NodeFields.{node_fields_of, node_name, kind_of_octet}
 use Rattle.cfdp_tree.specs.code.Tree.{IsNode, IsDirectory, node_fields_at, name_at, home_in, home, climb, most_names, path_of_node, Ends, IsEntry, IsNamed, IsTree}
 use Rattle.cfdp_tree.specs.code.Directories.{path_at}
 use Rattle.cfdp_tree.proofs.OfNodes.TreeLaws.{same_node}
@@ -34,7 +34,8 @@ pub true_false : {b : Bool} → b ≡ true → b ≡ false → ⊥
 true_false is not = cc
 
 module _ (old : Blocks) (b : ℕ) (block : List ℕ) (node : IsNode old b) (tree : IsTree old) (named : IsNamed block)
-    (kind : kind_told (node_fields_of block).kind ≡ kind_told (node_fields_at old b).kind) (good : (d : ℕ) → home_in b block ≡ Some d → IsDirectory old d)
+    (kind : kind_of_octet (node_fields_of block).kind ≡ kind_of_octet (node_fields_at old b).kind)
+    (good : (d : ℕ) → home_in b block ≡ Some d → IsDirectory old d)
     (p q : Path) (p_is : path_of_node old b ≡ p) (q_is : path_at old (home_in b block) ++ node_name block ∷ [] ≡ q) (apart : is_at_or_below q p ≡ false)
     (fresh : (c : ℕ) → IsEntry old (home_in b block) (node_name block) c → ⊥)
     (fits : (c : ℕ) → IsNode old c → is_at_or_below (path_of_node old c) p ≡ true → length (rebased p q (path_of_node old c)) ≤ 8) where
@@ -50,8 +51,8 @@ module _ (old : Blocks) (b : ℕ) (block : List ℕ) (node : IsNode old b) (tree
   somes : (c : ℕ) → is_some (octets_at new c) ≡ is_some (octets_at old c)
   somes = kept_by old b block node (λ c entry. is_some entry) (sym node)
 
-  kinds : (c : ℕ) → kind_told (node_fields_at new c).kind ≡ kind_told (node_fields_at old c).kind
-  kinds = kept_by old b block node (λ c entry. kind_told (node_fields_of (unwrap_or entry [])).kind) kind
+  kinds : (c : ℕ) → kind_of_octet (node_fields_at new c).kind ≡ kind_of_octet (node_fields_at old c).kind
+  kinds = kept_by old b block node (λ c entry. kind_of_octet (node_fields_of (unwrap_or entry [])).kind) kind
 
   home_other : (c : ℕ) → c ≢ b → home new c ≡ home old c
   home_other c other = ap (home_in c) (octets_other c other)

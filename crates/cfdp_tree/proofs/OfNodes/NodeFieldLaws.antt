@@ -1,11 +1,11 @@
 -- A node's block with another number in it.
---     name_kept      its name, where a number before it changes
---     row_same, header_same      what it says, and its header, by the octets before its name
---     row-payload    what it says, by its payload alone
---     blank_row      what a blank block says
---     length-name    how many octets its name has
---     name-put       its name, where one was put there
---     row-sized, row-summed     what it says, where its size changes, or the checksum of its octets
+--     name_kept       its name, where a number before it changes
+--     fields_same, header_same   what it says, and its header, by the octets before its name
+--     fields-payload  what it says, by its payload alone
+--     blank_fields    what a blank block says
+--     length-name     how many octets its name has
+--     name-put        its name, where one was put there
+--     fields-sized, fields-summed  what it says, where its size changes, or the checksum of its octets
 use Rattle.std.proofs.Common.{◌≡◌, ◌⊎◌, ℕ, refl, sym, ap, take, ◌++◌, append_assoc, ◌+◌, ◌*◌, ◌/◌, ◌%◌, ◌<◌, ◌≤◌, List, length, length-drop, drop, set, get_or, ◌∙◌, inl, inr, arith, length-set}
 use Rattle.std.proofs.lemmas.List.{get_or-set_same, get_or-set_other, get_or-drop, drop-set-lt, length-take-le, take_at, drop_at}
 use Rattle.cfdp_arena.specs.Blocks.{blank_block, with_part}
@@ -21,8 +21,8 @@ module _ (a b : List ℕ) (same : (i : ℕ) → i < 32 → get_or a i 0 ≡ get_
   number_same : (i : ℕ) → i < 31 → block_number_at a i ≡ block_number_at b i
   number_same i within = (λ k. same i (omega arith) k + 256 * same (i + 1) (omega arith) k)
 
-  pub row_same : node_fields_of a ≡ node_fields_of b
-  row_same =
+  pub fields_same : node_fields_of a ≡ node_fields_of b
+  fields_same =
       let parent = number_same 8 (omega arith) in
       let first = number_same 10 (omega arith) in
       let last = number_same 12 (omega arith) in
@@ -56,8 +56,8 @@ module _ (a b : List ℕ) (same : (i : ℕ) → i < 32 → get_or a i 0 ≡ get_
 payload_octet : (a : List ℕ) (i j : ℕ) → j ≡ 8 + i → get_or a j 0 ≡ get_or (payload a) i 0
 payload_octet a i j e = ap (λ n. get_or a n 0) e ∙ sym (get_or-drop 8 a i 0)
 
-pub row-payload : (a b : List ℕ) → payload a ≡ payload b → node_fields_of a ≡ node_fields_of b
-row-payload a b same =
+pub fields-payload : (a b : List ℕ) → payload a ≡ payload b → node_fields_of a ≡ node_fields_of b
+fields-payload a b same =
     let octet : (i j : ℕ) → j ≡ 8 + i → get_or a j 0 ≡ get_or b j 0 = (λ i j e. payload_octet a i j e ∙ ap (λ xs. get_or xs i 0) same
     ∙ sym (payload_octet b i j e)) in
     let pair : (i j : ℕ) → j ≡ 8 + i → block_number_at a j ≡ block_number_at b j =
@@ -83,9 +83,9 @@ row-payload a b same =
       sum = sum_low k + 65536 * sum_high k;
     })
 
-pub blank_row : node_fields_of blank_block ≡ record { parent = 0; first = 0; last = 0; size = 0; kind = 0; name_length = 0; same_head = 0; sum = 0 }
+pub blank_fields : node_fields_of blank_block ≡ record { parent = 0; first = 0; last = 0; size = 0; kind = 0; name_length = 0; same_head = 0; sum = 0 }
 unfolding blank_block
-blank_row = refl
+blank_fields = refl
 
 pub length-name : (block : List ℕ) → length block ≡ 128 → (node_fields_of block).name_length ≤ 96 → length (node_name block) ≡
     (node_fields_of block).name_length
@@ -159,8 +159,8 @@ module _ (block : List ℕ) (whole : length block ≡ 128) (offset : ℕ) (withi
 
 module _ (block : List ℕ) (whole : length block ≡ 128) (lowest low high highest number : ℕ) (is : lowest + 256 * low + 65536 * (high + 256 * highest)
     ≡ number) where
-  pub row-sized : node_fields_of (four block whole 14 (omega arith) lowest low high highest) ≡ record (node_fields_of block) { size = number }
-  row-sized =
+  pub fields-sized : node_fields_of (four block whole 14 (omega arith) lowest low high highest) ≡ record (node_fields_of block) { size = number }
+  fields-sized =
       let parent = before block whole 14 (omega arith) lowest low high highest 8 (omega arith) in
       let first = before block whole 14 (omega arith) lowest low high highest 10 (omega arith) in
       let last = before block whole 14 (omega arith) lowest low high highest 12 (omega arith) in
@@ -181,8 +181,8 @@ module _ (block : List ℕ) (whole : length block ≡ 128) (lowest low high high
         sum = sum_low k + 65536 * sum_high k;
       })
 
-  pub row-summed : node_fields_of (four block whole 26 (omega arith) lowest low high highest) ≡ record (node_fields_of block) { sum = number }
-  row-summed =
+  pub fields-summed : node_fields_of (four block whole 26 (omega arith) lowest low high highest) ≡ record (node_fields_of block) { sum = number }
+  fields-summed =
       let parent = before block whole 26 (omega arith) lowest low high highest 8 (omega arith) in
       let first = before block whole 26 (omega arith) lowest low high highest 10 (omega arith) in
       let last = before block whole 26 (omega arith) lowest low high highest 12 (omega arith) in

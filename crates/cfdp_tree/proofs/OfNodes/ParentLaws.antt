@@ -1,6 +1,6 @@
 -- A path's parent, where it is the root or a directory.
 --     parent_directory, parent_path     a node that is found is a directory, and its path is that of the parent
---     parent_stands                     it is the root or a directory
+--     parent_exists                     it is the root or a directory
 use Rattle.std.proofs.Common.{◌≡◌, ℕ, zero, suc, ◌+◌, true, not, length, take, Option, Some, None, refl, sym, ap, ◌∙◌, subst, ◌≤◌, arith}
 use Rattle.std.specs.Prelude.{IfSome, IfNone}
 use Rattle.cfdp_paths.specs.Paths.{Path}
@@ -9,12 +9,12 @@ use Rattle.cfdp_actions.specs.declared.kind.Kind.{Kind}
 use Rattle.cfdp_actions.specs.declared.kind.Kind.TheVariants as kind
 use Rattle.cfdp_actions.specs.Filestore.{Node, Filestore, node_at, is_directory, parent_is_good}
 use Rattle.cfdp_actions.specs.Store.{is_file_kind}
-use Rattle.cfdp_tree.specs.code.NodeFields.{node_fields_of, kind_told}
+use Rattle.cfdp_tree.specs.code.NodeFields.{node_fields_of, kind_of_octet}
 use Rattle.cfdp_tree.specs.code.Tree.{IsNode, IsDirectory, path_of_node, IsTree}
 use Rattle.cfdp_tree.specs.code.Kept.{file_of, Shows}
-use Rattle.cfdp_tree.specs.code.Directories.{path_at, StandsAt}
+use Rattle.cfdp_tree.specs.code.Directories.{path_at, IsAtPath}
 use Rattle.cfdp_tree.proofs.OfNodes.ClimbLaws.{some_path}
-use Rattle.cfdp_tree.proofs.OfStore.SeenLaws.{seen_parent, told_directory}
+use Rattle.cfdp_tree.proofs.OfStore.SeenLaws.{seen_parent, node_is_directory}
 use Rattle.cfdp_tree.proofs.OfIndex.InsertLaws.{some_same}
 
 directory_kind : (k : Kind) → not (is_file_kind k) ≡ true → k ≡ kind.Directory
@@ -38,26 +38,26 @@ module _ (arena nodes : Blocks) (tree : IsTree nodes) (F : Filestore) (shows : S
   of_node b some node way =
       let block = octets_of nodes b in
       let at = sym (ap (node_at F) way) ∙ shows.each b node in
-      let told = sym (told_directory arena (kind_told (node_fields_of block).kind) (file_of block)) ∙ sym (ap is_directory at) ∙ good_node some in
-      record { node = node; directory = directory_kind (kind_told (node_fields_of block).kind) told }
+      let described = sym (node_is_directory arena (kind_of_octet (node_fields_of block).kind) (file_of block)) ∙ sym (ap is_directory at) ∙ good_node some in
+      record { node = node; directory = directory_kind (kind_of_octet (node_fields_of block).kind) described }
 
-  stands : (n : ℕ) → n ≡ depth → (directory : Option ℕ) → Found directory → ((d : ℕ) → directory ≡ Some d → IsDirectory nodes d) ×
+  exists : (n : ℕ) → n ≡ depth → (directory : Option ℕ) → Found directory → ((d : ℕ) → directory ≡ Some d → IsDirectory nodes d) ×
       (path_at nodes directory ≡ take depth path)
-  stands zero is None found = ((λ d e. absurd (none_some e)), ap (λ n. take n path) is)
+  exists zero is None found = ((λ d e. absurd (none_some e)), ap (λ n. take n path) is)
     where
       none_some : {x : ℕ} → None ≡ Some x → ⊥
       none_some e = cc
-  stands zero is (Some b) found = absurd (some_path nodes tree b found.0 (found.1 ∙ sym (ap (λ n. take n path) is)))
-  stands (suc n) is None found = absurd (no_directory (node_at F (take depth path))
+  exists zero is (Some b) found = absurd (some_path nodes tree b found.0 (found.1 ∙ sym (ap (λ n. take n path) is)))
+  exists (suc n) is None found = absurd (no_directory (node_at F (take depth path))
       (λ node e. (let at = shows.only (take depth path) node e in found.2 at.0 at.1 at.2)) (good_node (omega (arith, is))))
-  stands (suc n) is (Some b) found = ((λ d e. subst (IsDirectory nodes) (some_same e) (of_node b (omega (arith, is)) found.0 found.1)), found.1)
+  exists (suc n) is (Some b) found = ((λ d e. subst (IsDirectory nodes) (some_same e) (of_node b (omega (arith, is)) found.0 found.1)), found.1)
 
   module _ (directory : Option ℕ) (found : Found directory) where
     pub parent_directory : (d : ℕ) → directory ≡ Some d → IsDirectory nodes d
-    parent_directory = (stands depth refl directory found).0
+    parent_directory = (exists depth refl directory found).0
 
     pub parent_path : path_at nodes directory ≡ take depth path
-    parent_path = (stands depth refl directory found).1
+    parent_path = (exists depth refl directory found).1
 
-    pub parent_stands : StandsAt nodes directory (take depth path)
-    parent_stands = record { node = (λ d e. (parent_directory d e).node); path = parent_path }
+    pub parent_exists : IsAtPath nodes directory (take depth path)
+    parent_exists = record { node = (λ d e. (parent_directory d e).node); path = parent_path }

@@ -12,7 +12,7 @@ use Rattle.cfdp_paths.proofs.Comparing.{same_path-Decides, path_cmp-total}
 use Rattle.cfdp_arena.specs.Arena.{Blocks, octets_at, octets_of, without_block}
 use Rattle.cfdp_arena.proofs.Chains.{live_within}
 use Rattle.cfdp_actions.specs.Filestore.{Node}
-use Rattle.cfdp_tree.specs.code.NodeFields.{node_fields_of, node_name, kind_told}
+use Rattle.cfdp_tree.specs.code.NodeFields.{node_fields_of, node_name, kind_of_octet}
 use Rattle.cfdp_tree.specs.code.Tree.{IsNode, IsDirectory, name_at, home_in, home, climb, most_names, path_of_node, IsNamed, IsTree}
 use Rattle.cfdp_tree.specs.code.Kept.{node_of, Shows}
 use Rattle.cfdp_tree.proofs.OfNodes.TreeLaws.{same_node}
@@ -63,7 +63,7 @@ module _ (old : Blocks) (b : ℕ) (node : IsNode old b) (tree : IsTree old) (chi
       let other = (closed c d is at).1 in
       record {
         node = subst IsSome (sym (at_other d other)) was.node;
-        directory = ap (λ o. kind_told (node_fields_of o).kind) (octets_other d other)
+        directory = ap (λ o. kind_of_octet (node_fields_of o).kind) (octets_other d other)
             ∙ was.directory;
       }
 

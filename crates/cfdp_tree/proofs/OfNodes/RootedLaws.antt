@@ -7,12 +7,12 @@ use Rattle.cfdp_paths.proofs.Below.{parent-push}
 use Rattle.cfdp_arena.specs.Arena.{Blocks, octets_of}
 use Rattle.cfdp_actions.specs.Store.{is_file_kind}
 use Rattle.cfdp_actions.specs.Filestore.{Filestore, Node, Directory, node_at, is_directory, is_good, is_root, parent_is_good, IsRooted}
-use Rattle.cfdp_tree.specs.code.NodeFields.{node_fields_of, kind_told}
+use Rattle.cfdp_tree.specs.code.NodeFields.{node_fields_of, kind_of_octet}
 use Rattle.cfdp_tree.specs.code.Tree.{IsNode, name_at, home, path_of_node, IsTree}
 use Rattle.cfdp_tree.specs.code.Directories.{path_at}
 use Rattle.cfdp_tree.specs.code.Kept.{file_of, Shows}
 use Rattle.cfdp_tree.proofs.OfNodes.ClimbLaws.{path_by_home, some_path}
-use Rattle.cfdp_tree.proofs.OfStore.SeenLaws.{told_directory}
+use Rattle.cfdp_tree.proofs.OfStore.SeenLaws.{node_is_directory}
 
 no_root : (above : Path) (n : Name) → is_root (above ++ n ∷ []) ≡ false
 no_root [] n = refl
@@ -34,7 +34,7 @@ module _ (arena nodes : Blocks) (tree : IsTree nodes) (F : Filestore) (shows : S
       let block = octets_of nodes d in
       good_some F (path_of_node nodes d) (some_path nodes tree d directory.node)
       ∙ ap is_directory (shows.each d directory.node)
-      ∙ told_directory arena (kind_told (node_fields_of block).kind) (file_of block)
+      ∙ node_is_directory arena (kind_of_octet (node_fields_of block).kind) (file_of block)
       ∙ ap (λ k. not (is_file_kind k)) directory.directory
 
   pub tree_rooted : IsRooted F

@@ -2,7 +2,7 @@
 --     written_noted, written_octets, written_nodes     the nodes then, where it is written
 --     created_octets, created_nodes                    where it is taken
 --     deleted_noted                                    where it is given back
---     home_told                                        where a node is by what it says
+--     home_written                                     where a node is by what it says
 use Rattle.std.proofs.Common.{◌≡◌, ◌≢◌, ℕ, ◌<◌, List, [], Option, Some, None, length, refl, sym, ap, ◌∙◌, arith}
 use Rattle.std.proofs.lemmas.Bool.{eq-eqb, ne_eqb}
 use Rattle.std.proofs.lemmas.List.{get_or-set_same, length-map, map-set}
@@ -41,6 +41,6 @@ module _ (arena : Blocks) (b : ℕ) (shown new : List ℕ) (node : IsNode (nodes
 pub deleted_noted : (arena : Blocks) (b : ℕ) → nodes_in (without_block arena b) ≡ without_block (nodes_in arena) b
 deleted_noted arena b = map-set only_node arena b None
 
-pub home_told : (directory : Option ℕ) (b : ℕ) → directory ≢ Some b → (if unwrap_or directory b == b then None else Some (unwrap_or directory b)) ≡ directory
-home_told None b apart = ap (λ yes. if yes then None else Some b) (eq-eqb b b refl)
-home_told (Some d) b apart = ap (λ yes. if yes then None else Some d) (ne_eqb d b (λ e. apart (ap Some e)))
+pub home_written : (directory : Option ℕ) (b : ℕ) → directory ≢ Some b → (if unwrap_or directory b == b then None else Some (unwrap_or directory b)) ≡ directory
+home_written None b apart = ap (λ yes. if yes then None else Some b) (eq-eqb b b refl)
+home_written (Some d) b apart = ap (λ yes. if yes then None else Some d) (ne_eqb d b (λ e. apart (ap Some e)))

@@ -18,7 +18,7 @@ use Rattle.cfdp_tree.specs.declared.orders.Orders.{Orders}
 use Rattle.cfdp_actions.specs.declared.kind.Kind.TheVariants as kind
 use Rattle.cfdp_order.proofs.TreeLaws.{none_is, no_nodes}
 use Rattle.cfdp_tree.specs.declared.contents.Contents.{Contents}
-use Rattle.cfdp_tree.specs.code.NodeFields.{node_fields_of, node_name, kind_told}
+use Rattle.cfdp_tree.specs.code.NodeFields.{node_fields_of, node_name, kind_of_octet}
 use Rattle.cfdp_tree.specs.code.Files.{with_contents}
 use Rattle.cfdp_tree.specs.code.Tree.{IsNode, IsTree, node_fields_at, name_at, home_in, home, SameEntries}
 use Rattle.cfdp_tree.specs.code.Entries.{IsMember}
@@ -124,17 +124,18 @@ listed_in nodes orders ordered directory = record {
 }
 
 -- the octets of a file change, and its block says so
-module _ (nodes : Blocks) (tree : IsTree nodes) (b : ℕ) (node : IsNode nodes b) (file : kind_told (node_fields_at nodes b).kind ≡ kind.File)
+module _ (nodes : Blocks) (tree : IsTree nodes) (b : ℕ) (node : IsNode nodes b) (file : kind_of_octet (node_fields_at nodes b).kind ≡ kind.File)
     (middle later : Blocks)
     (written : List ℕ) (contents : Contents) (middle_is : middle ≡ nodes)
-    (later_is : later ≡ with_block middle b written) (row : node_fields_of written ≡ with_contents (node_fields_at middle b) contents) (name : node_name written
+    (later_is : later ≡ with_block middle b written) (fields : node_fields_of written ≡ with_contents (node_fields_at middle b) contents)
+    (name : node_name written
     ≡ name_at middle b) (whole : length written ≡ 128) where
   pub ordered_written : (orders : Orders) → IsInOrders nodes orders None → IsInOrders later orders None
   ordered_written orders ordered =
       subst (λ ns. IsInOrders ns orders None) (sym (later_is ∙ ap (λ ns. with_block ns b written) middle_is))
       (ordered_kept nodes (with_block nodes b written) orders None (length-set nodes b (Some written))
       (kept_entries nodes (with_block nodes b written) None
-      (file_entries nodes tree b node file written contents (row ∙ ap (λ ns. with_contents (node_fields_at ns b) contents) middle_is) (name
+      (file_entries nodes tree b node file written contents (fields ∙ ap (λ ns. with_contents (node_fields_at ns b) contents) middle_is) (name
       ∙ ap (λ ns. name_at ns b) middle_is) whole)) ordered)
 
 pub ordered_none : (nodes : Blocks) (orders : Orders) → length orders.links.items ≡ length nodes → length orders.directories.items ≡ length nodes →

@@ -2,6 +2,7 @@
 --     of_times, at_times       what is true of each node of a list, by how many times it is there
 --     split_at                 a list with a node that is in it
 --     pairs_front, pairs_back  the nodes before a node of such a list, and those after it
+--     pairs_left, pairs_right  these are such lists too
 --     less_back                how a name compares with that of a node
 --     less_first, greater_last the nodes with names before another name come first, and those with names after it last
 --     directory_cases          two directories are one or not
@@ -11,6 +12,7 @@ use Rattle.std.proofs.Common.{◌≡◌, ◌≢◌, ℕ, ◌≤◌, List, [], �
 use Rattle.std.proofs.lemmas.Bool.{cases_eq}
 use Rattle.std.proofs.lemmas.List.{get_or_default}
 use Rattle.std.proofs.lemmas.List.Elements.{All-nil, All-cons, All-head, All-append, All-weaker, Contains-append_right}
+use Rattle.std.proofs.lemmas.List.Kept.{AllPairs-cons}
 use Rattle.std.specs.Cmp.{tied_itself}
 use Rattle.std.specs.Cmp.Lexicographic.{nat_list_cmp_total}
 use Rattle.std.specs.List.{slice_get}
@@ -23,10 +25,10 @@ use Rattle.cfdp_paths.specs.Paths.{Name}
 use Rattle.cfdp_order.specs.Orders.{times_in, SplitsFrom, SplitsAfter}
 use Rattle.cfdp_order.proofs.Counts.{one_other}
 use Rattle.cfdp_order.proofs.MemberLaws.{times_contains, contains_times}
-use Rattle.cfdp_order.proofs.SplitLaws.{All_at}
+use Rattle.cfdp_order.proofs.SplitLaws.{All_left, All_at}
 use Rattle.cfdp_order.proofs.SortedLaws.{head_pairs, tail_pairs}
 use Rattle.cfdp_tree.specs.code.Tree.{name_at}
-use Rattle.cfdp_tree.specs.code.Next.{name_cmp, IsBehind, IsLeast}
+use Rattle.cfdp_tree.specs.code.Next.{name_cmp, IsFollowing, IsLeast}
 use Rattle.cfdp_tree.specs.code.Orders.{Rises}
 use Rattle.cfdp_tree.proofs.OfOrders.LeastLaws.{flipped, less_greater, equal_greater}
 
@@ -52,6 +54,16 @@ pairs_front R (x ∷ before) m after pairs =
 pub pairs_back : (R : ℕ → ℕ → Type 0) (before : List ℕ) (m : ℕ) (after : List ℕ) → AllPairs R (before ++ m ∷ after) → All (R m) after
 pairs_back R [] m after pairs = head_pairs R m after pairs
 pairs_back R (x ∷ before) m after pairs = pairs_back R before m after (tail_pairs R x (before ++ m ∷ after) pairs)
+
+pub pairs_left : (R : ℕ → ℕ → Type 0) (before : List ℕ) (m : ℕ) (after : List ℕ) → AllPairs R (before ++ m ∷ after) → AllPairs R before
+pairs_left R [] m after pairs = (λ i j d up less. absurd (omega (arith, less)))
+pairs_left R (x ∷ before) m after pairs =
+    AllPairs-cons R x before (All_left (R x) before m after (head_pairs R x (before ++ m ∷ after) pairs))
+    (pairs_left R before m after (tail_pairs R x (before ++ m ∷ after) pairs))
+
+pub pairs_right : (R : ℕ → ℕ → Type 0) (before : List ℕ) (m : ℕ) (after : List ℕ) → AllPairs R (before ++ m ∷ after) → AllPairs R after
+pairs_right R [] m after pairs = tail_pairs R m after pairs
+pairs_right R (x ∷ before) m after pairs = pairs_right R before m after (tail_pairs R x (before ++ m ∷ after) pairs)
 
 pub less_back : (m n : Name) → name_cmp m n ≡ Less → name_cmp n m ≡ Greater
 less_back m n e = nat_list_cmp_total.antisymm n m ∙ ap ordering_reverse e
@@ -85,54 +97,57 @@ module _ (nodes : Blocks) (list : List ℕ) (rising : AllPairs (Rises nodes) lis
   itself b = equal_greater (tied_itself nat_list_cmp_total (name_at nodes b))
 
   -- the first of all
-  pub first_least : (r : Option ℕ) → r ≡ slice_get list 0 → IfSome r (IsLeast nodes None list) × IfNone r (All (λ c. IsBehind None (name_at nodes c) → ⊥) list)
-  first_least r is = subst (λ o. IfSome o (IsLeast nodes None list) × IfNone o (All (λ c. IsBehind None (name_at nodes c) → ⊥) list)) (sym is) (go list rising)
+  pub first_least : (r : Option ℕ) → r ≡ slice_get list 0 → IfSome r (IsLeast nodes None list)
+      × IfNone r (All (λ c. IsFollowing None (name_at nodes c) → ⊥) list)
+  first_least r is = subst (λ o. IfSome o (IsLeast nodes None list) × IfNone o (All (λ c. IsFollowing None (name_at nodes c) → ⊥) list)) (sym is)
+      (go list rising)
     where
       go : (l : List ℕ) → AllPairs (Rises nodes) l → IfSome (slice_get l 0) (IsLeast nodes None l)
-          × IfNone (slice_get l 0) (All (λ c. IsBehind None (name_at nodes c) → ⊥) l)
-      go [] pairs = (tt, All-nil (λ c. IsBehind None (name_at nodes c) → ⊥))
+          × IfNone (slice_get l 0) (All (λ c. IsFollowing None (name_at nodes c) → ⊥) l)
+      go [] pairs = (tt, All-nil (λ c. IsFollowing None (name_at nodes c) → ⊥))
       go (b ∷ l) pairs = (
         record {
           listed = (0, omega arith, refl);
-          behind = tt;
-          least = All-cons (λ c. IsBehind None (name_at nodes c) → Upto b c) b l (λ behind. itself b)
-              (All-weaker (Rises nodes b) (λ c. IsBehind None (name_at nodes c) → Upto b c) (λ c less behind. less_greater less) l
+          following = tt;
+          least = All-cons (λ c. IsFollowing None (name_at nodes c) → Upto b c) b l (λ following. itself b)
+              (All-weaker (Rises nodes b) (λ c. IsFollowing None (name_at nodes c) → Upto b c) (λ c less following. less_greater less) l
               (head_pairs (Rises nodes) b l pairs));
         },
         tt,
       )
 
   module _ (name : Name) (before after : List ℕ) (is : list ≡ before ++ after) (splits : SplitsAfter (λ m. name_cmp (name_at nodes m) name) before after) where
-    not_behind : (m : ℕ) → name_cmp (name_at nodes m) name ≢ Greater → IsBehind (Some name) (name_at nodes m) → ⊥
-    not_behind m upto behind = upto (less_back name (name_at nodes m) behind)
+    not_following : (m : ℕ) → name_cmp (name_at nodes m) name ≢ Greater → IsFollowing (Some name) (name_at nodes m) → ⊥
+    not_following m upto following = upto (less_back name (name_at nodes m) following)
 
     -- the first one after a name
     pub after_least : (r : Option ℕ) → r ≡ slice_get after 0 → IfSome r (IsLeast nodes (Some name) list)
-        × IfNone r (All (λ c. IsBehind (Some name) (name_at nodes c) → ⊥) list)
+        × IfNone r (All (λ c. IsFollowing (Some name) (name_at nodes c) → ⊥) list)
     after_least r found =
-        subst (λ o. IfSome o (IsLeast nodes (Some name) list) × IfNone o (All (λ c. IsBehind (Some name) (name_at nodes c) → ⊥) list)) (sym found)
+        subst (λ o. IfSome o (IsLeast nodes (Some name) list) × IfNone o (All (λ c. IsFollowing (Some name) (name_at nodes c) → ⊥) list)) (sym found)
         (subst (λ l. IfSome (slice_get after 0) (IsLeast nodes (Some name) l)
-        × IfNone (slice_get after 0) (All (λ c. IsBehind (Some name) (name_at nodes c) → ⊥) l)) (sym is)
+        × IfNone (slice_get after 0) (All (λ c. IsFollowing (Some name) (name_at nodes c) → ⊥) l)) (sym is)
         (go after (subst (AllPairs (Rises nodes)) is rising) splits.greater))
       where
         go : (l : List ℕ) → AllPairs (Rises nodes) (before ++ l) → All (λ m. name_cmp (name_at nodes m) name ≡ Greater) l
             → IfSome (slice_get l 0) (IsLeast nodes (Some name) (before ++ l))
-            × IfNone (slice_get l 0) (All (λ c. IsBehind (Some name) (name_at nodes c) → ⊥) (before ++ l))
+            × IfNone (slice_get l 0) (All (λ c. IsFollowing (Some name) (name_at nodes c) → ⊥) (before ++ l))
         go [] pairs greater = (
           tt,
-          All-append (λ c. IsBehind (Some name) (name_at nodes c) → ⊥) before []
-              (All-weaker (λ m. name_cmp (name_at nodes m) name ≢ Greater) (λ c. IsBehind (Some name) (name_at nodes c) → ⊥) not_behind before splits.rest)
-              (All-nil (λ c. IsBehind (Some name) (name_at nodes c) → ⊥)),
+          All-append (λ c. IsFollowing (Some name) (name_at nodes c) → ⊥) before []
+              (All-weaker (λ m. name_cmp (name_at nodes m) name ≢ Greater) (λ c. IsFollowing (Some name) (name_at nodes c) → ⊥) not_following before
+              splits.rest)
+              (All-nil (λ c. IsFollowing (Some name) (name_at nodes c) → ⊥)),
         )
         go (b ∷ l) pairs greater = (
           record {
             listed = Contains-append_right before (b ∷ l) b (0, omega arith, refl);
-            behind = flipped nat_list_cmp_total (name_at nodes b) name (All-head (λ m. name_cmp (name_at nodes m) name ≡ Greater) b l greater);
-            least = All-append (λ c. IsBehind (Some name) (name_at nodes c) → Upto b c) before (b ∷ l)
-                (All-weaker (λ m. name_cmp (name_at nodes m) name ≢ Greater) (λ c. IsBehind (Some name) (name_at nodes c) → Upto b c)
-                (λ c upto behind. absurd (not_behind c upto behind)) before splits.rest)
-                (All-cons (λ c. IsBehind (Some name) (name_at nodes c) → Upto b c) b l (λ behind. itself b)
-                (All-weaker (Rises nodes b) (λ c. IsBehind (Some name) (name_at nodes c) → Upto b c) (λ c less behind. less_greater less) l
+            following = flipped nat_list_cmp_total (name_at nodes b) name (All-head (λ m. name_cmp (name_at nodes m) name ≡ Greater) b l greater);
+            least = All-append (λ c. IsFollowing (Some name) (name_at nodes c) → Upto b c) before (b ∷ l)
+                (All-weaker (λ m. name_cmp (name_at nodes m) name ≢ Greater) (λ c. IsFollowing (Some name) (name_at nodes c) → Upto b c)
+                (λ c upto following. absurd (not_following c upto following)) before splits.rest)
+                (All-cons (λ c. IsFollowing (Some name) (name_at nodes c) → Upto b c) b l (λ following. itself b)
+                (All-weaker (Rises nodes b) (λ c. IsFollowing (Some name) (name_at nodes c) → Upto b c) (λ c less following. less_greater less) l
                 (pairs_back (Rises nodes) before b l pairs)));
           },
           tt,

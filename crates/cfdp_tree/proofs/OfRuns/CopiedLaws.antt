@@ -12,11 +12,11 @@ use Rattle.cfdp_actions.specs.Store.{Store}
 use Rattle.cfdp_ways.specs.declared.way.Way.{Way}
 use Rattle.cfdp_tree.specs.declared.slots.Slot.{Slot}
 use Rattle.cfdp_tree.specs.code.Index.{Heads}
-use Rattle.cfdp_tree.specs.code.NodeFields.{node_fields_of, kind_told}
+use Rattle.cfdp_tree.specs.code.NodeFields.{node_fields_of, kind_of_octet}
 use Rattle.cfdp_tree.specs.code.Nodes.{nodes_in}
 use Rattle.cfdp_tree.specs.code.Tree.{IsNode, path_of_node}
 use Rattle.cfdp_tree.specs.code.Contents.{IsFilled, contents_in}
-use Rattle.cfdp_tree.specs.code.Kept.{contents_told, node_told, store_of}
+use Rattle.cfdp_tree.specs.code.Kept.{contents_of_fields, node_with, store_of}
 use Rattle.cfdp_tree.specs.code.Slots.{lists_staged, IsStore}
 use Rattle.cfdp_tree.specs.Found.{beginning, fitting, with_octets}
 use Rattle.cfdp_tree.proofs.OfRuns.ContentsLaws.{length-contents}
@@ -28,24 +28,24 @@ module _ (arena : Blocks) (heads : Heads) (slots : List Slot) {ways : List Way} 
     (view : store_of arena (lists_staged slots) ≡ now)
     (b : ℕ) (p : Path) (block : List ℕ) (node : IsNode (nodes_in arena) b) (way : path_of_node (nodes_in arena) b ≡ p)
     (is : octets_at arena b ≡ Some block) where
-  pub directory_there : kind.Directory ≡ kind_told (node_fields_of block).kind → node_at now.filestore p ≡ Some Directory
-  directory_there told =
+  pub directory_there : kind.Directory ≡ kind_of_octet (node_fields_of block).kind → node_at now.filestore p ≡ Some Directory
+  directory_there described =
       seen_block arena heads slots store now view b p block node way is
-      ∙ ap (λ k. Some (node_told arena k (contents_told k (node_fields_of block)))) (sym told)
+      ∙ ap (λ k. Some (node_with arena k (contents_of_fields k (node_fields_of block)))) (sym described)
 
-  module _ (told : kind.File ≡ kind_told (node_fields_of block).kind) where
-    pub file_there : node_at now.filestore p ≡ Some (File (contents_in arena (contents_told kind.File (node_fields_of block))))
+  module _ (described : kind.File ≡ kind_of_octet (node_fields_of block).kind) where
+    pub file_there : node_at now.filestore p ≡ Some (File (contents_in arena (contents_of_fields kind.File (node_fields_of block))))
     file_there =
         seen_block arena heads slots store now view b p block node way is
-        ∙ ap (λ k. Some (node_told arena k (contents_told k (node_fields_of block)))) (sym told)
+        ∙ ap (λ k. Some (node_with arena k (contents_of_fields k (node_fields_of block)))) (sym described)
 
-    pub file_held : IsFilled arena (contents_told kind.File (node_fields_of block)) × ((node_fields_of block).size ≤ 7864320)
+    pub file_held : IsFilled arena (contents_of_fields kind.File (node_fields_of block)) × ((node_fields_of block).size ≤ 7864320)
     file_held =
         let seen = seen_file arena heads slots store now view b p block node way is (ap is_file file_there) in
         let small = file_small arena heads slots store now view p in
-        (seen.1, omega (arith, small, ap length seen.0, length-contents arena (contents_told kind.File (node_fields_of block)) seen.1))
+        (seen.1, omega (arith, small, ap length seen.0, length-contents arena (contents_of_fields kind.File (node_fields_of block)) seen.1))
 
-    pub file_ways : HasWays arena ways (contents_told kind.File (node_fields_of block)).run
+    pub file_ways : HasWays arena ways (contents_of_fields kind.File (node_fields_of block)).run
     file_ways = seen_laws.file_ways arena heads slots store now view b p block node way is (ap is_file file_there)
 
 none_fits : (at : ℕ) (buffer : List ℕ) → fitting [] at buffer ≡ 0

@@ -84,10 +84,10 @@ pub slice_join : (xs : List ℕ) (a b c : ℕ) → a ≤ b → b ≤ c → slice
 slice_join xs a b c ab bc =
     let m = b - a in
     let there : a + m ≡ b = omega arith in
-    let behind : drop m (drop a xs) ≡ drop b xs = drop-drop m a xs ∙ ap (λ n. drop n xs) there in
+    let following : drop m (drop a xs) ≡ drop b xs = drop-drop m a xs ∙ ap (λ n. drop n xs) there in
     let fewer : c - a - m ≡ c - b = omega arith in
     sym (take_parts (drop a xs) m (c - a) (omega arith)
-    ∙ (λ k. take m (drop a xs) ++ take (fewer k) (behind k)))
+    ∙ (λ k. take m (drop a xs) ++ take (fewer k) (following k)))
 
 -- the first octets, where the part comes after them, and a slice of them
 pub take-front : (xs part : List ℕ) (at b : ℕ) → b ≤ at → at ≤ length xs → take b (overwritten xs at part) ≡ take b xs

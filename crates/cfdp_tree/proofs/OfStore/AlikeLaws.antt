@@ -2,7 +2,7 @@
 --     Alike                              they are where they were, and files hold what they held
 --     alike_relinked                     where links of the index change
 --     alike_shows                        the same is at each path
---     alike_directory, told_by           directories stay;  what is at a node by what it holds
+--     alike_directory, node_by_contents  directories stay;  what is at a node by what it holds
 --     runs_then                          runs that stay in two steps
 use Rattle.std.proofs.Common.{◌≡◌, ℕ, List, [], Option, Some, None, is_some, refl, sym, ap, ◌∙◌}
 use Rattle.std.specs.FinMap as finite
@@ -13,10 +13,10 @@ use Rattle.cfdp_actions.specs.declared.kind.Kind.{Kind}
 use Rattle.cfdp_actions.specs.declared.kind.Kind.TheVariants as kind
 use Rattle.cfdp_actions.specs.Filestore.{Node}
 use Rattle.cfdp_tree.specs.declared.runs.Run.{Run}
-use Rattle.cfdp_tree.specs.code.NodeFields.{NodeFields, node_fields_of, kind_told}
+use Rattle.cfdp_tree.specs.code.NodeFields.{NodeFields, node_fields_of, kind_of_octet}
 use Rattle.cfdp_tree.specs.code.Runs.{Stays, RunsStay}
 use Rattle.cfdp_tree.specs.code.Tree.{IsNode, IsDirectory, node_fields_at, unlinked, Relinked, SameEntries}
-use Rattle.cfdp_tree.specs.code.Kept.{contents_told, file_of, file_in, node_told, node_of, Shows}
+use Rattle.cfdp_tree.specs.code.Kept.{contents_of_fields, file_of, file_in, node_with, node_of, Shows}
 use Rattle.cfdp_tree.proofs.OfNodes.EntryLaws.{same_paths}
 use Rattle.cfdp_tree.proofs.OfNodes.LinkLaws.{relinked_entries}
 
@@ -24,48 +24,51 @@ pub record Alike (old new : Blocks) : Type 0 where
   pub entries : SameEntries old new
   pub files : (b : ℕ) → file_in (octets_at new b) ≡ file_in (octets_at old b)
 
-told_unlinked : (k : Kind) (row : NodeFields) → contents_told k (unlinked row) ≡ contents_told k row
-told_unlinked kind.File row = refl
-told_unlinked kind.Directory row = refl
+contents_unlinked : (k : Kind) (fields : NodeFields) → contents_of_fields k (unlinked fields) ≡ contents_of_fields k fields
+contents_unlinked kind.File fields = refl
+contents_unlinked kind.Directory fields = refl
 
 -- what a node holds, by what it says
-by_row : (x y : Option (List ℕ)) → is_some x ≡ is_some y → unlinked (node_fields_of (unwrap_or x [])) ≡ unlinked (node_fields_of (unwrap_or y [])) → file_in x
+by_fields : (x y : Option (List ℕ)) → is_some x ≡ is_some y → unlinked (node_fields_of (unwrap_or x [])) ≡ unlinked (node_fields_of (unwrap_or y []))
+    → file_in x
     ≡ file_in y
-by_row None None some rows = refl
-by_row None (Some y) some rows = cc
-by_row (Some x) None some rows = cc
-by_row (Some x) (Some y) some rows =
-    sym (told_unlinked (kind_told (node_fields_of x).kind) (node_fields_of x)) ∙ ap (λ (r : NodeFields). contents_told (kind_told r.kind) r) rows
-    ∙ told_unlinked (kind_told (node_fields_of y).kind) (node_fields_of y)
+by_fields None None some all_fields = refl
+by_fields None (Some y) some all_fields = cc
+by_fields (Some x) None some all_fields = cc
+by_fields (Some x) (Some y) some all_fields =
+    sym (contents_unlinked (kind_of_octet (node_fields_of x).kind) (node_fields_of x))
+    ∙ ap (λ (r : NodeFields). contents_of_fields (kind_of_octet r.kind) r) all_fields
+    ∙ contents_unlinked (kind_of_octet (node_fields_of y).kind) (node_fields_of y)
 
 pub alike_relinked : (old new : Blocks) → Relinked old new → Alike old new
 alike_relinked old new links = record {
   entries = relinked_entries old new links;
-  files = (λ b. by_row (octets_at new b) (octets_at old b) (links.nodes b) (links.rows b));
+  files = (λ b. by_fields (octets_at new b) (octets_at old b) (links.nodes b) (links.all_fields b));
 }
 
 pub held_is : (o : Option (List ℕ)) → IsSome o → file_of (unwrap_or o []) ≡ file_in o
 held_is None some = cc
 held_is (Some block) some = refl
 
-pub told_by : (arena nodes : Blocks) (b : ℕ) → IsNode nodes b → node_of arena (octets_of nodes b)
-    ≡ node_told arena (kind_told (node_fields_at nodes b).kind) (file_in (octets_at nodes b))
-told_by arena nodes b node = ap (node_told arena (kind_told (node_fields_at nodes b).kind)) (held_is (octets_at nodes b) node)
+pub node_by_contents : (arena nodes : Blocks) (b : ℕ) → IsNode nodes b → node_of arena (octets_of nodes b)
+    ≡ node_with arena (kind_of_octet (node_fields_at nodes b).kind) (file_in (octets_at nodes b))
+node_by_contents arena nodes b node = ap (node_with arena (kind_of_octet (node_fields_at nodes b).kind)) (held_is (octets_at nodes b) node)
 
 module _ (old new : Blocks) (same : Alike old new) where
   pub alike_node : (b : ℕ) → IsNode new b → IsNode old b
   alike_node b node = sym (same.entries.nodes b) ∙ node
 
-  pub alike_told : (arena : Blocks) (b : ℕ) → IsNode new b → node_of arena (octets_of new b) ≡ node_of arena (octets_of old b)
-  alike_told arena b node =
-      told_by arena new b node ∙ (λ k. node_told arena (same.entries.kinds b k) (same.files b k)) ∙ sym (told_by arena old b (alike_node b node))
+  pub alike_node_of : (arena : Blocks) (b : ℕ) → IsNode new b → node_of arena (octets_of new b) ≡ node_of arena (octets_of old b)
+  alike_node_of arena b node =
+      node_by_contents arena new b node ∙ (λ k. node_with arena (same.entries.kinds b k) (same.files b k))
+      ∙ sym (node_by_contents arena old b (alike_node b node))
 
   pub alike_directory : (d : ℕ) → IsDirectory old d → IsDirectory new d
   alike_directory d was = record { node = same.entries.nodes d ∙ was.node; directory = same.entries.kinds d ∙ was.directory }
 
   pub alike_shows : (arena : Blocks) (F : finite.FinMap path_cmp Node) → Shows arena old F → Shows arena new F
   alike_shows arena F shows = record {
-    each = (λ b node. ap (finite.get F) (same_paths old new same.entries b) ∙ shows.each b (alike_node b node) ∙ ap Some (sym (alike_told arena b node)));
+    each = (λ b node. ap (finite.get F) (same_paths old new same.entries b) ∙ shows.each b (alike_node b node) ∙ ap Some (sym (alike_node_of arena b node)));
     only = (λ p node e. (let at = shows.only p node e in (at.0, same.entries.nodes at.0 ∙ at.1, same_paths old new same.entries at.0 ∙ at.2)));
   }
 

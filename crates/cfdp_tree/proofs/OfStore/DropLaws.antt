@@ -24,31 +24,31 @@ use Rattle.cfdp_tree.specs.declared.contents.Contents.{Contents}
 use Rattle.cfdp_tree.specs.declared.runs.Run.{Run}
 use Rattle.cfdp_ways.specs.declared.way.Way.{Way}
 use Rattle.cfdp_tree.specs.declared.slots.Slot.{Slot}
-use Rattle.cfdp_tree.specs.code.NodeFields.{NodeFields, node_fields_of, kind_told}
+use Rattle.cfdp_tree.specs.code.NodeFields.{NodeFields, node_fields_of, kind_of_octet}
 use Rattle.cfdp_tree.specs.code.Runs.{Apart, Stays, RunsStay, Spares, nth}
 use Rattle.cfdp_tree.specs.code.Contents.{IsFilled, contents_in}
 use Rattle.cfdp_tree.specs.code.Nodes.{nodes_in}
 use Rattle.cfdp_tree.specs.code.Tree.{IsNode, name_at, home, path_of_node, IsEntry, IsTree, Relinked}
 use Rattle.cfdp_tree.specs.code.Directories.{path_at}
 use Rattle.cfdp_tree.specs.code.Index.{Heads, IsIndex}
-use Rattle.cfdp_tree.specs.code.Kept.{no_contents, contents_told, file_of, file_in, holdings, node_told, node_of, Shows, store_of}
+use Rattle.cfdp_tree.specs.code.Kept.{no_contents, contents_of_fields, file_of, file_in, holdings, node_with, node_of, Shows, store_of}
 use Rattle.cfdp_tree.specs.code.Slots.{lists_staged, IsStore}
 use Rattle.cfdp_tree.proofs.OfRuns.ContentsLaws.{length-contents, none_filled, stays_contents}
-use Rattle.cfdp_tree.proofs.OfStore.SlotLaws.{told_same}
-use Rattle.cfdp_tree.proofs.OfStore.SeenLaws.{shows, seen_none, file_small, seen_node, seen_blocks, held_at, told_directory}
+use Rattle.cfdp_tree.proofs.OfStore.SlotLaws.{node_same}
+use Rattle.cfdp_tree.proofs.OfStore.SeenLaws.{shows, seen_none, file_small, seen_node, seen_blocks, held_at, node_is_directory}
 use Rattle.cfdp_tree.proofs.OfNodes.EntryLaws.{same_paths, same_tree}
 use Rattle.cfdp_tree.proofs.OfNodes.ClimbLaws.{path_by_home}
 use Rattle.cfdp_tree.proofs.OfNodes.BelowLaws.{entry_some}
 use Rattle.cfdp_tree.proofs.OfNodes.RemoveLaws.{removed_tree, removed_shows}
 use Rattle.cfdp_tree.proofs.OfIndex.OutLaws.{index_deleted}
-use Rattle.cfdp_tree.proofs.OfStore.AlikeLaws.{Alike, alike_relinked, alike_node, told_by, alike_shows, held_is}
+use Rattle.cfdp_tree.proofs.OfStore.AlikeLaws.{Alike, alike_relinked, alike_node, node_by_contents, alike_shows, held_is}
 use Rattle.cfdp_tree.proofs.OfStore.ChangedLaws.{IsLeft, nodes_seen, nodes_store}
 use Rattle.cfdp_tree.proofs.OfNodes.MoveLaws.{true_false}
 
-weight_told : (arena : Blocks) (k : Kind) (row : NodeFields) → length (contents_in arena (contents_told k row)) ≡ (contents_told k row).size
-    → weight (Some (node_told arena k (contents_told k row))) ≡ 1 + blocks_of (contents_told k row).size
-weight_told arena kind.File row long = ap (λ n. 1 + blocks_of n) long
-weight_told arena kind.Directory row long = ap (λ n. 1 + n) (sym no_blocks)
+node_weight : (arena : Blocks) (k : Kind) (fields : NodeFields) → length (contents_in arena (contents_of_fields k fields)) ≡ (contents_of_fields k fields).size
+    → weight (Some (node_with arena k (contents_of_fields k fields))) ≡ 1 + blocks_of (contents_of_fields k fields).size
+node_weight arena kind.File fields long = ap (λ n. 1 + blocks_of n) long
+node_weight arena kind.Directory fields long = ap (λ n. 1 + n) (sym no_blocks)
 
 -- the last name of a path
 last_is : (p : Path) (n : Name) → get_or (p ++ n ∷ []) (length p) [] ≡ n
@@ -56,10 +56,11 @@ last_is p n =
     let none : length p - length p ≡ 0 = omega arith in
     get_or-append_right p (n ∷ []) (length p) (length p) [] refl (omega arith) ∙ ap (λ (k : ℕ). get_or (n ∷ []) k []) none
 
-told_octets : (arena : Blocks) (k : Kind) (row : NodeFields) → k ≡ kind.File
-    → (files.octets_in (Some (node_told arena k (contents_told k row))) ≡ contents_in arena (contents_told k row)) × ((contents_told k row).size ≡ row.size)
-told_octets arena kind.File row file = (refl, refl)
-told_octets arena kind.Directory row file = cc
+file_octets : (arena : Blocks) (k : Kind) (fields : NodeFields) → k ≡ kind.File
+    → (files.octets_in (Some (node_with arena k (contents_of_fields k fields))) ≡ contents_in arena (contents_of_fields k fields))
+    × ((contents_of_fields k fields).size ≡ fields.size)
+file_octets arena kind.File fields file = (refl, refl)
+file_octets arena kind.Directory fields file = cc
 
 stays_two : (first second third : Blocks) (run : Run) → Stays first second run → RunsStay second third → Stays first third run
 stays_two first second third run one runs =
@@ -98,8 +99,8 @@ module _ (arena : Blocks) (heads : Heads) (slots : List Slot) {ways : List Way} 
       ≡ Some b → ⊥
   home_none childless c inside there =
       let above = store.kept.tree.homes c b inside there in
-      let k = kind_told (node_fields_of (octets_of nodes b)).kind in
-      let directory = ap is_directory at ∙ told_directory arena k (file_of (octets_of nodes b)) ∙ ap (λ x. not (is_file_kind x)) above.directory in
+      let k = kind_of_octet (node_fields_of (octets_of nodes b)).kind in
+      let directory = ap is_directory at ∙ node_is_directory arena k (file_of (octets_of nodes b)) ∙ ap (λ x. not (is_file_kind x)) above.directory in
       true_false (entry_some nodes store.kept.tree arena now.filestore seen b path node way c inside there) (childless directory)
 
   held_there : get_or (holdings nodes staged) (length staged + b) no_contents ≡ held
@@ -111,19 +112,19 @@ module _ (arena : Blocks) (heads : Heads) (slots : List Slot) {ways : List Way} 
   pub held_by_node : (block : List ℕ) → block ≡ octets_of nodes b → file_of block ≡ held
   held_by_node block same = ap file_of same ∙ held_is (octets_at nodes b) node
 
-  pub held_small : (block : List ℕ) → block ≡ octets_of nodes b → kind_told (node_fields_of block).kind ≡ kind.File → (node_fields_of block).size ≤ 7864320
+  pub held_small : (block : List ℕ) → block ≡ octets_of nodes b → kind_of_octet (node_fields_of block).kind ≡ kind.File → (node_fields_of block).size ≤ 7864320
   held_small block same file =
       let here = octets_of nodes b in
-      let told = told_octets arena (kind_told (node_fields_of here).kind) (node_fields_of here)
-      (sym (ap (λ o. kind_told (node_fields_of o).kind) same) ∙ file) in
+      let described = file_octets arena (kind_of_octet (node_fields_of here).kind) (node_fields_of here)
+      (sym (ap (λ o. kind_of_octet (node_fields_of o).kind) same) ∙ file) in
       let long = length-contents arena (file_of here) (subst (IsFilled arena) (sym (held_is (octets_at nodes b) node)) held_filled) in
-      let octets = ap files.octets_in at ∙ told.0 in
+      let octets = ap files.octets_in at ∙ described.0 in
       omega (
         arith,
         file_small arena heads slots store now view path,
         ap (λ (xs : List ℕ). length xs) octets,
         long,
-        told.1,
+        described.1,
         ap
             (λ o. (node_fields_of o).size) same,
       )
@@ -133,7 +134,8 @@ module _ (arena : Blocks) (heads : Heads) (slots : List Slot) {ways : List Way} 
       let block = octets_of nodes b in
       let here = held_is (octets_at nodes b) node in
       let long = length-contents arena (file_of block) (subst (IsFilled arena) (sym here) held_filled) in
-      ap weight at ∙ weight_told arena (kind_told (node_fields_of block).kind) (node_fields_of block) long ∙ ap (λ (x : Contents). 1 + blocks_of x.size) here
+      ap weight at ∙ node_weight arena (kind_of_octet (node_fields_of block).kind) (node_fields_of block) long
+      ∙ ap (λ (x : Contents). 1 + blocks_of x.size) here
 
   pub node_name : name_at nodes b ≡ get_or path (length path - 1) []
   node_name =
@@ -221,13 +223,13 @@ module _ (arena : Blocks) (heads : Heads) (slots : List Slot) {ways : List Way} 
           )
         ]
 
-        told_kept : (c : ℕ) → IsNode before c → c ≢ b → node_of later (octets_of before c) ≡ node_of arena (octets_of before c)
-        told_kept c inside other =
-            told_by later before c inside
-            ∙ told_same arena later (kind_told (node_fields_of (octets_of before c)).kind) (file_in (octets_at before c))
+        node_kept : (c : ℕ) → IsNode before c → c ≢ b → node_of later (octets_of before c) ≡ node_of arena (octets_of before c)
+        node_kept c inside other =
+            node_by_contents later before c inside
+            ∙ node_same arena later (kind_of_octet (node_fields_of (octets_of before c)).kind) (file_in (octets_at before c))
             (stays_contents arena later (file_in (octets_at before c)) (subst (λ (x : Contents). Stays arena later x.run) (sym (alike_two.files c))
             (file_stays c other)))
-            ∙ sym (told_by arena before c inside)
+            ∙ sym (node_by_contents arena before c inside)
 
         abbrev F : finite.FinMap path_cmp Node
         F = finite.remove now.filestore.nodes path
@@ -237,7 +239,7 @@ module _ (arena : Blocks) (heads : Heads) (slots : List Slot) {ways : List Way} 
             subst (λ ns. Shows later ns F) (sym later_is)
             (subst (λ p. Shows later (without_block before b) (finite.remove now.filestore.nodes p)) (same_paths nodes before alike_two.entries b ∙ way)
             (removed_shows before b node_two tree_two none_two arena later now.filestore.nodes
-            (alike_shows nodes before alike_two arena now.filestore.nodes seen) told_kept))
+            (alike_shows nodes before alike_two arena now.filestore.nodes seen) node_kept))
 
         pub drop_view : store_of later staged ≡ with_changes now (Becomes path None ∷ [])
         drop_view =

@@ -15,14 +15,14 @@ use Rattle.cfdp_actions.proofs.ChangeLaws.{blocks-becomes, blocks-stages}
 use Rattle.cfdp_tree.specs.declared.contents.Contents.{Contents}
 use Rattle.cfdp_ways.specs.declared.way.Way.{Way}
 use Rattle.cfdp_tree.specs.declared.slots.Slot.{Slot}
-use Rattle.cfdp_tree.specs.code.NodeFields.{node_fields_of, node_name, kind_told}
+use Rattle.cfdp_tree.specs.code.NodeFields.{node_fields_of, node_name, kind_of_octet}
 use Rattle.cfdp_tree.specs.code.Runs.{Apart, RunsStay}
 use Rattle.cfdp_tree.specs.code.Ways.{HasWays}
 use Rattle.cfdp_tree.specs.code.Contents.{IsFilled, contents_in}
 use Rattle.cfdp_tree.specs.code.Nodes.{nodes_in}
 use Rattle.cfdp_tree.specs.code.Tree.{IsNode, node_fields_at, name_at, path_of_node}
 use Rattle.cfdp_tree.specs.code.Index.{Heads}
-use Rattle.cfdp_tree.specs.code.Kept.{no_contents, contents_told, file_of, file_in, holdings, node_of, store_of, IsStored}
+use Rattle.cfdp_tree.specs.code.Kept.{no_contents, contents_of_fields, file_of, file_in, holdings, node_of, store_of, IsStored}
 use Rattle.cfdp_tree.specs.code.Slots.{lists_staged, IsSoundSlot, IsStore}
 use Rattle.cfdp_tree.specs.code.Files.{with_contents, SameOctets}
 use Rattle.cfdp_tree.proofs.OfStore.SlotCursors.{slot_stays}
@@ -30,8 +30,8 @@ use Rattle.cfdp_tree.proofs.OfRuns.WayLaws.{same_ways, ways_still}
 use Rattle.cfdp_tree.proofs.OfRuns.ContentsLaws.{stays_filled, stays_contents}
 use Rattle.cfdp_tree.proofs.OfStore.StoredLaws.{apart_back}
 use Rattle.cfdp_tree.proofs.OfStore.SeenLaws.{seen_blocks, mapped_at, slot_there, slot_filled, seen_staged, staged_is}
-use Rattle.cfdp_tree.proofs.OfStore.SlotLaws.{told_same}
-use Rattle.cfdp_tree.proofs.OfStore.FileLaws.{same_filled, same_contents, same_apart, all_maps, file_there, held_here, held_other, in_held, told_written, written_seen, written_store}
+use Rattle.cfdp_tree.proofs.OfStore.SlotLaws.{node_same}
+use Rattle.cfdp_tree.proofs.OfStore.FileLaws.{same_filled, same_contents, same_apart, all_maps, file_there, held_here, held_other, in_held, written_octets, written_seen, written_store}
 
 module _ (old new : Blocks) (held : List Contents) (i j : ℕ) (first : i < length held) (second : j < length held) (differ : i ≢ j) {ways : List Way}
     (stored : IsStored old ways held) (runs : RunsStay old new) (long : length new ≡ length old)
@@ -147,10 +147,10 @@ module _ (arena : Blocks) (heads : Heads) (slots : List Slot) {ways : List Way} 
     (b : ℕ) (p : Path) (node : IsNode (nodes_in arena) b) (way : path_of_node (nodes_in arena) b ≡ p) (file : is_file (node_at now.filestore p) ≡ true)
     (i : ℕ) (small : i < 64) (slot : Slot) (is : slot ≡ get_or slots i slot) (later : Blocks) (written : List ℕ) (nodes_later : nodes_in later
     ≡ with_block (nodes_in arena) b written)
-    (row : node_fields_of written ≡ with_contents (node_fields_at (nodes_in arena) b) slot.contents) (name : node_name written ≡ name_at (nodes_in arena) b)
+    (fields : node_fields_of written ≡ with_contents (node_fields_at (nodes_in arena) b) slot.contents) (name : node_name written ≡ name_at (nodes_in arena) b)
     (whole : length written ≡ 128)
     (runs : RunsStay arena later) (free : free_count later ≡ free_count arena) (long : length later ≡ length arena)
-    (after : Slot) (after_is : after.contents ≡ contents_told kind.File (node_fields_at (nodes_in arena) b)) (sound : IsSoundSlot later after) where
+    (after : Slot) (after_is : after.contents ≡ contents_of_fields kind.File (node_fields_at (nodes_in arena) b)) (sound : IsSoundSlot later after) where
   abbrev nodes : Blocks
   nodes = nodes_in arena
 
@@ -161,10 +161,10 @@ module _ (arena : Blocks) (heads : Heads) (slots : List Slot) {ways : List Way} 
   held = holdings nodes staged
 
   abbrev before : Contents
-  before = contents_told kind.File (node_fields_at nodes b)
+  before = contents_of_fields kind.File (node_fields_at nodes b)
 
-  abbrev told : Contents
-  told = file_of written
+  abbrev described : Contents
+  described = file_of written
 
   abbrev slots_now : List Slot
   slots_now = set slots i after
@@ -181,16 +181,16 @@ module _ (arena : Blocks) (heads : Heads) (slots : List Slot) {ways : List Way} 
   filled : IsFilled arena slot.contents
   filled = slot_filled arena heads slots store now view i small slot is
 
-  same : SameOctets told slot.contents
-  same = told_written arena heads slots store now view b p node way file later slot.contents written row name whole filled.blocks
+  same : SameOctets described slot.contents
+  same = written_octets arena heads slots store now view b p node way file later slot.contents written fields name whole filled.blocks
 
   -- no octet moves
   kept_at : (k : ℕ) → contents_in later (get_or held k no_contents) ≡ contents_in arena (get_or held k no_contents)
   kept_at k = (let x = get_or held k no_contents in stays_contents arena later x (runs x.run (store.kept.stored.filled k).held))
 
-  here : contents_in later told ≡ files.staged_in now.filestore i
+  here : contents_in later described ≡ files.staged_in now.filestore i
   here =
-      same_contents told slot.contents same later (stays_filled arena later slot.contents (runs slot.contents.run filled.held) filled)
+      same_contents described slot.contents same later (stays_filled arena later slot.contents (runs slot.contents.run filled.held) filled)
       ∙ stays_contents arena later slot.contents (runs slot.contents.run filled.held)
       ∙ sym (seen_staged arena heads slots store now view i small slot is)
 
@@ -198,28 +198,30 @@ module _ (arena : Blocks) (heads : Heads) (slots : List Slot) {ways : List Way} 
   node_stays c was other =
       let block = octets_of nodes c in
       let at = held_other arena heads slots store now view b p node way file c was in
-      told_same arena later (kind_told (node_fields_of block).kind) (file_of block)
+      node_same arena later (kind_of_octet (node_fields_of block).kind) (file_of block)
       (ap (contents_in later) (sym at) ∙ kept_at (length staged + c) ∙ ap (contents_in arena) at)
 
   staged_now : lists_staged slots_now ≡ set staged i before
   staged_now = map-set (λ (slot : Slot). slot.contents) slots i after ∙ ap (set staged i) after_is
 
   holdings_now : holdings (with_block nodes b written) (lists_staged slots_now)
-      ≡ set (set held i (get_or held (length staged + b) no_contents)) (length staged + b) told
+      ≡ set (set held i (get_or held (length staged + b) no_contents)) (length staged + b) described
   holdings_now =
       let front = set staged i before in
       let back = map file_in nodes in
       let many : length front ≡ length staged = length-set staged i before in
       (λ k. staged_now k ++ map-set file_in nodes b (Some written) k)
-      ∙ sym (set-append_right front back (length staged) (length staged + b) told many (omega arith) ∙ ap (λ k. front ++ set back k told) (omega arith))
-      ∙ ap (λ xs. set xs (length staged + b) told) (sym (set-append_left staged back i before there) ∙ ap (set held i) (sym file_held))
+      ∙ sym (set-append_right front back (length staged) (length staged + b) described many (omega arith)
+      ∙ ap (λ k. front ++ set back k described) (omega arith))
+      ∙ ap (λ xs. set xs (length staged + b) described) (sym (set-append_left staged back i before there) ∙ ap (set held i) (sym file_held))
 
   stored_now : IsStored later ways (holdings (with_block nodes b written) (lists_staged slots_now))
   stored_now =
       let within = in_held arena heads slots store now view b p node way file in
       subst (IsStored later ways) (sym holdings_now)
-      (exchanged arena later held i (length staged + b) (omega (arith, within, there)) within (λ e. omega (arith, there, e)) store.kept.stored runs long told
-      (subst (SameOctets told) (sym slot_held) same))
+      (exchanged arena later held i (length staged + b) (omega (arith, within, there)) within (λ e. omega (arith, there, e)) store.kept.stored runs long
+      described
+      (subst (SameOctets described) (sym slot_held) same))
 
   file_octets : file_octets_at now.filestore p ≡ contents_in arena before
   file_octets = ap octets_in (file_there arena heads slots store now view b p node way file)
@@ -274,12 +276,12 @@ module _ (arena : Blocks) (heads : Heads) (slots : List Slot) {ways : List Way} 
   ]
 
   pub exchange_store : IsStore later ways heads slots_now
-  exchange_store = written_store arena heads slots store now view b p node way file later slot.contents written row name whole
+  exchange_store = written_store arena heads slots store now view b p node way file later slot.contents written fields name whole
       (files.staged_in now.filestore i) here node_stays nodes_later long
       slots_now (set now.filestore.staged i (file_octets_at now.filestore p)) lists_are ways (length-set slots i after) stored_now counted_now sound_now
 
   pub exchange_seen : store_of later (lists_staged slots_now) ≡ with_changes now
       (Stages i (file_octets_at now.filestore p) ∷ Becomes p (Some (File (files.staged_in now.filestore i))) ∷ [])
-  exchange_seen = written_seen arena heads slots store now view b p node way file later slot.contents written row name whole
+  exchange_seen = written_seen arena heads slots store now view b p node way file later slot.contents written fields name whole
       (files.staged_in now.filestore i) here node_stays nodes_later long
       slots_now (set now.filestore.staged i (file_octets_at now.filestore p)) lists_are

@@ -3,7 +3,7 @@
 --     all_maps          two maps over a list that are the same at each index
 --     kind_there, file_there, held_here, file_filled, in_held     what is at the path of a file, and its octets
 --     held_other        the octets of another node
---     told_written      the row that was written says which octets the file has
+--     written_octets    the fields that were written say which octets the file has
 --     written_seen, written_store      its block is written, and the slots may be others: what is seen, and it is a store
 --     file_store, file_changes         its octets are others, and then its block says so
 use Rattle.std.proofs.Common.{◌≡◌, ◌≢◌, ℕ, suc, ◌+◌, ◌<◌, Bool, true, false, cond, List, [], ◌∷◌, ◌++◌, length, map, set, get_or, Option, Some, None, refl, sym, ap, ◌∙◌, subst, inl, inr, arith}
@@ -25,14 +25,14 @@ use Rattle.cfdp_tree.specs.declared.runs.Run.{Run}
 use Rattle.cfdp_tree.specs.declared.contents.Contents.{Contents}
 use Rattle.cfdp_ways.specs.declared.way.Way.{Way}
 use Rattle.cfdp_tree.specs.declared.slots.Slot.{Slot}
-use Rattle.cfdp_tree.specs.code.NodeFields.{node_fields_of, node_name, kind_told}
+use Rattle.cfdp_tree.specs.code.NodeFields.{node_fields_of, node_name, kind_of_octet}
 use Rattle.cfdp_tree.specs.code.Runs.{Apart, Spares, Stays, RunsStay}
 use Rattle.cfdp_tree.specs.code.Ways.{HasWays, KeepsWays}
 use Rattle.cfdp_tree.specs.code.Contents.{IsFilled, contents_in}
 use Rattle.cfdp_tree.specs.code.Nodes.{nodes_in}
 use Rattle.cfdp_tree.specs.code.Tree.{IsNode, node_fields_at, name_at, path_of_node, IsTree, SameEntries}
 use Rattle.cfdp_tree.specs.code.Index.{Heads, IsIndex}
-use Rattle.cfdp_tree.specs.code.Kept.{no_contents, contents_told, file_of, file_in, holdings, node_told, node_of, Shows, filestore_of, store_of, IsStored}
+use Rattle.cfdp_tree.specs.code.Kept.{no_contents, contents_of_fields, file_of, file_in, holdings, node_with, node_of, Shows, filestore_of, store_of, IsStored}
 use Rattle.cfdp_tree.specs.code.Slots.{lists_staged, IsSoundSlot, IsStore}
 use Rattle.cfdp_tree.specs.code.Files.{with_contents, SameOctets}
 use Rattle.cfdp_tree.proofs.OfStore.SlotCursors.{slot_stays}
@@ -44,9 +44,9 @@ use Rattle.cfdp_tree.proofs.OfNodes.EntryLaws.{same_paths, same_tree}
 use Rattle.cfdp_tree.proofs.OfStore.ShowLaws.{tree_shows, shown_same}
 use Rattle.cfdp_tree.proofs.OfStore.StoredLaws.{stored_changed, stored_others, spared as run_spared}
 use Rattle.cfdp_tree.proofs.OfStore.SeenLaws.{shows, seen_node, seen_blocks, mapped_at, held_at}
-use Rattle.cfdp_tree.proofs.OfStore.SlotLaws.{told_same}
+use Rattle.cfdp_tree.proofs.OfStore.SlotLaws.{node_same}
 use Rattle.cfdp_tree.proofs.OfStore.FileNodeLaws.{file_kind, file_entries, file_index}
-use Rattle.cfdp_tree.proofs.OfStore.FileNodeLaws as rows
+use Rattle.cfdp_tree.proofs.OfStore.FileNodeLaws as all_fields
 
 -- octets that are in the same blocks
 module _ (a b : Contents) (same : SameOctets a b) where
@@ -87,9 +87,9 @@ pub some_is : (o : Option (List ℕ)) → IsSome o → file_in o ≡ file_of (un
 some_is None some = cc
 some_is (Some block) some = refl
 
-told_file : (arena : Blocks) (k : Kind) (contents : Contents) → is_file (Some (node_told arena k contents)) ≡ true → k ≡ kind.File
-told_file arena kind.File contents file = refl
-told_file arena kind.Directory contents file = cc
+file_by_node : (arena : Blocks) (k : Kind) (contents : Contents) → is_file (Some (node_with arena k contents)) ≡ true → k ≡ kind.File
+file_by_node arena kind.File contents file = refl
+file_by_node arena kind.Directory contents file = cc
 
 -- a file of the store
 module _ (arena : Blocks) (heads : Heads) (slots : List Slot) {ways : List Way} (store : IsStore arena ways heads slots) (now : Store)
@@ -105,20 +105,20 @@ module _ (arena : Blocks) (heads : Heads) (slots : List Slot) {ways : List Way} 
   held = holdings nodes staged
 
   abbrev before : Contents
-  before = contents_told kind.File (node_fields_at nodes b)
+  before = contents_of_fields kind.File (node_fields_at nodes b)
 
-  pub kind_there : kind_told (node_fields_at nodes b).kind ≡ kind.File
-  kind_there = told_file arena (kind_told (node_fields_at nodes b).kind) (file_of (octets_of nodes b))
+  pub kind_there : kind_of_octet (node_fields_at nodes b).kind ≡ kind.File
+  kind_there = file_by_node arena (kind_of_octet (node_fields_at nodes b).kind) (file_of (octets_of nodes b))
       (ap is_file (sym (seen_node arena heads slots store now view b p node way)) ∙ file)
 
   pub file_there : node_at now.filestore p ≡ Some (File (contents_in arena before))
   file_there = seen_node arena heads slots store now view b p node way ∙ ap (λ k. Some
-      (node_told arena k (contents_told k (node_fields_at nodes b)))) kind_there
+      (node_with arena k (contents_of_fields k (node_fields_at nodes b)))) kind_there
 
   pub held_here : get_or held (length staged + b) no_contents ≡ before
   held_here =
       held_at arena heads slots store now view b ∙ some_is (octets_at nodes b) node
-      ∙ ap (λ k. contents_told k (node_fields_at nodes b)) kind_there
+      ∙ ap (λ k. contents_of_fields k (node_fields_at nodes b)) kind_there
 
   pub file_filled : IsFilled arena before
   file_filled = subst (IsFilled arena) held_here (store.kept.stored.filled (length staged + b))
@@ -131,27 +131,27 @@ module _ (arena : Blocks) (heads : Heads) (slots : List Slot) {ways : List Way} 
   held_other c other = held_at arena heads slots store now view c ∙ some_is (octets_at nodes c) other
 
   -- its block is written
-  module _ (later : Blocks) (contents : Contents) (written : List ℕ) (row : node_fields_of written ≡ with_contents (node_fields_at nodes b) contents)
+  module _ (later : Blocks) (contents : Contents) (written : List ℕ) (fields : node_fields_of written ≡ with_contents (node_fields_at nodes b) contents)
       (name : node_name written ≡ name_at nodes b) (whole : length written ≡ 128) where
     abbrev new : Blocks
     new = with_block nodes b written
 
     entries : SameEntries nodes new
-    entries = file_entries nodes store.kept.tree b node kind_there written contents row name whole
+    entries = file_entries nodes store.kept.tree b node kind_there written contents fields name whole
 
     tree_new : IsTree new
     tree_new = same_tree nodes new entries store.kept.tree
 
-    pub told_written : contents.run.count ≡ blocks_of contents.size → SameOctets (file_of written) contents
-    told_written blocks = subst (λ x. SameOctets x contents)
-        (sym (ap (λ k. contents_told k (node_fields_of written)) (file_kind nodes store.kept.tree b node kind_there written contents row name whole)
-        ∙ ap (contents_told kind.File) row))
-        (rows.told_same (node_fields_at nodes b) contents blocks)
+    pub written_octets : contents.run.count ≡ blocks_of contents.size → SameOctets (file_of written) contents
+    written_octets blocks = subst (λ x. SameOctets x contents)
+        (sym (ap (λ k. contents_of_fields k (node_fields_of written)) (file_kind nodes store.kept.tree b node kind_there written contents fields name whole)
+        ∙ ap (contents_of_fields kind.File) fields))
+        (all_fields.octets_same (node_fields_at nodes b) contents blocks)
 
     module _ (octets : List ℕ) (here : contents_in later (file_of written) ≡ octets)
         (stays : (c : ℕ) → IsNode nodes c → c ≢ b → node_of later (octets_of nodes c) ≡ node_of arena (octets_of nodes c)) where
       shown_written : node_of later written ≡ File octets
-      shown_written = ap (λ k. node_told later k (file_of written)) (file_kind nodes store.kept.tree b node kind_there written contents row name whole)
+      shown_written = ap (λ k. node_with later k (file_of written)) (file_kind nodes store.kept.tree b node kind_there written contents fields name whole)
           ∙ ap File here
 
       -- what is at a path, and whether it is the file's
@@ -236,7 +236,7 @@ module _ (arena : Blocks) (heads : Heads) (slots : List Slot) {ways : List Way} 
             small = omega (arith, long, store.kept.small);
             slots = length-map slots_now (λ (slot : Slot). slot.contents) ∙ many ∙ sym (length-map slots (λ (slot : Slot). slot.contents)) ∙ store.kept.slots;
             tree = subst IsTree (sym nodes_now) tree_new;
-            index = subst (λ ns. IsIndex ns heads None) (sym nodes_now) (file_index nodes store.kept.tree b node kind_there written contents row name whole
+            index = subst (λ ns. IsIndex ns heads None) (sym nodes_now) (file_index nodes store.kept.tree b node kind_there written contents fields name whole
                 heads None store.kept.index);
             stored = subst (λ ns. IsStored later ways_now (holdings ns (lists_staged slots_now))) (sym nodes_now) stored;
             counted = ap (λ F. free_count later + blocks F) filestore_is ∙ counted;
@@ -248,16 +248,16 @@ module _ (arena : Blocks) (heads : Heads) (slots : List Slot) {ways : List Way} 
   module _ (middle later : Blocks) (after : Contents) (written : List ℕ) (nodes_middle : nodes_in middle ≡ nodes) (long_middle : length middle ≡ length arena)
       (spares : Spares arena middle before.run after.run) (filled : IsFilled middle after) (taken : free_count middle + blocks_of after.size ≡ free_count arena
       + blocks_of before.size)
-      (nodes_later : nodes_in later ≡ with_block (nodes_in middle) b written) (row : node_fields_of written ≡ with_contents
+      (nodes_later : nodes_in later ≡ with_block (nodes_in middle) b written) (fields : node_fields_of written ≡ with_contents
       (node_fields_at (nodes_in middle) b) after)
       (name : node_name written ≡ name_at (nodes_in middle) b) (whole : length written ≡ 128) (runs : RunsStay middle later) (free : free_count later
       ≡ free_count middle) (long : length later ≡ length middle)
       (octets : List ℕ) (octets_is : contents_in middle after ≡ octets) where
-    abbrev told : Contents
-    told = file_of written
+    abbrev described : Contents
+    described = file_of written
 
-    row_is : node_fields_of written ≡ with_contents (node_fields_at nodes b) after
-    row_is = row ∙ ap (λ ns. with_contents (node_fields_at ns b) after) nodes_middle
+    fields_are : node_fields_of written ≡ with_contents (node_fields_at nodes b) after
+    fields_are = fields ∙ ap (λ ns. with_contents (node_fields_at ns b) after) nodes_middle
 
     name_is : node_name written ≡ name_at nodes b
     name_is = name ∙ ap (λ ns. name_at ns b) nodes_middle
@@ -265,44 +265,44 @@ module _ (arena : Blocks) (heads : Heads) (slots : List Slot) {ways : List Way} 
     nodes_is : nodes_in later ≡ with_block nodes b written
     nodes_is = nodes_later ∙ ap (λ ns. with_block ns b written) nodes_middle
 
-    same : SameOctets told after
-    same = told_written later after written row_is name_is whole filled.blocks
+    same : SameOctets described after
+    same = written_octets later after written fields_are name_is whole filled.blocks
 
     filled_later : IsFilled later after
     filled_later = stays_filled middle later after (runs after.run filled.held) filled
 
-    filled_told : IsFilled later told
-    filled_told = same_filled told after same later filled_later
+    filled_described : IsFilled later described
+    filled_described = same_filled described after same later filled_later
 
-    here : contents_in later told ≡ octets
-    here = same_contents told after same later filled_later ∙ stays_contents middle later after (runs after.run filled.held) ∙ octets_is
+    here : contents_in later described ≡ octets
+    here = same_contents described after same later filled_later ∙ stays_contents middle later after (runs after.run filled.held) ∙ octets_is
 
-    spares_told : Spares arena later before.run told.run
-    spares_told other is apart =
+    spares_described : Spares arena later before.run described.run
+    spares_described other is apart =
         let s = spares other is apart in
         let t = runs other s.0.held in (
           record { held = t.held; octets = t.octets ∙ s.0.octets; sequence = (λ k within. t.sequence k within ∙ s.0.sequence k within) },
-          same_apart told after same other s.1,
+          same_apart described after same other s.1,
         )
 
-    spares_held : Spares arena later (get_or held (length staged + b) no_contents).run told.run
-    spares_held = subst (λ (x : Contents). Spares arena later x.run told.run) (sym held_here) spares_told
+    spares_held : Spares arena later (get_or held (length staged + b) no_contents).run described.run
+    spares_held = subst (λ (x : Contents). Spares arena later x.run described.run) (sym held_here) spares_described
 
     others : (j : ℕ) → j ≢ length staged + b → contents_in later (get_or held j no_contents) ≡ contents_in arena (get_or held j no_contents)
-    others = stored_others arena later held (length staged + b) in_held told store.kept.stored spares_held filled_told
+    others = stored_others arena later held (length staged + b) in_held described store.kept.stored spares_held filled_described
 
     node_stays : (c : ℕ) → IsNode nodes c → c ≢ b → node_of later (octets_of nodes c) ≡ node_of arena (octets_of nodes c)
     node_stays c was other =
         let block = octets_of nodes c in
         let at = held_other c was in
-        told_same arena later (kind_told (node_fields_of block).kind) (file_of block)
+        node_same arena later (kind_of_octet (node_fields_of block).kind) (file_of block)
         (ap (contents_in later) (sym at) ∙ others (length staged + c) (λ e. other (omega (arith, e))) ∙ ap (contents_in arena) at)
 
-    holdings_now : holdings (with_block nodes b written) staged ≡ set held (length staged + b) told
+    holdings_now : holdings (with_block nodes b written) staged ≡ set held (length staged + b) described
     holdings_now =
         ap (λ xs. staged ++ xs) (map-set file_in nodes b (Some written))
-        ∙ sym (set-append_right staged (map file_in nodes) (length staged) (length staged + b) told refl (omega arith)
-        ∙ ap (λ k. staged ++ set (map file_in nodes) k told) (omega arith))
+        ∙ sym (set-append_right staged (map file_in nodes) (length staged) (length staged + b) described refl (omega arith)
+        ∙ ap (λ k. staged ++ set (map file_in nodes) k described) (omega arith))
 
     slot_at : (j : ℕ) → j < length staged → get_or held j no_contents ≡ get_or staged j no_contents
     slot_at j within = get_or_append_left staged (map file_in nodes) no_contents j within
@@ -320,7 +320,7 @@ module _ (arena : Blocks) (heads : Heads) (slots : List Slot) {ways : List Way} 
           blocks-becomes now.filestore p (Some (File octets)),
           ap weight file_there,
           ap blocks_of (length-contents arena before file_filled),
-          ap blocks_of (sym (ap (λ (xs : List ℕ). length xs) here) ∙ length-contents later told filled_told ∙ same.size),
+          ap blocks_of (sym (ap (λ (xs : List ℕ). length xs) here) ∙ length-contents later described filled_described ∙ same.size),
           taken,
           free,
           long,
@@ -335,13 +335,14 @@ module _ (arena : Blocks) (heads : Heads) (slots : List Slot) {ways : List Way} 
         let at : get_or held j no_contents ≡ s.contents = slot_at j inside ∙ mapped_at (λ (slot : Slot). slot.contents) slots j s no_contents within
         (get_or_default slots j d s within) in
         let stays = subst (λ (x : Contents). Stays arena later x.run) at
-        (run_spared arena later held (length staged + b) in_held told store.kept.stored spares_held filled_told j (λ e. omega (arith, inside, e))).0 in
+        (run_spared arena later held (length staged + b) in_held described store.kept.stored spares_held filled_described j
+        (λ e. omega (arith, inside, e))).0 in
         slot_stays arena later s stays (store.sound j d within)
 
     -- the ways of its blocks, and of those of all others
     module _ (ways_now : List Way) (has : HasWays middle ways_now after.run) (keeps : KeepsWays arena middle ways ways_now before.run) where
-      has_later : HasWays later ways_now told.run
-      has_later = same_ways later ways_now told after same
+      has_later : HasWays later ways_now described.run
+      has_later = same_ways later ways_now described after same
           (ways_still middle later ways_now after.run long (λ k less. (runs after.run filled.held).sequence k (omega (arith, less))) has)
 
       keeps_later : KeepsWays arena later ways ways_now (get_or held (length staged + b) no_contents).run
@@ -351,12 +352,12 @@ module _ (arena : Blocks) (heads : Heads) (slots : List Slot) {ways : List Way} 
           ways_still middle later ways_now other long (λ k less. (runs other still).sequence k (omega (arith, less))) (keeps other is apart_before was)
 
       pub file_store : IsStore later ways_now heads slots
-      file_store = written_store later after written row_is name_is whole octets here node_stays nodes_is (long
+      file_store = written_store later after written fields_are name_is whole octets here node_stays nodes_is (long
           ∙ long_middle) slots now.filestore.staged lists_are ways_now refl
           (subst (IsStored later ways_now) (sym holdings_now) (stored_changed arena later held (length staged
-          + b) in_held told store.kept.stored spares_held filled_told ways_now has_later keeps_later))
+          + b) in_held described store.kept.stored spares_held filled_described ways_now has_later keeps_later))
           counted_now stays_sound
 
     pub file_changes : store_of later (lists_staged slots) ≡ with_changes now (Becomes p (Some (File octets)) ∷ [])
-    file_changes = written_seen later after written row_is name_is whole octets here node_stays nodes_is (long
+    file_changes = written_seen later after written fields_are name_is whole octets here node_stays nodes_is (long
         ∙ long_middle) slots now.filestore.staged lists_are

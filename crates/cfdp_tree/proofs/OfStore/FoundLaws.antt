@@ -29,7 +29,7 @@ use Rattle.cfdp_tree.specs.code.Contents.{IsFilled, contents_in}
 use Rattle.cfdp_tree.specs.code.Nodes.{nodes_in}
 use Rattle.cfdp_tree.specs.code.Tree.{IsNode, node_fields_at, name_at, path_of_node}
 use Rattle.cfdp_tree.specs.code.Index.{Heads}
-use Rattle.cfdp_tree.specs.code.Kept.{contents_told, no_contents, holdings, store_of}
+use Rattle.cfdp_tree.specs.code.Kept.{contents_of_fields, no_contents, holdings, store_of}
 use Rattle.cfdp_tree.specs.code.Slots.{lists_staged, IsStore}
 use Rattle.cfdp_tree.specs.code.Files.{with_contents}
 use Rattle.cfdp_tree.proofs.OfRuns.ContentsLaws.{length-contents}
@@ -63,19 +63,19 @@ module _ (arena : Blocks) (heads : Heads) (slots : List Slot) {ways : List Way} 
 
   module _ (p : Path) (file : is_file (node_at now.filestore p) ≡ true) where
     octets_there : (b : ℕ) (node : IsNode nodes b) (way : path_of_node nodes b ≡ p) → file_octets_at now.filestore p
-        ≡ contents_in arena (contents_told kind.File (node_fields_at nodes b))
+        ≡ contents_in arena (contents_of_fields kind.File (node_fields_at nodes b))
     octets_there b node way = ap octets_in (file_there arena heads slots store now view b p node way file)
 
     pub file_most : (b : ℕ) → IsNode nodes b → path_of_node nodes b ≡ p → (node_fields_at nodes b).size ≤ 7864320
     file_most b node way = omega (
       arith,
       ap (λ (xs : List ℕ). length xs) (octets_there b node way),
-      length-contents arena (contents_told kind.File (node_fields_at nodes b)) (file_filled arena heads slots store now view b p node way file),
+      length-contents arena (contents_of_fields kind.File (node_fields_at nodes b)) (file_filled arena heads slots store now view b p node way file),
       file_small arena heads slots store now view p,
     )
 
     module _ (found : FoundFile) (node : IsNode nodes found.node) (way : path_of_node nodes found.node ≡ p) (is : found.contents
-        ≡ contents_told kind.File (node_fields_at nodes found.node)) where
+        ≡ contents_of_fields kind.File (node_fields_at nodes found.node)) where
       pub found_ways : HasWays arena ways found.contents.run
       found_ways = subst (λ (x : Contents). HasWays arena ways x.run) (sym is)
           (subst (λ (x : Contents). HasWays arena ways x.run) (held_here arena heads slots store now view found.node p node way file)
@@ -98,7 +98,7 @@ module _ (arena : Blocks) (heads : Heads) (slots : List Slot) {ways : List Way} 
           ≡ length arena)
           (spares : Spares arena middle found.contents.run after.run) (filled : IsFilled middle after) (taken : free_count middle + blocks_of after.size
           ≡ free_count arena + blocks_of found.contents.size)
-          (nodes_later : nodes_in later ≡ with_block (nodes_in middle) found.node written) (row : node_fields_of written
+          (nodes_later : nodes_in later ≡ with_block (nodes_in middle) found.node written) (fields : node_fields_of written
           ≡ with_contents (node_fields_at (nodes_in middle) found.node) after)
           (name : node_name written ≡ name_at (nodes_in middle) found.node) (whole : length written ≡ 128) (runs : RunsStay middle later)
           (free : free_count later
@@ -110,19 +110,19 @@ module _ (arena : Blocks) (heads : Heads) (slots : List Slot) {ways : List Way} 
             long_middle
             (subst (λ (x : Contents). Spares arena middle x.run after.run) is spares) filled (taken
             ∙ ap (λ (x : Contents). free_count arena + blocks_of x.size) is)
-            nodes_later row name whole runs free long octets octets_is ways_now has
+            nodes_later fields name whole runs free long octets octets_is ways_now has
             (subst (λ (x : Contents). KeepsWays arena middle ways ways_now x.run) is keeps)
 
         pub found_changes : store_of later (lists_staged slots) ≡ with_changes now (Becomes p (Some (File octets)) ∷ [])
         found_changes = file_changes arena heads slots store now view found.node p node way file middle later after written nodes_middle long_middle
             (subst (λ (x : Contents). Spares arena middle x.run after.run) is spares) filled (taken
             ∙ ap (λ (x : Contents). free_count arena + blocks_of x.size) is)
-            nodes_later row name whole runs free long octets octets_is
+            nodes_later fields name whole runs free long octets octets_is
 
       -- and another one
       module _ (q : Path) (also : is_file (node_at now.filestore q) ≡ true) (other : FoundFile) (other_node : IsNode nodes other.node)
           (other_way : path_of_node nodes other.node ≡ q)
-          (other_is : other.contents ≡ contents_told kind.File (node_fields_at nodes other.node)) where
+          (other_is : other.contents ≡ contents_of_fields kind.File (node_fields_at nodes other.node)) where
         other_size : length (file_octets_at now.filestore q) ≡ other.contents.size
         other_size =
             ap (λ (xs : List ℕ). length xs) (ap octets_in (file_there arena heads slots store now view other.node q other_node other_way also)
@@ -131,7 +131,7 @@ module _ (arena : Blocks) (heads : Heads) (slots : List Slot) {ways : List Way} 
             (file_filled arena heads slots store now view other.node q other_node other_way also))
 
         pub found_same : found.node ≡ other.node → found.contents ≡ other.contents
-        found_same e = is ∙ ap (λ b. contents_told kind.File (node_fields_at nodes b)) e ∙ sym other_is
+        found_same e = is ∙ ap (λ b. contents_of_fields kind.File (node_fields_at nodes b)) e ∙ sym other_is
 
         -- and their paths are one, or two
         pub found_one : found.node ≡ other.node → same_path p q ≡ true

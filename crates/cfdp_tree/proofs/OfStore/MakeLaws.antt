@@ -20,32 +20,34 @@ use Rattle.cfdp_actions.proofs.ChangeLaws.{blocks-becomes}
 use Rattle.cfdp_tree.specs.declared.contents.Contents.{Contents}
 use Rattle.cfdp_ways.specs.declared.way.Way.{Way}
 use Rattle.cfdp_tree.specs.declared.slots.Slot.{Slot}
-use Rattle.cfdp_tree.specs.code.NodeFields.{NodeFields, node_fields_of, node_name, kind_told, plain_fields}
+use Rattle.cfdp_tree.specs.code.NodeFields.{NodeFields, node_fields_of, node_name, kind_of_octet, plain_fields}
 use Rattle.cfdp_tree.specs.code.Runs.{Stays, RunsStay}
 use Rattle.cfdp_tree.specs.code.Nodes.{only_node, nodes_in}
 use Rattle.cfdp_tree.specs.code.Tree.{IsNode, IsDirectory, name_at, home_in, home, path_of_node, IsEntry, IsNamed, IsTree, Relinked}
-use Rattle.cfdp_tree.specs.code.Directories.{path_at, StandsAt}
+use Rattle.cfdp_tree.specs.code.Directories.{path_at, IsAtPath}
 use Rattle.cfdp_tree.specs.code.Index.{Heads, IsIndex}
-use Rattle.cfdp_tree.specs.code.Kept.{no_contents, contents_told, file_of, file_in, node_told, node_of, Shows, store_of}
+use Rattle.cfdp_tree.specs.code.Kept.{no_contents, contents_of_fields, file_of, file_in, node_with, node_of, Shows, store_of}
 use Rattle.cfdp_tree.specs.code.Slots.{lists_staged, IsStore}
 use Rattle.cfdp_tree.specs.code.Changes.{empty_node}
 use Rattle.cfdp_tree.proofs.OfRuns.ContentsLaws.{stays_contents}
-use Rattle.cfdp_tree.proofs.OfStore.SlotLaws.{told_same}
+use Rattle.cfdp_tree.proofs.OfStore.SlotLaws.{node_same}
 use Rattle.cfdp_tree.proofs.OfStore.SeenLaws.{shows, seen_blocks}
 use Rattle.cfdp_tree.proofs.OfNodes.EntryLaws.{same_tree}
 use Rattle.cfdp_tree.proofs.OfNodes.ClimbLaws.{path_entry}
-use Rattle.cfdp_tree.proofs.OfNodes.ParentLaws.{parent_directory, parent_stands}
+use Rattle.cfdp_tree.proofs.OfNodes.ParentLaws.{parent_directory, parent_exists}
 use Rattle.cfdp_tree.proofs.OfNodes.AddLaws.{added_tree, added_path, added_shows}
 use Rattle.cfdp_tree.proofs.OfIndex.OutLaws.{index_created}
-use Rattle.cfdp_tree.proofs.OfStore.AlikeLaws.{Alike, alike_relinked, told_by, alike_shows}
+use Rattle.cfdp_tree.proofs.OfStore.AlikeLaws.{Alike, alike_relinked, node_by_contents, alike_shows}
 use Rattle.cfdp_tree.proofs.OfStore.ChangedLaws.{IsLeft, list_held, file_held, nodes_seen, nodes_store}
 use Rattle.cfdp_tree.proofs.OfStore.ShowLaws.{no_node}
 
-plain_file : (parent : ℕ) (k : Kind) (name : Name) → contents_told (kind_told (plain_fields parent k name).kind) (plain_fields parent k name) ≡ no_contents
+plain_file : (parent : ℕ) (k : Kind) (name : Name) → contents_of_fields (kind_of_octet (plain_fields parent k name).kind) (plain_fields parent k name)
+    ≡ no_contents
 plain_file parent kind.Directory name = refl
 plain_file parent kind.File name = ap (λ n. record { run = record { first = 0; last = 0; count = n }; size = 0; sum = 0 }) no_blocks
 
-plain_node : (arena : Blocks) (parent : ℕ) (k : Kind) (name : Name) → node_told arena (kind_told (plain_fields parent k name).kind) no_contents ≡ empty_node k
+plain_node : (arena : Blocks) (parent : ℕ) (k : Kind) (name : Name)
+    → node_with arena (kind_of_octet (plain_fields parent k name).kind) no_contents ≡ empty_node k
 plain_node arena parent kind.Directory name = refl
 plain_node arena parent kind.File name = refl
 
@@ -71,8 +73,8 @@ module _ (arena : Blocks) (heads : Heads) (slots : List Slot) {ways : List Way} 
     directory_none,
   )
 
-  stands : StandsAt nodes directory (take depth path)
-  stands = parent_stands arena nodes store.kept.tree now.filestore (shows arena heads slots store now view) path depth long parent_good directory (
+  exists : IsAtPath nodes directory (take depth path)
+  exists = parent_exists arena nodes store.kept.tree now.filestore (shows arena heads slots store now view) path depth long parent_good directory (
     directory_node,
     directory_path,
     directory_none,
@@ -85,15 +87,15 @@ module _ (arena : Blocks) (heads : Heads) (slots : List Slot) {ways : List Way} 
   name_good = subst IsName (sym name_is) (is_path.names depth [] (omega (arith, long)))
 
   pub target_few : length (path_at nodes directory) ≤ 7
-  target_few = omega (arith, ap length stands.path, length-take-le depth path (omega (arith, long)), long, is_path.few)
+  target_few = omega (arith, ap length exists.path, length-take-le depth path (omega (arith, long)), long, is_path.few)
 
   pub entry_none : node_at now.filestore path ≡ None → (c : ℕ) → IsEntry nodes directory name c → ⊥
   entry_none absent c entry =
-      let way = path_entry nodes store.kept.tree directory (take depth path) name c stands entry ∙ path_is in
+      let way = path_entry nodes store.kept.tree directory (take depth path) name c exists entry ∙ path_is in
       no_node (sym absent ∙ ap (node_at now.filestore) (sym way) ∙ (shows arena heads slots store now view).each c entry.node)
 
   module _ (absent : node_at now.filestore path ≡ None) (one : Blocks) (b : ℕ) (k : Kind) (free : octets_at arena b ≡ None) (within : b < length arena)
-      (one_is : nodes_in one ≡ with_block nodes b (octets_of (nodes_in one) b)) (row : node_fields_of (octets_of (nodes_in one) b)
+      (one_is : nodes_in one ≡ with_block nodes b (octets_of (nodes_in one) b)) (fields : node_fields_of (octets_of (nodes_in one) b)
       ≡ plain_fields (unwrap_or directory b) k name)
       (there : home (nodes_in one) b ≡ directory) (named : name_at (nodes_in one) b ≡ name) (whole : length (octets_of (nodes_in one) b) ≡ 128) where
     abbrev block : List ℕ
@@ -111,7 +113,7 @@ module _ (arena : Blocks) (heads : Heads) (slots : List Slot) {ways : List Way} 
     block_named : IsNamed block
     block_named = record {
       whole = whole;
-      fits = omega (arith, ap (λ (r : NodeFields). r.name_length) row, name_good.short);
+      fits = omega (arith, ap (λ (r : NodeFields). r.name_length) fields, name_good.short);
       name = subst IsName (sym named) name_good;
     }
 
@@ -154,10 +156,10 @@ module _ (arena : Blocks) (heads : Heads) (slots : List Slot) {ways : List Way} 
       alike = subst (λ ns. Alike ns (nodes_in later)) one_is same
 
       file_new : file_of block ≡ no_contents
-      file_new = ap (λ (r : NodeFields). contents_told (kind_told r.kind) r) row ∙ plain_file (unwrap_or directory b) k name
+      file_new = ap (λ (r : NodeFields). contents_of_fields (kind_of_octet r.kind) r) fields ∙ plain_file (unwrap_or directory b) k name
 
       node_new : node_of later block ≡ empty_node k
-      node_new = (λ i. node_told later (kind_told (row i).kind) (file_new i)) ∙ plain_node later (unwrap_or directory b) k name
+      node_new = (λ i. node_with later (kind_of_octet (fields i).kind) (file_new i)) ∙ plain_node later (unwrap_or directory b) k name
 
       files_left : (c : ℕ) → IsLeft arena later (file_in (octets_at nodes c)) (file_in (octets_at (nodes_in later) c))
       files_left c = elim (cases_eq c b) [
@@ -170,15 +172,15 @@ module _ (arena : Blocks) (heads : Heads) (slots : List Slot) {ways : List Way} 
 
       node_kept : (c : ℕ) → IsNode nodes c → node_of later (octets_of nodes c) ≡ node_of arena (octets_of nodes c)
       node_kept c node =
-          told_by later nodes c node
-          ∙ told_same arena later (kind_told (node_fields_of (octets_of nodes c)).kind) (file_in (octets_at nodes c))
+          node_by_contents later nodes c node
+          ∙ node_same arena later (kind_of_octet (node_fields_of (octets_of nodes c)).kind) (file_in (octets_at nodes c))
           (stays_contents arena later (file_in (octets_at nodes c)) (runs (file_in (octets_at nodes c)).run (file_held arena heads slots store c)))
-          ∙ sym (told_by arena nodes c node)
+          ∙ sym (node_by_contents arena nodes c node)
 
       path_new : path_of_node made b ≡ path
       path_new =
           added_path nodes b block inside free_node store.kept.tree block_named good few fresh
-          ∙ (λ i. path_at nodes (there i) ++ named i ∷ []) ∙ ap (λ p. p ++ name ∷ []) stands.path ∙ path_is
+          ∙ (λ i. path_at nodes (there i) ++ named i ∷ []) ∙ ap (λ p. p ++ name ∷ []) exists.path ∙ path_is
 
       shows_now : Shows later (nodes_in later) (finite.insert now.filestore.nodes path (empty_node k))
       shows_now =

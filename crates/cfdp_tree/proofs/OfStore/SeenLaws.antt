@@ -1,11 +1,11 @@
 -- What a store that is kept in an arena is seen as.
---     shows                      its nodes are those of the map from paths
+--     shows                         its nodes are those of the map from paths
 --     seen_node, seen_block, seen_none, seen_there       what is at a path is what is at its node
 --     seen_blocks, few_blocks, file_small, staged_small    the blocks in use, and the octets of a file and of a staged list
---     seen_file, file_ways       a file's octets are in its contents, and the ways of their blocks lead back
---     seen_staged, slot_ways     so do those that are staged
---     seen_parent                the parent of a path is the beginning of it
---     told_kind, told_directory  a node by its kind
+--     seen_file, file_ways          a file's octets are in its contents, and the ways of their blocks lead back
+--     seen_staged, slot_ways        so do those that are staged
+--     seen_parent                   the parent of a path is the beginning of it
+--     node_kind, node_is_directory  a node by its kind
 use Rattle.std.proofs.Common.{◌≡◌, ℕ, zero, suc, ◌+◌, ◌-◌, ◌<◌, ◌≤◌, true, not, ◌&&◌, List, [], ◌∷◌, length, map, take, get_or, Option, Some, None, refl, sym, ap, ◌∙◌, subst, arith}
 use Rattle.std.proofs.Math.ListN.{get_or-map}
 use Rattle.std.proofs.lemmas.List.{get_or-append_right, get_or_append_left, length-map, length-take-le}
@@ -25,32 +25,32 @@ use Rattle.cfdp_actions.proofs.BlocksLaws.{blocks_of-bound}
 use Rattle.cfdp_tree.specs.declared.contents.Contents.{Contents}
 use Rattle.cfdp_ways.specs.declared.way.Way.{Way}
 use Rattle.cfdp_tree.specs.declared.slots.Slot.{Slot}
-use Rattle.cfdp_tree.specs.code.NodeFields.{NodeFields, node_fields_of, kind_told}
+use Rattle.cfdp_tree.specs.code.NodeFields.{NodeFields, node_fields_of, kind_of_octet}
 use Rattle.cfdp_tree.specs.code.Contents.{IsFilled, contents_in}
 use Rattle.cfdp_tree.specs.code.Nodes.{nodes_in}
 use Rattle.cfdp_tree.specs.code.Ways.{HasWays}
 use Rattle.cfdp_tree.specs.code.Tree.{IsNode, path_of_node}
 use Rattle.cfdp_tree.specs.code.Index.{Heads}
-use Rattle.cfdp_tree.specs.code.Kept.{no_contents, contents_told, file_in, holdings, node_told, node_of, Shows, store_of}
+use Rattle.cfdp_tree.specs.code.Kept.{no_contents, contents_of_fields, file_in, holdings, node_with, node_of, Shows, store_of}
 use Rattle.cfdp_tree.specs.code.Slots.{lists_staged, IsSoundSlot, IsStore}
 use Rattle.cfdp_tree.proofs.OfRuns.ContentsLaws.{length-contents}
 use Rattle.cfdp_tree.proofs.OfNodes.TreeLaws.{node_entry, node_octets}
 use Rattle.cfdp_tree.proofs.OfStore.ShowLaws.{tree_shows}
 
-pub told_kind : (arena : Blocks) (k : Kind) (contents : Contents) → kind_of (node_told arena k contents) ≡ k
-told_kind arena kind.File contents = refl
-told_kind arena kind.Directory contents = refl
+pub node_kind : (arena : Blocks) (k : Kind) (contents : Contents) → kind_of (node_with arena k contents) ≡ k
+node_kind arena kind.File contents = refl
+node_kind arena kind.Directory contents = refl
 
-pub told_directory : (arena : Blocks) (k : Kind) (contents : Contents) → is_directory (Some (node_told arena k contents)) ≡ not (is_file_kind k)
-told_directory arena kind.File contents = refl
-told_directory arena kind.Directory contents = refl
+pub node_is_directory : (arena : Blocks) (k : Kind) (contents : Contents) → is_directory (Some (node_with arena k contents)) ≡ not (is_file_kind k)
+node_is_directory arena kind.File contents = refl
+node_is_directory arena kind.Directory contents = refl
 
 -- the contents of a file
-pub told_file : (arena : Blocks) (k : Kind) (row : NodeFields) → is_file (Some (node_told arena k (contents_told k row))) ≡ true
-    → (octets_in (Some (node_told arena k (contents_told k row))) ≡ contents_in arena (contents_told kind.File row))
-    × (contents_told k row ≡ contents_told kind.File row)
-told_file arena kind.File row file = (refl, refl)
-told_file arena kind.Directory row file = cc
+pub node_is_file : (arena : Blocks) (k : Kind) (fields : NodeFields) → is_file (Some (node_with arena k (contents_of_fields k fields))) ≡ true
+    → (octets_in (Some (node_with arena k (contents_of_fields k fields))) ≡ contents_in arena (contents_of_fields kind.File fields))
+    × (contents_of_fields k fields ≡ contents_of_fields kind.File fields)
+node_is_file arena kind.File fields file = (refl, refl)
+node_is_file arena kind.Directory fields file = cc
 
 pub mapped_at : {A B : Type 0} (f : A → B) (xs : List A) (i : ℕ) (x : A) (d : B) → i < length xs → x ≡ get_or xs i x → get_or (map f xs) i d ≡ f x
 mapped_at f [] i x d within e = absurd (omega arith)
@@ -131,23 +131,26 @@ module _ (arena : Blocks) (heads : Heads) (slots : List Slot) {ways : List Way} 
 
   pub seen_file : (b : ℕ) (p : Path) (block : List ℕ) → IsNode (nodes_in arena) b → path_of_node (nodes_in arena) b ≡ p → octets_at arena b ≡ Some block →
       is_file (node_at now.filestore p) ≡ true
-      → (files.file_octets_at now.filestore p ≡ contents_in arena (contents_told kind.File (node_fields_of block))) × IsFilled arena
-      (contents_told kind.File (node_fields_of block))
+      → (files.file_octets_at now.filestore p ≡ contents_in arena (contents_of_fields kind.File (node_fields_of block))) × IsFilled arena
+      (contents_of_fields kind.File (node_fields_of block))
   seen_file b p block node e is file =
       let at = seen_block b p block node e is in
-      let told = told_file arena (kind_told (node_fields_of block).kind) (node_fields_of block) (sym (ap is_file at) ∙ file) in
-      let here : octets_at (nodes_in arena) b ≡ Some block = node_entry arena b node ∙ is in
-      (ap octets_in at ∙ told.0, subst (IsFilled arena) (held_at b ∙ ap file_in here ∙ told.1) (store.kept.stored.filled (length (lists_staged slots) + b)))
+      let described = node_is_file arena (kind_of_octet (node_fields_of block).kind) (node_fields_of block) (sym (ap is_file at) ∙ file) in
+      let here : octets_at (nodes_in arena) b ≡ Some block = node_entry arena b node ∙ is in (
+        ap octets_in at ∙ described.0,
+        subst (IsFilled arena) (held_at b ∙ ap file_in here ∙ described.1)
+            (store.kept.stored.filled (length (lists_staged slots) + b)),
+      )
 
   -- the ways of its blocks
   pub file_ways : (b : ℕ) (p : Path) (block : List ℕ) → IsNode (nodes_in arena) b → path_of_node (nodes_in arena) b ≡ p → octets_at arena b ≡ Some block →
       is_file (node_at now.filestore p) ≡ true
-      → HasWays arena ways (contents_told kind.File (node_fields_of block)).run
+      → HasWays arena ways (contents_of_fields kind.File (node_fields_of block)).run
   file_ways b p block node e is file =
       let at = seen_block b p block node e is in
-      let told = told_file arena (kind_told (node_fields_of block).kind) (node_fields_of block) (sym (ap is_file at) ∙ file) in
+      let described = node_is_file arena (kind_of_octet (node_fields_of block).kind) (node_fields_of block) (sym (ap is_file at) ∙ file) in
       let here : octets_at (nodes_in arena) b ≡ Some block = node_entry arena b node ∙ is in
-      subst (λ (x : Contents). HasWays arena ways x.run) (held_at b ∙ ap file_in here ∙ told.1) (store.kept.stored.led (length (lists_staged slots) + b))
+      subst (λ (x : Contents). HasWays arena ways x.run) (held_at b ∙ ap file_in here ∙ described.1) (store.kept.stored.led (length (lists_staged slots) + b))
 
   module _ (i : ℕ) (small : i < 64) where
     pub slot_there : i < length slots

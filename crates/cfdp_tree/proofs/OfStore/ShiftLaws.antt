@@ -15,31 +15,31 @@ use Rattle.cfdp_arena.specs.Arena.{Blocks, octets_at, octets_of, with_block, fre
 use Rattle.cfdp_actions.specs.declared.kind.Kind.{Kind}
 use Rattle.cfdp_actions.specs.declared.kind.Kind.TheVariants as kind
 use Rattle.cfdp_actions.specs.Filestore.{Node, Filestore, node_at, blocks, after, tree_at, parent_is_good, IsRooted}
-use Rattle.cfdp_actions.specs.Actions.{is_tree_too_deep, vacating, settled}
+use Rattle.cfdp_actions.specs.Actions.{is_tree_too_deep, vacating, arriving}
 use Rattle.cfdp_actions.specs.Store.{Store, with_changes}
 use Rattle.cfdp_actions.proofs.Prefixes.{rebased-below, rebased_back}
 use Rattle.cfdp_actions.proofs.Moves.{after-append, find-tree_at, moved, nothing_there, moved_there, moved_apart, blocks-moved}
 use Rattle.cfdp_tree.specs.declared.contents.Contents.{Contents}
 use Rattle.cfdp_ways.specs.declared.way.Way.{Way}
 use Rattle.cfdp_tree.specs.declared.slots.Slot.{Slot}
-use Rattle.cfdp_tree.specs.code.NodeFields.{NodeFields, node_fields_of, node_name, kind_told}
+use Rattle.cfdp_tree.specs.code.NodeFields.{NodeFields, node_fields_of, node_name, kind_of_octet}
 use Rattle.cfdp_tree.specs.code.Runs.{Stays, RunsStay}
 use Rattle.cfdp_tree.specs.code.Nodes.{nodes_in}
 use Rattle.cfdp_tree.specs.code.Tree.{IsNode, IsDirectory, node_fields_at, name_at, home_in, home, path_of_node, IsEntry, IsNamed, IsTree}
-use Rattle.cfdp_tree.specs.code.Directories.{path_at, StandsAt}
+use Rattle.cfdp_tree.specs.code.Directories.{path_at, IsAtPath}
 use Rattle.cfdp_tree.specs.code.Index.{Heads, IsIndex}
-use Rattle.cfdp_tree.specs.code.Kept.{no_contents, contents_told, file_in, node_told, node_of, Shows, store_of}
+use Rattle.cfdp_tree.specs.code.Kept.{no_contents, contents_of_fields, file_in, node_with, node_of, Shows, store_of}
 use Rattle.cfdp_tree.specs.code.Slots.{lists_staged, IsStore}
 use Rattle.cfdp_tree.proofs.OfRuns.ContentsLaws.{stays_contents}
-use Rattle.cfdp_tree.proofs.OfStore.SlotLaws.{told_same}
+use Rattle.cfdp_tree.proofs.OfStore.SlotLaws.{node_same}
 use Rattle.cfdp_tree.proofs.OfStore.SeenLaws.{shows, seen_blocks}
 use Rattle.cfdp_tree.proofs.OfNodes.EntryLaws.{at_b, kept_by, same_paths, same_tree}
-use Rattle.cfdp_tree.proofs.OfNodes.ParentLaws.{parent_directory, parent_stands}
+use Rattle.cfdp_tree.proofs.OfNodes.ParentLaws.{parent_directory, parent_exists}
 use Rattle.cfdp_tree.proofs.OfNodes.RootedLaws.{tree_rooted}
 use Rattle.cfdp_tree.proofs.OfStore.MakeLaws.{path_is, name_good, entry_none}
 use Rattle.cfdp_tree.proofs.OfNodes.MoveLaws.{moved_tree, moved_path, stayed_path, true_false}
 use Rattle.cfdp_tree.proofs.OfIndex.OutLaws.{index_moved}
-use Rattle.cfdp_tree.proofs.OfStore.AlikeLaws.{Alike, alike_node, alike_directory, told_by, alike_shows, held_is}
+use Rattle.cfdp_tree.proofs.OfStore.AlikeLaws.{Alike, alike_node, alike_directory, node_by_contents, alike_shows, held_is}
 use Rattle.cfdp_tree.proofs.OfStore.ChangedLaws.{IsLeft, list_held, file_held, nodes_seen, nodes_store}
 use Rattle.std.proofs.lemmas.Bool.{or_parts}
 use Rattle.cfdp_tree.proofs.OfStore.ShowLaws.{no_node}
@@ -68,18 +68,19 @@ vacated_lists : (F : Filestore) (es : List (Path × Node)) → (after F (vacatin
 vacated_lists F [] = refl
 vacated_lists F (e ∷ es) = vacated_lists (record F { nodes = finite.remove F.nodes e.0 }) es
 
-settled_lists : (F : Filestore) (p q : Path) (es : List (Path × Node)) → (after F (settled p q es)).staged ≡ F.staged
-settled_lists F p q [] = refl
-settled_lists F p q (e ∷ es) = settled_lists (record F { nodes = finite.insert F.nodes (rebased p q e.0) e.1 }) p q es
+arriving_lists : (F : Filestore) (p q : Path) (es : List (Path × Node)) → (after F (arriving p q es)).staged ≡ F.staged
+arriving_lists F p q [] = refl
+arriving_lists F p q (e ∷ es) = arriving_lists (record F { nodes = finite.insert F.nodes (rebased p q e.0) e.1 }) p q es
 
 moved_lists : (F : Filestore) (p q : Path) → (moved F p q).staged ≡ F.staged
 moved_lists F p q =
     let es = tree_at F p in
-    ap (λ (G : Filestore). G.staged) (after-append F (vacating es) (settled p q es)) ∙ settled_lists (after F (vacating es)) p q es ∙ vacated_lists F es
+    ap (λ (G : Filestore). G.staged) (after-append F (vacating es) (arriving p q es)) ∙ arriving_lists (after F (vacating es)) p q es ∙ vacated_lists F es
 
-told_moved : (k : Kind) (row : NodeFields) (parent n : ℕ) → contents_told k (record row { parent = parent; name_length = n }) ≡ contents_told k row
-told_moved kind.File row parent n = refl
-told_moved kind.Directory row parent n = refl
+contents_moved : (k : Kind) (fields : NodeFields) (parent n : ℕ)
+    → contents_of_fields k (record fields { parent = parent; name_length = n }) ≡ contents_of_fields k fields
+contents_moved kind.File fields parent n = refl
+contents_moved kind.Directory fields parent n = refl
 
 module _ (arena : Blocks) (heads : Heads) (slots : List Slot) {ways : List Way} (store : IsStore arena ways heads slots) (now : Store)
     (view : store_of arena (lists_staged slots) ≡ now)
@@ -100,8 +101,8 @@ module _ (arena : Blocks) (heads : Heads) (slots : List Slot) {ways : List Way} 
   is_directory = parent_directory arena nodes store.kept.tree now.filestore seen q depth long parent_good directory
       (directory_node, directory_path, directory_none)
 
-  stands : StandsAt nodes directory (take depth q)
-  stands = parent_stands arena nodes store.kept.tree now.filestore seen q depth long parent_good directory (directory_node, directory_path, directory_none)
+  exists : IsAtPath nodes directory (take depth q)
+  exists = parent_exists arena nodes store.kept.tree now.filestore seen q depth long parent_good directory (directory_node, directory_path, directory_none)
 
   whole : take depth q ++ name ∷ [] ≡ q
   whole = path_is arena heads slots store now view q is_path depth long parent_good directory directory_node directory_path directory_none name name_is
@@ -112,7 +113,7 @@ module _ (arena : Blocks) (heads : Heads) (slots : List Slot) {ways : List Way} 
   -- the node does not go into itself
   pub directory_other : directory ≢ Some b
   directory_other e =
-      let above : take depth q ≡ p = sym stands.path ∙ ap (path_at nodes) e ∙ way in
+      let above : take depth q ≡ p = sym exists.path ∙ ap (path_at nodes) e ∙ way in
       true_false (at_or_below_from_append q p (name ∷ []) (sym whole ∙ ap (λ x. x ++ name ∷ []) above)) apart
 
   -- it is out of its lists
@@ -139,7 +140,7 @@ module _ (arena : Blocks) (heads : Heads) (slots : List Slot) {ways : List Way} 
 
     -- and is put elsewhere
     module _ (three : Blocks) (parent : ℕ) (three_is : nodes_in three ≡ with_block before b (octets_of (nodes_in three) b))
-        (row : node_fields_at (nodes_in three) b ≡ record (node_fields_at before b) { parent = parent; name_length = length name })
+        (fields : node_fields_at (nodes_in three) b ≡ record (node_fields_at before b) { parent = parent; name_length = length name })
         (there : home (nodes_in three) b ≡ directory)
         (name_there : name_at (nodes_in three) b ≡ name) (block_whole : length (octets_of (nodes_in three) b) ≡ 128) (absent : node_at now.filestore q ≡ None)
         (shallow : is_tree_too_deep p q (tree_at now.filestore p) ≡ false) where
@@ -152,7 +153,7 @@ module _ (arena : Blocks) (heads : Heads) (slots : List Slot) {ways : List Way} 
       block_named : IsNamed block
       block_named = record {
         whole = block_whole;
-        fits = omega (arith, ap (λ (r : NodeFields). r.name_length) row, named.short);
+        fits = omega (arith, ap (λ (r : NodeFields). r.name_length) fields, named.short);
         name = subst IsName (sym name_there) named;
       }
 
@@ -167,7 +168,7 @@ module _ (arena : Blocks) (heads : Heads) (slots : List Slot) {ways : List Way} 
       directory_same (Some d) = same_paths nodes before same.entries d
 
       q_is : path_at before (home_in b block) ++ node_name block ∷ [] ≡ q
-      q_is = (λ i. path_at before (there i) ++ name_there i ∷ []) ∙ ap (λ x. x ++ name ∷ []) (directory_same directory ∙ stands.path) ∙ whole
+      q_is = (λ i. path_at before (there i) ++ name_there i ∷ []) ∙ ap (λ x. x ++ name ∷ []) (directory_same directory ∙ exists.path) ∙ whole
 
       fresh : (c : ℕ) → IsEntry before (home_in b block) (node_name block) c → ⊥
       fresh c entry =
@@ -187,8 +188,8 @@ module _ (arena : Blocks) (heads : Heads) (slots : List Slot) {ways : List Way} 
           (ap is_some (find-tree_at now.filestore p (path_of_node before c) ∙ ap (λ t. cond t (node_at now.filestore (path_of_node before c)) None) below
           ∙ shown_two.each c inside)) shallow
 
-      kind_same : kind_told (node_fields_of block).kind ≡ kind_told (node_fields_at before b).kind
-      kind_same = ap (λ (r : NodeFields). kind_told r.kind) row
+      kind_same : kind_of_octet (node_fields_of block).kind ≡ kind_of_octet (node_fields_at before b).kind
+      kind_same = ap (λ (r : NodeFields). kind_of_octet r.kind) fields
 
       tree_put : IsTree put
       tree_put = moved_tree before b block node_two tree_two block_named kind_same good p q p_is q_is apart fresh fits
@@ -208,12 +209,12 @@ module _ (arena : Blocks) (heads : Heads) (slots : List Slot) {ways : List Way} 
 
       file_three : (c : ℕ) → file_in (octets_at put c) ≡ file_in (octets_at before c)
       file_three = kept_by before b block node_two (λ c entry. file_in entry)
-          (ap (λ (r : NodeFields). contents_told (kind_told r.kind) r) row ∙ told_moved (kind_told (node_fields_at before b).kind)
+          (ap (λ (r : NodeFields). contents_of_fields (kind_of_octet r.kind) r) fields ∙ contents_moved (kind_of_octet (node_fields_at before b).kind)
           (node_fields_at before b) parent (length name)
           ∙ held_is (octets_at before b) node_two)
 
-      kind_three : (c : ℕ) → kind_told (node_fields_at put c).kind ≡ kind_told (node_fields_at before c).kind
-      kind_three = kept_by before b block node_two (λ c entry. kind_told (node_fields_of (unwrap_or entry [])).kind) kind_same
+      kind_three : (c : ℕ) → kind_of_octet (node_fields_at put c).kind ≡ kind_of_octet (node_fields_at before c).kind
+      kind_three = kept_by before b block node_two (λ c entry. kind_of_octet (node_fields_of (unwrap_or entry [])).kind) kind_same
 
       some_three : (c : ℕ) → is_some (octets_at put c) ≡ is_some (octets_at before c)
       some_three = kept_by before b block node_two (λ c entry. is_some entry) (sym node_two)
@@ -240,13 +241,13 @@ module _ (arena : Blocks) (heads : Heads) (slots : List Slot) {ways : List Way} 
         was_two : (c : ℕ) → IsNode put c → IsNode before c
         was_two c inside = sym (some_three c) ∙ inside
 
-        told : (c : ℕ) → IsNode put c → node_of later (octets_of put c) ≡ node_of arena (octets_of before c)
-        told c inside =
-            told_by later put c inside
-            ∙ (λ i. node_told later (kind_three c i) (file_three c i))
-            ∙ told_same arena later (kind_told (node_fields_at before c).kind) (file_in (octets_at before c))
+        described : (c : ℕ) → IsNode put c → node_of later (octets_of put c) ≡ node_of arena (octets_of before c)
+        described c inside =
+            node_by_contents later put c inside
+            ∙ (λ i. node_with later (kind_three c i) (file_three c i))
+            ∙ node_same arena later (kind_of_octet (node_fields_at before c).kind) (file_in (octets_at before c))
             (stays_contents arena later (file_in (octets_at before c)) (subst (λ (x : Contents). Stays arena later x.run) (sym (same.files c)) (file_stays c)))
-            ∙ sym (told_by arena before c (was_two c inside))
+            ∙ sym (node_by_contents arena before c (was_two c inside))
 
         goes : (c : ℕ) → IsNode before c → is_at_or_below (path_of_node before c) p ≡ true → path_of_node put c ≡ rebased p q (path_of_node before c)
         goes = moved_path before b block node_two tree_two block_named kind_same good p q p_is q_is apart fresh fits
@@ -271,11 +272,11 @@ module _ (arena : Blocks) (heads : Heads) (slots : List Slot) {ways : List Way} 
             ≡ Some (node_of later (octets_of put c))
         each_put c inside true below =
             let was = was_two c inside in
-            ap (node_at G) (goes c was below) ∙ got_moved (path_of_node before c) below ∙ shown_two.each c was ∙ ap Some (sym (told c inside))
+            ap (node_at G) (goes c was below) ∙ got_moved (path_of_node before c) below ∙ shown_two.each c was ∙ ap Some (sym (described c inside))
         each_put c inside false outside =
             let was = was_two c inside in
             ap (node_at G) (remains c was outside)
-            ∙ got_stayed (path_of_node before c) (node_of arena (octets_of before c)) (shown_two.each c was) outside ∙ ap Some (sym (told c inside))
+            ∙ got_stayed (path_of_node before c) (node_of arena (octets_of before c)) (shown_two.each c was) outside ∙ ap Some (sym (described c inside))
 
         is_put : (c : ℕ) → IsNode before c → IsNode put c
         is_put c was = some_three c ∙ was
@@ -322,7 +323,7 @@ module _ (arena : Blocks) (heads : Heads) (slots : List Slot) {ways : List Way} 
           filestore_is : record { nodes = G.nodes; staged = (store_of arena (lists_staged slots)).filestore.staged } ≡ G
           filestore_is = (λ i. record { nodes = G.nodes; staged = (ap (λ (s : Store). s.filestore.staged) view ∙ sym (moved_lists F p q)) i })
 
-          pub shift_view : store_of later (lists_staged slots) ≡ with_changes now (vacating (tree_at F p) ++ settled p q (tree_at F p))
+          pub shift_view : store_of later (lists_staged slots) ≡ with_changes now (vacating (tree_at F p) ++ arriving p q (tree_at F p))
           shift_view =
               nodes_seen arena later heads heads_now slots store long_now list_stays left_at G.nodes shows_later tree_later index
               ∙ (λ i. record (view i) { filestore = filestore_is i })

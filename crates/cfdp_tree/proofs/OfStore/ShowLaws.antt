@@ -11,7 +11,7 @@ use Rattle.cfdp_paths.proofs.InOrder.{path_antisym}
 use Rattle.cfdp_arena.specs.Arena.{Blocks, octets_at, octets_of}
 use Rattle.cfdp_actions.specs.Filestore.{Node}
 use Rattle.cfdp_tree.specs.code.Tree.{IsNode, path_of_node, IsTree}
-use Rattle.cfdp_tree.specs.code.Kept.{node_of, standing_from, Shows}
+use Rattle.cfdp_tree.specs.code.Kept.{node_of, existing_from, Shows}
 use Rattle.cfdp_tree.proofs.OfNodes.TreeLaws.{same_node}
 
 pub no_node : {node : Node} → None ≡ Some node → ⊥
@@ -45,7 +45,7 @@ module _ (arena nodes : Blocks) (tree : IsTree nodes) where
   first b entry rest follows = let same : b ≡ b + 0 = omega arith in ap (octets_at nodes) same ∙ follows 0
 
   each_from : (c : ℕ) (node : IsNode nodes c) (b k : ℕ) (rest : Blocks) → Follows b rest → c ≡ b + k → IsSome (octets_at rest k)
-      → find path_cmp (path_of_node nodes c) (standing_from arena nodes b rest) ≡ Some (node_of arena (octets_of nodes c))
+      → find path_cmp (path_of_node nodes c) (existing_from arena nodes b rest) ≡ Some (node_of arena (octets_of nodes c))
   each_from c node b k [] follows e there = cc
   each_from c node b zero (None ∷ rest) follows e there = cc
   each_from c node b (suc k) (None ∷ rest) follows e there = each_from c node (suc b) k rest (later b None rest follows) (omega arith) there
@@ -53,25 +53,26 @@ module _ (arena nodes : Blocks) (tree : IsTree nodes) where
       let here : c ≡ b = omega arith in
       let held : octets_of nodes c ≡ block = ap (octets_of nodes) here ∙ ap (λ entry. unwrap_or entry []) (first b (Some block) rest follows) in
       let same = (same_path-Decides (path_of_node nodes c) (path_of_node nodes b)).1 (ap (path_of_node nodes) here) in
-      (λ i. cond (same i) (Some (node_of arena block)) (find path_cmp (path_of_node nodes c) (standing_from arena nodes (suc b) rest)))
+      (λ i. cond (same i) (Some (node_of arena block)) (find path_cmp (path_of_node nodes c) (existing_from arena nodes (suc b) rest)))
       ∙ ap (λ o. Some (node_of arena o)) (sym held)
   each_from c node b (suc k) (Some block ∷ rest) follows e there =
-      let behind = each_from c node (suc b) k rest (later b (Some block) rest follows) (omega arith) there in
-      by_same (same_path (path_of_node nodes c) (path_of_node nodes b)) refl behind
+      let following = each_from c node (suc b) k rest (later b (Some block) rest follows) (omega arith) there in
+      by_same (same_path (path_of_node nodes c) (path_of_node nodes b)) refl following
     where
       node_b : IsNode nodes b
       node_b = subst IsSome (sym (first b (Some block) rest follows)) refl
 
       by_same : (same : Bool) → same_path (path_of_node nodes c) (path_of_node nodes b) ≡ same
-          → find path_cmp (path_of_node nodes c) (standing_from arena nodes (suc b) rest) ≡ Some (node_of arena (octets_of nodes c))
-          → find path_cmp (path_of_node nodes c) (standing_from arena nodes b (Some block ∷ rest)) ≡ Some (node_of arena (octets_of nodes c))
-      by_same true is behind =
+          → find path_cmp (path_of_node nodes c) (existing_from arena nodes (suc b) rest) ≡ Some (node_of arena (octets_of nodes c))
+          → find path_cmp (path_of_node nodes c) (existing_from arena nodes b (Some block ∷ rest)) ≡ Some (node_of arena (octets_of nodes c))
+      by_same true is following =
           let one : c ≡ b = same_node nodes tree c b node node_b ((same_path-Decides (path_of_node nodes c) (path_of_node nodes b)).0 is) in
           absurd (omega arith)
-      by_same false is behind = (λ i. cond (is i) (Some (node_of arena block)) (find path_cmp (path_of_node nodes c) (standing_from arena nodes (suc b) rest)))
-          ∙ behind
+      by_same false is following = (λ i. cond (is i) (Some (node_of arena block))
+          (find path_cmp (path_of_node nodes c) (existing_from arena nodes (suc b) rest)))
+          ∙ following
 
-  only_from : (p : Path) (node : Node) (b : ℕ) (rest : Blocks) → Follows b rest → find path_cmp p (standing_from arena nodes b rest) ≡ Some node
+  only_from : (p : Path) (node : Node) (b : ℕ) (rest : Blocks) → Follows b rest → find path_cmp p (existing_from arena nodes b rest) ≡ Some node
       → (c : ℕ) × IsNode nodes c × (path_of_node nodes c ≡ p)
   only_from p node b [] follows e = absurd (no_node e)
   only_from p node b (None ∷ rest) follows e = only_from p node (suc b) rest (later b None rest follows) e
@@ -79,18 +80,19 @@ module _ (arena nodes : Blocks) (tree : IsTree nodes) where
       by_same (same_path p (path_of_node nodes b)) refl (only_from p node (suc b) rest (later b (Some block) rest follows))
     where
       by_same : (same : Bool) → same_path p (path_of_node nodes b) ≡ same
-          → (find path_cmp p (standing_from arena nodes (suc b) rest) ≡ Some node → (c : ℕ) × IsNode nodes c × (path_of_node nodes c ≡ p))
+          → (find path_cmp p (existing_from arena nodes (suc b) rest) ≡ Some node → (c : ℕ) × IsNode nodes c × (path_of_node nodes c ≡ p))
           → (c : ℕ) × IsNode nodes c × (path_of_node nodes c ≡ p)
-      by_same true is behind = (b, subst IsSome (sym (first b (Some block) rest follows)) refl, sym ((same_path-Decides p (path_of_node nodes b)).0 is))
-      by_same false is behind = behind (sym (λ i. cond (is i) (Some (node_of arena block)) (find path_cmp p (standing_from arena nodes (suc b) rest))) ∙ e)
+      by_same true is following = (b, subst IsSome (sym (first b (Some block) rest follows)) refl, sym ((same_path-Decides p (path_of_node nodes b)).0 is))
+      by_same false is following = following (sym (λ i. cond (is i) (Some (node_of arena block)) (find path_cmp p (existing_from arena nodes (suc b) rest)))
+          ∙ e)
 
   all_follow : Follows 0 nodes
   unfolding Follows
   all_follow k = let same : 0 + k ≡ k = omega arith in ap (octets_at nodes) same
 
-  pub tree_shows : Shows arena nodes (finite.from_entries {R = path_cmp} (standing_from arena nodes 0 nodes))
+  pub tree_shows : Shows arena nodes (finite.from_entries {R = path_cmp} (existing_from arena nodes 0 nodes))
   tree_shows = record {
-    each = (λ b node. get-from_entries path_cmp-total (standing_from arena nodes 0 nodes) (path_of_node nodes b)
+    each = (λ b node. get-from_entries path_cmp-total (existing_from arena nodes 0 nodes) (path_of_node nodes b)
         ∙ each_from b node 0 b nodes all_follow (omega arith) node);
-    only = (λ p node e. only_from p node 0 nodes all_follow (sym (get-from_entries path_cmp-total (standing_from arena nodes 0 nodes) p) ∙ e));
+    only = (λ p node e. only_from p node 0 nodes all_follow (sym (get-from_entries path_cmp-total (existing_from arena nodes 0 nodes) p) ∙ e));
   }

@@ -74,8 +74,8 @@ gap_written octets part at end slot left skipped after long end_is range was ord
 pub end_written : (octets part : List ℕ) (at : ℕ) (end after : Gap) → at + length part ≤ length octets → IsBlank octets end → at + length part ≤ after.from →
     end.from ≤ after.from → after.from ≤ after.to → after.to ≡ end.to
     → IsBlank (overwritten octets at part) after
-end_written octets part at end after range was behind begins ordered ends =
-    after_blank octets at part range after behind (part_blank octets end was after begins ordered (omega (arith, ends)))
+end_written octets part at end after range was following begins ordered ends =
+    after_blank octets at part range after following (part_blank octets end was after begins ordered (omega (arith, ends)))
 
 -- a slot of as many octets
 pub same_unwritten : (octets : List ℕ) (slot after : Slot) → after.contents.size ≡ slot.contents.size → after.blank_from ≡ slot.blank_from → after.gap

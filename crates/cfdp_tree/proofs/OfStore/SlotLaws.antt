@@ -19,14 +19,14 @@ use Rattle.cfdp_actions.proofs.ChangeLaws.{blocks-stages}
 use Rattle.cfdp_tree.specs.declared.contents.Contents.{Contents}
 use Rattle.cfdp_ways.specs.declared.way.Way.{Way}
 use Rattle.cfdp_tree.specs.declared.slots.Slot.{Slot}
-use Rattle.cfdp_tree.specs.code.NodeFields.{node_fields_of, kind_told}
+use Rattle.cfdp_tree.specs.code.NodeFields.{node_fields_of, kind_of_octet}
 use Rattle.cfdp_tree.specs.code.Runs.{Spares, Stays}
 use Rattle.cfdp_tree.specs.code.Ways.{HasWays, KeepsWays}
 use Rattle.cfdp_tree.specs.code.Contents.{IsFilled, contents_in}
 use Rattle.cfdp_tree.specs.code.Nodes.{nodes_in}
 use Rattle.cfdp_tree.specs.code.Tree.{IsNode, IsTree}
 use Rattle.cfdp_tree.specs.code.Index.{Heads, IsIndex}
-use Rattle.cfdp_tree.specs.code.Kept.{no_contents, file_of, file_in, holdings, node_told, node_of, Shows, filestore_of, store_of, IsStored}
+use Rattle.cfdp_tree.specs.code.Kept.{no_contents, file_of, file_in, holdings, node_with, node_of, Shows, filestore_of, store_of, IsStored}
 use Rattle.cfdp_tree.specs.code.Slots.{lists_staged, IsSoundSlot, IsStore}
 use Rattle.cfdp_tree.proofs.OfStore.SlotCursors.{slot_stays}
 use Rattle.cfdp_tree.proofs.OfRuns.ContentsLaws.{length-contents}
@@ -39,10 +39,10 @@ pub shows_later : (arena later nodes : Blocks) (F : finite.FinMap path_cmp Node)
 shows_later arena later nodes F stays shows = record { each = (λ b node. shows.each b node ∙ ap Some (sym (stays b node))); only = shows.only }
 
 -- a node whose octets are the same
-pub told_same : (arena later : Blocks) (k : Kind) (contents : Contents) → contents_in later contents ≡ contents_in arena contents → node_told later k contents
-    ≡ node_told arena k contents
-told_same arena later kind.File contents same = ap files.File same
-told_same arena later kind.Directory contents same = refl
+pub node_same : (arena later : Blocks) (k : Kind) (contents : Contents) → contents_in later contents ≡ contents_in arena contents → node_with later k contents
+    ≡ node_with arena k contents
+node_same arena later kind.File contents same = ap files.File same
+node_same arena later kind.Directory contents same = refl
 
 pub set_maps : {A B : Type 0} (f g : A → B) (xs : List A) (i : ℕ) (y : B) (d : A) → ((j : ℕ) → j < length xs → j ≢ i → f (get_or xs j d) ≡ g (get_or xs j d)) →
     set (map f xs) i y ≡ set (map g xs) i y
@@ -104,7 +104,7 @@ module _ (arena later : Blocks) (heads : Heads) (slots : List Slot) {ways : List
       let at : get_or held (length staged + b) no_contents ≡ file_of block = held_at arena heads slots store (store_of arena staged) refl b
       ∙ some_is (octets_at (nodes_in arena) b) node in
       let same = others (length staged + b) (λ e. omega (arith, there)) in
-      told_same arena later (kind_told (node_fields_of block).kind) (file_of block) (ap (contents_in later) (sym at) ∙ same ∙ ap (contents_in arena) at)
+      node_same arena later (kind_of_octet (node_fields_of block).kind) (file_of block) (ap (contents_in later) (sym at) ∙ same ∙ ap (contents_in arena) at)
 
   -- the same is at each path
   nodes_same : (filestore_of later (lists_staged now)).nodes ≡ (filestore_of arena staged).nodes

@@ -17,12 +17,12 @@ use Rattle.cfdp_actions.specs.Filestore as files
 use Rattle.cfdp_actions.specs.Store.{Store}
 use Rattle.cfdp_ways.specs.declared.way.Way.{Way}
 use Rattle.cfdp_tree.specs.declared.slots.Slot.{Slot}
-use Rattle.cfdp_tree.specs.code.NodeFields.{NodeFields, node_fields_of, kind_told}
+use Rattle.cfdp_tree.specs.code.NodeFields.{NodeFields, node_fields_of, kind_of_octet}
 use Rattle.cfdp_tree.specs.code.Contents.{IsFilled, contents_in}
 use Rattle.cfdp_tree.specs.code.Nodes.{nodes_in}
 use Rattle.cfdp_tree.specs.code.Tree.{IsNode, path_of_node, IsTree}
 use Rattle.cfdp_tree.specs.code.Index.{Heads}
-use Rattle.cfdp_tree.specs.code.Kept.{contents_told, file_of, node_told, store_of}
+use Rattle.cfdp_tree.specs.code.Kept.{contents_of_fields, file_of, node_with, store_of}
 use Rattle.cfdp_tree.specs.code.Slots.{lists_staged, IsStore}
 use Rattle.cfdp_tree.specs.code.NodesBelow.{IsUnder, AreNodesBelow, path_and_node, IsSoundNode}
 use Rattle.cfdp_tree.proofs.OfRuns.ContentsLaws.{length-contents}
@@ -36,10 +36,10 @@ pub items_are : {A E X : Type 0} (items : A → List X) (r : Result A E) (was no
 items_are items (Ok v) was now has same = has ∙ same
 items_are items (Err e) was now has same = tt
 
-told_octets : (arena : Blocks) (k : Kind) (row : NodeFields) → octets_in (Some (node_told arena k (contents_told k row))) ≡ contents_in arena
-    (contents_told k row)
-told_octets arena kind.Directory row = refl
-told_octets arena kind.File row = refl
+node_octets : (arena : Blocks) (k : Kind) (fields : NodeFields) → octets_in (Some (node_with arena k (contents_of_fields k fields))) ≡ contents_in arena
+    (contents_of_fields k fields)
+node_octets arena kind.Directory fields = refl
+node_octets arena kind.File fields = refl
 
 module _ (arena : Blocks) (heads : Heads) (slots : List Slot) {ways : List Way} (store : IsStore arena ways heads slots) (now : Store)
     (view : store_of arena (lists_staged slots) ≡ now) where
@@ -50,7 +50,8 @@ module _ (arena : Blocks) (heads : Heads) (slots : List Slot) {ways : List Way} 
       subst (IsFilled arena) (held_at arena heads slots store now view b ∙ some_is (octets_at nodes b) node)
       (store.kept.stored.filled (length (lists_staged slots) + b)) in
       let octets : files.file_octets_at now.filestore (path_of_node nodes b) ≡ contents_in arena (file_of block) =
-      ap octets_in ((shows arena heads slots store now view).each b node) ∙ told_octets arena (kind_told (node_fields_of block).kind) (node_fields_of block) in
+      ap octets_in ((shows arena heads slots store now view).each b node)
+      ∙ node_octets arena (kind_of_octet (node_fields_of block).kind) (node_fields_of block) in
       record {
         node = node;
         filled = filled;

@@ -2,7 +2,7 @@
 --     rising                   paths in order of which no two are one strictly rise
 --     found_own, found_all, found_apart     the nodes of what is at a path and below it, in another order
 --     found_tree               they are the entries of what is there
---     told_tree                they are so where their paths rise
+--     tree_of_nodes            they are so where their paths rise
 --     tree_whole               of no name, all that exists
 use Rattle.std.proofs.Common.{◌≡◌, ◌≢◌, ℕ, zero, suc, ◌+◌, ◌<◌, Bool, true, false, ◌&&◌, T, List, [], ◌∷◌, length, map, is_lt, cond, is_some, get_or, Option, Some, None, refl, sym, ap, ◌∙◌, subst, arith}
 use Rattle.std.proofs.lemmas.List.{length-map, get_or-map}
@@ -52,9 +52,9 @@ module _ {X : Type 0} where
   rising (e ∷ []) up apart = refl
   rising (e ∷ f ∷ es) up apart =
       let rest = rising (f ∷ es) (later e (f ∷ es) up) (λ i j d less within. apart (suc i) (suc j) d (omega (arith, less)) (omega (arith, within))) in
-      let behind = not_less (path_cmp f.0 e.0) (up 0 e (omega arith) (omega arith))
+      let following = not_less (path_cmp f.0 e.0) (up 0 e (omega arith) (omega arith))
       (λ same. apart 0 1 e (omega arith) (omega arith) (sym (path_antisym f.0 e.0 same))) in
-      let before : path_cmp e.0 f.0 ≡ Less = greater_back f.0 e.0 behind in
+      let before : path_cmp e.0 f.0 ≡ Less = greater_back f.0 e.0 following in
       and_from (is_lt (path_cmp e.0 f.0) && below_all path_cmp e.0 es) (is_sorted path_cmp (f ∷ es))
       (and_from (is_lt (path_cmp e.0 f.0)) (below_all path_cmp e.0 es) (ap is_lt before)
       (below_before e.0 f.0 es before (first_of (below_all path_cmp f.0 es) (is_sorted path_cmp es) rest))) rest
@@ -211,9 +211,9 @@ module _ (nodes : Blocks) (tree : IsTree nodes) (p : Path) (list : List ℕ) (no
       (get_or-map (path_and_node nodes) list k 0 d (omega (arith, inside)) i)))
       ∙ ap is_lt back
 
-  pub told_tree : (found : List (Path × ℕ)) → found ≡ map (path_and_node nodes) list → (arena : Blocks) (F : Filestore) → Shows arena nodes F.nodes →
+  pub tree_of_nodes : (found : List (Path × ℕ)) → found ≡ map (path_and_node nodes) list → (arena : Blocks) (F : Filestore) → Shows arena nodes F.nodes →
       map (shown_node arena nodes) found ≡ tree_at F p
-  told_tree found is arena F shows =
+  tree_of_nodes found is arena F shows =
       subst (λ es. map (shown_node arena nodes) es ≡ tree_at F p) (sym is)
       (found_tree nodes tree p list nodes_below (map (path_and_node nodes) list) (IsPermutation-refl
       (map (path_and_node nodes) list)) paths_sorted arena F shows)

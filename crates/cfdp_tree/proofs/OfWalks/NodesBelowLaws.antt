@@ -115,7 +115,7 @@ module _ (nodes : Blocks) (tree : IsTree nodes) (orders : Orders) (ordered : IsI
       ((e : ℕ) → IsNode nodes e → home nodes e ≡ directory → Contains list e)
       → (c : ℕ) → IsDeeper nodes (path_at nodes directory) c → length (path_of_node nodes c) < length (path_at nodes directory) + suc n → Contains
       (walks orders n list) c
-  walks_all n below directory stands list has c deep short =
+  walks_all n below directory exists list has c deep short =
       let p = path_at nodes directory in
       let q = path_of_node nodes c in
       let whole = append_from_at_or_below q p deep.under.below in
@@ -123,7 +123,7 @@ module _ (nodes : Blocks) (tree : IsTree nodes) (orders : Orders) (ordered : IsI
       let entry = beginning nodes tree c (length p + 1) deep.under.node (omega arith) (omega (arith, deep.longer)) in
       let way : path_of_node nodes entry.0 ≡ p ++ get_or q (length p) [] ∷ [] = entry.2 ∙ take_more q (length p) [] deep.longer
       ∙ ap (λ x. x ++ get_or q (length p) [] ∷ []) front in
-      let at = entry_at nodes tree directory p (get_or q (length p) []) entry.0 (record { node = stands; path = refl }) entry.1 way in
+      let at = entry_at nodes tree directory p (get_or q (length p) []) entry.0 (record { node = exists; path = refl }) entry.1 way in
       let under : is_at_or_below q (path_of_node nodes entry.0) ≡ true = at_or_below_from_append q (path_of_node nodes entry.0) (drop (length p + 1) q)
       (sym (take-append-drop (length p + 1) q) ∙ ap (λ x. x ++ drop (length p + 1) q) (sym entry.2)) in
       Contains-flat_map (walk orders n) list entry.0 c (has entry.0 entry.1 at.there)

@@ -32,7 +32,7 @@ use Rattle.cfdp_tree.specs.code.Tree.{name_at, home, climb, path_of_node, IsTree
 use Rattle.cfdp_tree.specs.code.Directories.{path_at}
 use Rattle.cfdp_tree.specs.code.Entries.{IsMember}
 use Rattle.cfdp_tree.specs.code.Orders.{no_order, order_at, in_order, IsInOrders}
-use Rattle.cfdp_tree.specs.code.Walk.{walk, walks, walks_at, walk_from, most_names_in, StandsDeep, StandAt}
+use Rattle.cfdp_tree.specs.code.Walk.{walk, walks, walks_at, walk_from, most_names_in, IsAtDepth, AreAtDepth}
 use Rattle.cfdp_tree.proofs.OfNodes.ClimbLaws.{most_is, path_by_home}
 
 pub max_three : (a b c : ℕ) → max a (max b c) ≡ max (max a b) c
@@ -65,10 +65,10 @@ names_few nodes [] = omega arith
 names_few nodes (b ∷ list) = grind (arith, few_names nodes b, names_few nodes list)
 
 -- a node, and those before and after it
-pub deep_parts : (nodes : Blocks) (depth : ℕ) (before : List ℕ) (b : ℕ) (after : List ℕ) → StandAt nodes depth (before ++ b ∷ after) →
-    StandAt nodes depth before × StandsDeep nodes depth b × StandAt nodes depth after
+pub deep_parts : (nodes : Blocks) (depth : ℕ) (before : List ℕ) (b : ℕ) (after : List ℕ) → AreAtDepth nodes depth (before ++ b ∷ after) →
+    AreAtDepth nodes depth before × IsAtDepth nodes depth b × AreAtDepth nodes depth after
 deep_parts nodes depth before b after all =
-    let P = StandsDeep nodes depth in (All_left P before b after all, All_at P before b after all, All_right P before b after all)
+    let P = IsAtDepth nodes depth in (All_left P before b after all, All_at P before b after all, All_right P before b after all)
 
 -- a walk of one name more
 walk_more : (orders : Orders) (n m b : ℕ) → n ≡ suc m → walk orders n b ≡ b ∷ walks orders m (in_order orders (Some b))
@@ -103,8 +103,8 @@ walks_parts orders n m sofar before b after e =
 
 -- a name more than the directory
 pub directory_deep : (nodes : Blocks) → IsTree nodes → (orders : Orders) → IsInOrders nodes orders None → (directory : Option ℕ) (depth : ℕ) →
-    length (path_at nodes directory) ≡ depth → StandAt nodes (depth + 1) (in_order orders directory)
-directory_deep nodes tree orders ordered directory depth long = All-weaker (IsMember nodes None directory) (StandsDeep nodes (depth + 1)) (λ e member. record {
+    length (path_at nodes directory) ≡ depth → AreAtDepth nodes (depth + 1) (in_order orders directory)
+directory_deep nodes tree orders ordered directory depth long = All-weaker (IsMember nodes None directory) (IsAtDepth nodes (depth + 1)) (λ e member. record {
   node = member.node;
   names = omega (
     arith,
@@ -125,14 +125,14 @@ pub record Parts (nodes : Blocks) (orders : Orders) (order : Order) (depth : ℕ
   pub within : order.root < length orders.links.items
   pub inside : order.root < length orders.directories.items
   pub listed : nodes_of orders.links.items order ≡ nodes_of orders.links.items before ++ order.root ∷ nodes_of orders.links.items after
-  pub top : StandsDeep nodes depth order.root
+  pub top : IsAtDepth nodes depth order.root
   pub below_listed : nodes_of orders.links.items below ≡ in_order orders (Some order.root)
   pub is_before : IsOrder orders.links.items before
   pub is_below : IsOrder orders.links.items below
   pub is_after : IsOrder orders.links.items after
-  pub deep_before : StandAt nodes depth (nodes_of orders.links.items before)
-  pub deep_below : StandAt nodes (depth + 1) (nodes_of orders.links.items below)
-  pub deep_after : StandAt nodes depth (nodes_of orders.links.items after)
+  pub deep_before : AreAtDepth nodes depth (nodes_of orders.links.items before)
+  pub deep_below : AreAtDepth nodes (depth + 1) (nodes_of orders.links.items below)
+  pub deep_after : AreAtDepth nodes depth (nodes_of orders.links.items after)
   pub few : depth ≤ 8
   pub low_before : before.height < order.height
   pub low_below : below.height ≤ 22
@@ -148,13 +148,13 @@ pub record Parts (nodes : Blocks) (orders : Orders) (order : Order) (depth : ℕ
 
 pub parts : (nodes : Blocks) → IsTree nodes → (orders : Orders) → IsInOrders nodes orders None → length orders.links.items ≤ 65536 →
     (order : Order) (depth : ℕ) → IsOrder orders.links.items order → 0 < order.height
-    → StandAt nodes depth (nodes_of orders.links.items order) → (n m : ℕ) → n ≡ order.root → m ≡ order.root → (before below after : Order)
+    → AreAtDepth nodes depth (nodes_of orders.links.items order) → (n m : ℕ) → n ≡ order.root → m ≡ order.root → (before below after : Order)
     → before ≡ left_of (links_at orders.links.items n) → below ≡ order_at orders (Some m) → after ≡ right_of (links_at orders.links.items n) →
     Parts nodes orders order depth before below after
 parts nodes tree orders ordered small order depth is some deep n m n_is m_is before below after before_is below_is after_is =
     let links = orders.links.items in
     let at_top = opened is some n_is before_is after_is in
-    let at = deep_parts nodes depth (nodes_of links before) order.root (nodes_of links after) (subst (StandAt nodes depth) at_top.listed deep) in
+    let at = deep_parts nodes depth (nodes_of links before) order.root (nodes_of links after) (subst (AreAtDepth nodes depth) at_top.listed deep) in
     let node = at.1.node in
     let few : depth ≤ 8 = omega (arith, few_names nodes order.root, at.1.names) in
     let below_here : below ≡ order_at orders (Some order.root) = below_is ∙ ap (λ k. order_at orders (Some k)) m_is in
@@ -172,7 +172,7 @@ parts nodes tree orders ordered small order depth is some deep n m n_is m_is bef
       is_below = is_below;
       is_after = at_top.is_b;
       deep_before = at.0;
-      deep_below = subst (StandAt nodes (depth + 1)) (sym list) (directory_deep nodes tree orders ordered (Some order.root) depth at.1.names);
+      deep_below = subst (AreAtDepth nodes (depth + 1)) (sym list) (directory_deep nodes tree orders ordered (Some order.root) depth at.1.names);
       deep_after = at.2;
       few = few;
       low_before = lower_left before.height after.height order.height at_top.high;
@@ -211,7 +211,7 @@ filled empty h full none = elim (cases_eq h 0) [
 
 pub read_parts : (arena : Blocks) → IsTree (nodes_in arena) → (orders : Orders) → IsInOrders (nodes_in arena) orders None → length arena ≤ 65536 →
     (order : Order) (depth : ℕ) → IsOrder orders.links.items order → 0 < order.height
-    → StandAt (nodes_in arena) depth (nodes_of orders.links.items order) → (n m : ℕ) → n ≡ order.root → m ≡ order.root → (around : Links) (below : Order)
+    → AreAtDepth (nodes_in arena) depth (nodes_of orders.links.items order) → (n m : ℕ) → n ≡ order.root → m ≡ order.root → (around : Links) (below : Order)
     → around ≡ get_or orders.links.items n around → below ≡ get_or orders.directories.items m below →
     Parts (nodes_in arena) orders order depth (left_of around) below (right_of around)
 read_parts arena tree orders ordered small order depth is some deep n m n_is m_is around below around_is below_is =
@@ -228,7 +228,7 @@ read_parts arena tree orders ordered small order depth is some deep n m n_is m_i
 -- the same where the links alone were read
 pub read_around : (arena : Blocks) → IsTree (nodes_in arena) → (orders : Orders) → IsInOrders (nodes_in arena) orders None → length arena ≤ 65536 →
     (order : Order) (depth : ℕ) → IsOrder orders.links.items order → 0 < order.height
-    → StandAt (nodes_in arena) depth (nodes_of orders.links.items order) → (n : ℕ) → n ≡ order.root → (around : Links)
+    → AreAtDepth (nodes_in arena) depth (nodes_of orders.links.items order) → (n : ℕ) → n ≡ order.root → (around : Links)
     → around ≡ get_or orders.links.items n around →
     Parts (nodes_in arena) orders order depth (left_of around) (order_at orders (Some order.root)) (right_of around)
 read_around arena tree orders ordered small order depth is some deep n n_is around around_is =
@@ -243,10 +243,10 @@ read_around arena tree orders ordered small order depth is some deep n n_is arou
 pub record Below (nodes : Blocks) (orders : Orders) (depth b : ℕ) (below : Order) : Type 0 where
   pub listed : nodes_of orders.links.items below ≡ in_order orders (Some b)
   pub is_below : IsOrder orders.links.items below
-  pub deep_below : StandAt nodes (depth + 1) (nodes_of orders.links.items below)
+  pub deep_below : AreAtDepth nodes (depth + 1) (nodes_of orders.links.items below)
   pub few : depth ≤ 8
 
-pub read_below : (nodes : Blocks) → IsTree nodes → (orders : Orders) → IsInOrders nodes orders None → (depth b : ℕ) → StandsDeep nodes depth b →
+pub read_below : (nodes : Blocks) → IsTree nodes → (orders : Orders) → IsInOrders nodes orders None → (depth b : ℕ) → IsAtDepth nodes depth b →
     (m : ℕ) → m ≡ b → (below : Order) → below ≡ get_or orders.directories.items m below → Below nodes orders depth b below
 read_below nodes tree orders ordered depth b deep m m_is below below_is =
     let inside : m < length orders.directories.items = omega (arith, m_is, live_within nodes b deep.node, ordered.directories) in
@@ -256,13 +256,13 @@ read_below nodes tree orders ordered depth b deep m m_is below below_is =
     record {
       listed = list;
       is_below = subst (λ (o : Order). IsOrder orders.links.items o) (sym here) (ordered.order (Some b));
-      deep_below = subst (StandAt nodes (depth + 1)) (sym list) (directory_deep nodes tree orders ordered (Some b) depth deep.names);
+      deep_below = subst (AreAtDepth nodes (depth + 1)) (sym list) (directory_deep nodes tree orders ordered (Some b) depth deep.names);
       few = omega (arith, few_names nodes b, deep.names);
     }
 
 pub top_inside : (arena : Blocks) → IsTree (nodes_in arena) → (orders : Orders) → IsInOrders (nodes_in arena) orders None → length arena ≤ 65536 →
     (order : Order) (depth : ℕ) → IsOrder orders.links.items order → 0 < order.height
-    → StandAt (nodes_in arena) depth (nodes_of orders.links.items order) → (order.root < length orders.links.items)
+    → AreAtDepth (nodes_in arena) depth (nodes_of orders.links.items order) → (order.root < length orders.links.items)
     × (order.root < length orders.directories.items)
 top_inside arena tree orders ordered small order depth is some deep =
     let links = orders.links.items in

@@ -1,14 +1,15 @@
 -- The store that an arena is, with the lists that are staged.
---     no_contents                    no octets
---     contents_told, file_of, file_in    the octets of a file: by its row, its block and its entry;  none for a
---                                        directory
---     holdings nodes staged          the contents of all slots, and then those of all blocks
---     IsStored arena ways held       they are there, no two share a block, and the ways of their blocks lead back
---     node_told, node_of             what is at a node
---     standing_from arena nodes b    the nodes from b on, each with its path
---     Shows arena nodes F            what is at a path in the map is what is at the node of this path
---     filestore_of, store_of         the filestore, and the store
---     IsKeptStore arena ways heads staged  what is true of every such store
+--     no_contents                           no octets
+--     contents_of_fields, file_of, file_in  the octets of a file: by its fields, its block and its entry;  none for a
+--                                           directory
+--     holdings nodes staged                 the contents of all slots, and then those of all blocks
+--     IsStored arena ways held              they are there, no two share a block, and the ways of their blocks lead
+--                                           back
+--     node_with, node_of                    what is at a node
+--     existing_from arena nodes b           the nodes from b on, each with its path
+--     Shows arena nodes F                   what is at a path in the map is what is at the node of this path
+--     filestore_of, store_of                the filestore, and the store
+--     IsKeptStore arena ways heads staged   what is true of every such store
 use Rattle.std.specs.Prelude.{◌≡◌, ◌≢◌, ℕ, suc, ◌+◌, ◌<◌, ◌≤◌, true, List, [], ◌∷◌, ◌++◌, Option, Some, None, length, map, slice_index_or}
 use Rattle.std.specs.FinMap as finite
 use Rattle.cfdp_paths.specs.Paths.{Path, path_cmp}
@@ -19,7 +20,7 @@ use Rattle.cfdp_actions.specs.Filestore.{Node, Directory, File, Filestore, block
 use Rattle.cfdp_actions.specs.Store.{Store}
 use Rattle.cfdp_ways.specs.declared.way.Way.{Way}
 use Rattle.cfdp_tree.specs.declared.contents.Contents.{Contents}
-use Rattle.cfdp_tree.specs.code.NodeFields.{NodeFields, node_fields_of, kind_told}
+use Rattle.cfdp_tree.specs.code.NodeFields.{NodeFields, node_fields_of, kind_of_octet}
 use Rattle.cfdp_tree.specs.code.Runs.{Apart}
 use Rattle.cfdp_tree.specs.code.Ways.{HasWays}
 use Rattle.cfdp_tree.specs.code.Contents.{IsFilled, contents_in}
@@ -30,16 +31,16 @@ use Rattle.cfdp_tree.specs.code.Index.{Heads, IsIndex}
 abbrev pub no_contents : Contents
 no_contents = record { run = record { first = 0; last = 0; count = 0 }; size = 0; sum = 0 }
 
-abbrev pub contents_told : Kind → NodeFields → Contents
-contents_told kind.Directory row = no_contents
-contents_told kind.File row = record {
-  run = record { first = row.first; last = row.last; count = blocks_of row.size };
-  size = row.size;
-  sum = row.sum;
+abbrev pub contents_of_fields : Kind → NodeFields → Contents
+contents_of_fields kind.Directory fields = no_contents
+contents_of_fields kind.File fields = record {
+  run = record { first = fields.first; last = fields.last; count = blocks_of fields.size };
+  size = fields.size;
+  sum = fields.sum;
 }
 
 abbrev pub file_of : List ℕ → Contents
-file_of block = contents_told (kind_told (node_fields_of block).kind) (node_fields_of block)
+file_of block = contents_of_fields (kind_of_octet (node_fields_of block).kind) (node_fields_of block)
 
 abbrev pub file_in : Option (List ℕ) → Contents
 file_in None = no_contents
@@ -53,18 +54,18 @@ pub record IsStored (arena : Blocks) (ways : List Way) (held : List Contents) : 
   pub apart : (i j : ℕ) → i ≢ j → Apart (slice_index_or held i no_contents).run (slice_index_or held j no_contents).run
   pub led : (i : ℕ) → HasWays arena ways (slice_index_or held i no_contents).run
 
-abbrev pub node_told : Blocks → Kind → Contents → Node
-node_told arena kind.Directory contents = Directory
-node_told arena kind.File contents = File (contents_in arena contents)
+abbrev pub node_with : Blocks → Kind → Contents → Node
+node_with arena kind.Directory contents = Directory
+node_with arena kind.File contents = File (contents_in arena contents)
 
 abbrev pub node_of : Blocks → List ℕ → Node
-node_of arena block = node_told arena (kind_told (node_fields_of block).kind) (file_of block)
+node_of arena block = node_with arena (kind_of_octet (node_fields_of block).kind) (file_of block)
 
-abbrev pub standing_from : Blocks → Blocks → ℕ → Blocks → List (Path × Node)
-standing_from arena nodes b [] = []
-standing_from arena nodes b (None ∷ rest) = standing_from arena nodes (suc b) rest
-standing_from arena nodes b (Some block ∷ rest) = (path_of_node nodes b, node_of arena block)
-    ∷ standing_from arena nodes
+abbrev pub existing_from : Blocks → Blocks → ℕ → Blocks → List (Path × Node)
+existing_from arena nodes b [] = []
+existing_from arena nodes b (None ∷ rest) = existing_from arena nodes (suc b) rest
+existing_from arena nodes b (Some block ∷ rest) = (path_of_node nodes b, node_of arena block)
+    ∷ existing_from arena nodes
     (suc b) rest
 
 pub record Shows (arena nodes : Blocks) (map : finite.FinMap path_cmp Node) : Type 0 where
@@ -74,7 +75,7 @@ pub record Shows (arena nodes : Blocks) (map : finite.FinMap path_cmp Node) : Ty
 
 abbrev pub filestore_of : Blocks → List Contents → Filestore
 filestore_of arena staged = record {
-  nodes = finite.from_entries {R = path_cmp} (standing_from arena (nodes_in arena) 0 (nodes_in arena));
+  nodes = finite.from_entries {R = path_cmp} (existing_from arena (nodes_in arena) 0 (nodes_in arena));
   staged = map (contents_in arena) staged;
 }
 

@@ -1,6 +1,6 @@
 -- What only the proofs of the code need of `Next`.
 --     name_cmp                  the order of names by octets
---     IsBehind after name       the name is greater, where another one is given
+--     IsFollowing after name    the name is greater, where another one is given
 --     IsLeast nodes after list b    the least name after it is that of this node of the list
 --     IsListOf nodes directory list  the nodes of the list are just the entries of the directory or the root
 --     ComesAfter nodes directory p b  a node at or below the node or the root, after p
@@ -18,14 +18,15 @@ use Rattle.cfdp_tree.specs.code.Entries.{IsMember}
 abbrev pub name_cmp : Name → Name → Ordering
 name_cmp = slice_cmp nat_cmp
 
-abbrev pub IsBehind : Option Name → Name → Type 0
-IsBehind None name = Unit {0}
-IsBehind (Some after) name = name_cmp after name ≡ Less
+abbrev pub IsFollowing : Option Name → Name → Type 0
+IsFollowing None name = Unit {0}
+IsFollowing (Some after) name = name_cmp after name ≡ Less
 
 pub record IsLeast (nodes : Blocks) (after : Option Name) (list : List ℕ) (b : ℕ) : Type 0 where
   pub listed : Contains list b
-  pub behind : IsBehind after (name_at nodes b)
-  pub least : All (λ c. IsBehind after (name_at nodes c) → name_cmp (name_at nodes b) (name_at nodes c) ≢ Greater) list
+  pub following : IsFollowing after (name_at nodes b)
+  pub least : All (λ c. IsFollowing after (name_at nodes c) → name_cmp (name_at nodes b) (name_at nodes c) ≢ Greater)
+      list
 
 pub record IsListOf (nodes : Blocks) (directory : Option ℕ) (list : List ℕ) : Type 0 where
   pub own : All (IsMember nodes None directory) list
@@ -34,7 +35,7 @@ pub record IsListOf (nodes : Blocks) (directory : Option ℕ) (list : List ℕ) 
 pub record ComesAfter (nodes : Blocks) (directory p : Path) (b : ℕ) : Type 0 where
   pub node : IsNode nodes b
   pub below : is_at_or_below (path_of_node nodes b) directory ≡ true
-  pub behind : path_cmp p (path_of_node nodes b) ≡ Less
+  pub following : path_cmp p (path_of_node nodes b) ≡ Less
 
 pub record IsFirst (nodes : Blocks) (directory p : Path) (b : ℕ) : Type 0 where
   pub follows : ComesAfter nodes directory p b

@@ -9,7 +9,7 @@
 --     IsEntry nodes directory name b    the node is in this directory under this name
 --     IsNamed block                  the block is whole, and its name is one
 --     IsTree nodes                   the nodes make a tree
---     unlinked row, Relinked old new     what it says but for its link of the index;  each node says what it said, but
+--     unlinked fields, Relinked old new  what it says but for its link of the index;  each node says what it said, but
 --                                        for that
 --     SameEntries old new            the same nodes are where they were, under their names
 use Rattle.std.specs.Prelude.{◌≡◌, ℕ, suc, zero, ◌≤◌, ◌==◌, if◌then◌else◌, List, [], ◌∷◌, ◌++◌, Option, Some, None, IsSome, is_some, length}
@@ -17,7 +17,7 @@ use Rattle.std.specs.Option.{option_map_or}
 use Rattle.cfdp_arena.specs.Arena.{Blocks, octets_at, octets_of}
 use Rattle.cfdp_paths.specs.Paths.{Name, Path, IsName}
 use Rattle.cfdp_actions.specs.declared.kind.Kind.TheVariants as kind
-use Rattle.cfdp_tree.specs.code.NodeFields.{NodeFields, node_fields_of, node_name, kind_told}
+use Rattle.cfdp_tree.specs.code.NodeFields.{NodeFields, node_fields_of, node_name, kind_of_octet}
 
 abbrev pub IsNode : Blocks → ℕ → Type 0
 IsNode nodes b = IsSome (octets_at nodes b)
@@ -30,7 +30,7 @@ name_at nodes b = node_name (octets_of nodes b)
 
 pub record IsDirectory (nodes : Blocks) (b : ℕ) : Type 0 where
   pub node : IsNode nodes b
-  pub directory : kind_told (node_fields_at nodes b).kind ≡ kind.Directory
+  pub directory : kind_of_octet (node_fields_at nodes b).kind ≡ kind.Directory
 
 -- a node that names itself is in the root
 abbrev pub home_in : ℕ → List ℕ → Option ℕ
@@ -76,14 +76,14 @@ pub record SameEntries (old new : Blocks) : Type 0 where
   pub nodes : (b : ℕ) → is_some (octets_at new b) ≡ is_some (octets_at old b)
   pub homes : (b : ℕ) → home new b ≡ home old b
   pub names : (b : ℕ) → name_at new b ≡ name_at old b
-  pub kinds : (b : ℕ) → kind_told (node_fields_at new b).kind ≡ kind_told (node_fields_at old b).kind
+  pub kinds : (b : ℕ) → kind_of_octet (node_fields_at new b).kind ≡ kind_of_octet (node_fields_at old b).kind
   pub named : (b : ℕ) → IsNode new b → IsNamed (octets_of new b)
 
 abbrev pub unlinked : NodeFields → NodeFields
-unlinked row = record row { same_head = 0 }
+unlinked fields = record fields { same_head = 0 }
 
 pub record Relinked (old new : Blocks) : Type 0 where
   pub nodes : (b : ℕ) → is_some (octets_at new b) ≡ is_some (octets_at old b)
-  pub rows : (b : ℕ) → unlinked (node_fields_at new b) ≡ unlinked (node_fields_at old b)
+  pub all_fields : (b : ℕ) → unlinked (node_fields_at new b) ≡ unlinked (node_fields_at old b)
   pub names : (b : ℕ) → name_at new b ≡ name_at old b
   pub named : (b : ℕ) → IsNode new b → IsNamed (octets_of new b)

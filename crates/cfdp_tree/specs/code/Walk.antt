@@ -5,8 +5,8 @@
 --     walks_at orders depth list    all of it, where each node of the list has a path of `depth` names
 --     walk_from orders depth directory  all at and below a node or the root, whose path has `depth` names
 --     most_names_in nodes list  the number of names of the longest path of some nodes
---     StandsDeep nodes depth b a node whose path has `depth` names
---     StandAt nodes depth list each is such a node
+--     IsAtDepth nodes depth b a node whose path has `depth` names
+--     AreAtDepth nodes depth list each is such a node
 use Rattle.std.specs.Prelude.{◌≡◌, ℕ, suc, zero, ◌-◌, max, List, [], ◌∷◌, Option, Some, None, length, All}
 use Rattle.std.specs.List.{flat_map}
 use Rattle.cfdp_arena.specs.Arena.{Blocks}
@@ -33,9 +33,9 @@ abbrev pub most_names_in : Blocks → List ℕ → ℕ
 most_names_in nodes [] = 0
 most_names_in nodes (b ∷ rest) = max (length (path_of_node nodes b)) (most_names_in nodes rest)
 
-pub record StandsDeep (nodes : Blocks) (depth b : ℕ) : Type 0 where
+pub record IsAtDepth (nodes : Blocks) (depth b : ℕ) : Type 0 where
   pub node : IsNode nodes b
   pub names : length (path_of_node nodes b) ≡ depth
 
-abbrev pub StandAt : Blocks → ℕ → List ℕ → Type 0
-StandAt nodes depth list = All (StandsDeep nodes depth) list
+abbrev pub AreAtDepth : Blocks → ℕ → List ℕ → Type 0
+AreAtDepth nodes depth list = All (IsAtDepth nodes depth) list

@@ -54,11 +54,11 @@ Judges items v (Ok costs) = v ≡ Grant items costs.blocks costs.steps
 Judges items v (Err fault) = RefusesSo fault v
 
 -- where the view describes a list that needs and takes so much
-abbrev pub SettlesVerdict : List Item → Verdict → Result Costs Refusal → Type 0
-SettlesVerdict items v (Ok costs) = v ≡ Grant items costs.blocks costs.steps
-SettlesVerdict items v (Err refusal) = v ≡ Refuse refusal
+abbrev pub IsVerdictOfCosts : List Item → Verdict → Result Costs Refusal → Type 0
+IsVerdictOfCosts items v (Ok costs) = v ≡ Grant items costs.blocks costs.steps
+IsVerdictOfCosts items v (Err refusal) = v ≡ Refuse refusal
 
 abbrev pub Affords : Sketch → ℕ → Result Costs Refusal → Type 0
 Affords w spare result =
     (items : List Item) (needed taken : ℕ) → w.need ≡ min needed most_need → w.steps ≡ capped taken →
-    SettlesVerdict items (judged_items spare items None needed taken) result
+    IsVerdictOfCosts items (judged_items spare items None needed taken) result

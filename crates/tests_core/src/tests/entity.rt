@@ -26,7 +26,7 @@ pub enum Given {
 
 /// What is replied.
 #[derive(Clone, Copy)]
-pub enum Told {
+pub enum Replied {
     Admitted(u32, u32),
     Conflict(u8),
     Stored,
@@ -45,17 +45,17 @@ pub enum Told {
 }
 
 /// A file: its path, how many octets it has, and their checksum.
-pub type Standing = (&'static [u8], u64, u32);
+pub type Existing = (&'static [u8], u64, u32);
 
 /// One after another.
 #[derive(Clone, Copy)]
 pub enum Row {
     /// An event, and the reply.
-    On(Given, Told),
+    On(Given, Replied),
     /// The blocks that are free, and those of them that nobody was granted.
     Store(u32, u32),
     /// All that exists, in path order.
-    Standing(&'static [Standing]),
+    Existing(&'static [Existing]),
     /// What is missing of a transaction's file.
     Gaps(u8, &'static [(u64, u64)]),
     /// The blocks and the steps that a transaction spent.
@@ -84,7 +84,7 @@ impl Row {
         match self {
             Row::On(..) => "the reply",
             Row::Store(..) => "the free blocks",
-            Row::Standing(_) => "what exists",
+            Row::Existing(_) => "what exists",
             Row::Gaps(..) => "the gaps",
             Row::Spent(..) => "what was spent",
             Row::Phase(..) => "the phase",
@@ -137,23 +137,23 @@ fn status_of(rt: &impl Abort, octet: u8) -> Status {
     status.unwrap_or(Status::NotAllowed(Action::CreateFile))
 }
 
-impl Told {
+impl Replied {
     /// The reply. Where it hands out an outcome that is compared by itself: out of memory, which no row says.
     fn reply(self, rt: &impl Abort) -> Reply {
         match self {
-            Told::Admitted(blocks, steps) => Reply::Admitted(blocks, steps),
-            Told::Conflict(number) => Reply::Refused(Refusal::Conflict(id(number))),
-            Told::Stored => Reply::Stored,
-            Told::Complete => Reply::Complete,
-            Told::Waiting => Reply::Waiting,
-            Told::Faulted(condition) => Reply::Faulted(condition),
-            Told::Performed(octet) => Reply::Performed(status_of(rt, octet)),
-            Told::Installed => Reply::Installed,
-            Told::Done => Reply::Done,
-            Told::Cancelled => Reply::Cancelled,
-            Told::Idle => Reply::Idle,
-            Told::JournalFull => Reply::JournalFull,
-            Told::Finished(_) => Reply::Memory,
+            Replied::Admitted(blocks, steps) => Reply::Admitted(blocks, steps),
+            Replied::Conflict(number) => Reply::Refused(Refusal::Conflict(id(number))),
+            Replied::Stored => Reply::Stored,
+            Replied::Complete => Reply::Complete,
+            Replied::Waiting => Reply::Waiting,
+            Replied::Faulted(condition) => Reply::Faulted(condition),
+            Replied::Performed(octet) => Reply::Performed(status_of(rt, octet)),
+            Replied::Installed => Reply::Installed,
+            Replied::Done => Reply::Done,
+            Replied::Cancelled => Reply::Cancelled,
+            Replied::Idle => Reply::Idle,
+            Replied::JournalFull => Reply::JournalFull,
+            Replied::Finished(_) => Reply::Memory,
         }
     }
 }
@@ -170,11 +170,20 @@ fn is_sent_as(alloc: Global, outcome: &Outcome, text: &str) -> Result<bool, Memo
 }
 
 /// Whether the reply is the one that is reported.
-pub fn is_told(rt: &impl Abort, alloc: Global, reply: &Reply, told: Told) -> Result<bool, Memory> {
-    match (told, reply) {
-        (Told::Finished(text), Reply::Taken(shared)) => is_sent_as(alloc, shared.outcome(), text),
-        (Told::Finished(_), _) => Ok(false),
-        _ => Ok(reply.same(&told.reply(rt))),
+pub fn is_replied(
+    rt: &impl Abort,
+    alloc: Global,
+    reply: &Reply,
+    replied: Replied,
+) -> Result<bool, Memory> {
+    match (replied, reply) {
+        (Replied::Finished(text), Reply::Taken(shared)) => is_sent_as(
+            alloc,
+            shared.outcome(),
+            text,
+        ),
+        (Replied::Finished(_), _) => Ok(false),
+        _ => Ok(reply.same(&replied.reply(rt))),
     }
 }
 
@@ -220,7 +229,7 @@ fn books<S: Filestore>(core: &Core<S>, id: TransactionId) -> Books {
 }
 
 /// Whether an event may be answered with out of memory: over a store that takes none only Metadata and Take may.
-fn may_want_memory<S: Filestore>(core: &Core<S>, event: &Event) -> bool {
+fn may_lack_memory<S: Filestore>(core: &Core<S>, event: &Event) -> bool {
     !core.store().takes_no_memory() || matches!(event, Event::Metadata(..) | Event::Take(_))
 }
 
@@ -243,7 +252,7 @@ fn hand_in<S: Filestore>(
             core.store().listing(alloc)?,
         );
         assert!(rt;
-            before == after && may_want_memory(core, event),
+            before == after && may_lack_memory(core, event),
             "an event that was refused memory"
         );
         return Ok(apply(rt, core, event, twice));
@@ -256,19 +265,19 @@ fn replies<S: Filestore>(
     rt: &impl Abort,
     alloc: Global,
     core: &mut Core<S>,
-    (given, told): (Given, Told),
+    (given, replied): (Given, Replied),
     twice: bool,
 ) -> Result<bool, Memory> {
     let event = given.event(alloc)?;
     let reply = hand_in(rt, alloc, core, &event, twice)?;
-    is_told(rt, alloc, &reply, told)
+    is_replied(rt, alloc, &reply, replied)
 }
 
 /// Whether what exists is what is expected, in path order.
 fn is_listed<S: Filestore>(
     alloc: Global,
     core: &Core<S>,
-    expected: &[Standing],
+    expected: &[Existing],
 ) -> Result<bool, Memory> {
     let listing = core.store().listing(alloc)?;
     for (entry, (name, size, checksum)) in listing.iter().zip(expected) {
@@ -299,8 +308,8 @@ fn is_met<S: Filestore>(
     twice: bool,
 ) -> Result<bool, Memory> {
     match row {
-        Row::On(given, told) => replies(rt, alloc, core, (given, told), twice),
-        Row::Standing(expected) => is_listed(alloc, core, expected),
+        Row::On(given, replied) => replies(rt, alloc, core, (given, replied), twice),
+        Row::Existing(expected) => is_listed(alloc, core, expected),
         Row::Store(free, spare) => Ok(core.store().free() == free && core.spare() == spare),
         Row::Gaps(number, expected) => match core.gaps(id(number)) {
             None => Ok(expected.is_empty()),

@@ -110,7 +110,7 @@ fn is_written(
     let mut wanted = Vec::from_slice(alloc, pdu)?;
     wanted.extend_from_slice(&[BLANK; 3])?;
     let mut out = vec![in alloc; BLANK; pdu.len() + 3]?;
-    let told = match entity.take_finished(ID, &mut out) {
+    let replied = match entity.take_finished(ID, &mut out) {
         Ok(Some(taken)) => {
             taken
                 == TakenFinished {
@@ -120,7 +120,7 @@ fn is_written(
         }
         _ => false,
     };
-    Ok(told && out == wanted && entity.core().phase(ID) == None)
+    Ok(replied && out == wanted && entity.core().phase(ID) == None)
 }
 
 /// Whether there is nothing to take, and nothing changes.

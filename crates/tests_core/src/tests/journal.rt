@@ -1,7 +1,7 @@
 //! A journal of sixteen entries that some Metadata PDUs filled in part: worked transactions go on until it is full, and
 //! nothing goes in from then on. An event for which memory was refused is handed in once more.
 
-use super::entity::{Given, Told, id, is_told};
+use super::entity::{Given, Replied, id, is_replied};
 use cfdp_actions::{Entry, Filestore, Protected};
 use cfdp_engine::Journaled;
 use cfdp_paths::Memory;
@@ -13,61 +13,64 @@ use std::sync::Arc;
 
 /// Four transactions one after another: a file that is created, neither a file nor requests, a file in two pieces,
 /// denials.
-static FOUR: [(Given, Told); 20] = [
+static FOUR: [(Given, Replied); 20] = [
     (
         Given::Pdu("24000d0001050207400000000000000003000161"),
-        Told::Admitted(1, 2),
+        Replied::Admitted(1, 2),
     ),
     (
         Given::Pdu("24000a0001050204000000000000000000"),
-        Told::Complete,
+        Replied::Complete,
     ),
-    (Given::Step(5), Told::Performed(0x00)),
+    (Given::Step(5), Replied::Performed(0x00)),
     (
         Given::Take(5),
-        Told::Finished("2c0008000105020503010400016100"),
+        Replied::Finished("2c0008000105020503010400016100"),
     ),
     (
         Given::Pdu("240008000106020740000000000000"),
-        Told::Admitted(0, 0),
+        Replied::Admitted(0, 0),
     ),
-    (Given::Pdu("24000a0001060204000000000000000000"), Told::Done),
-    (Given::Step(6), Told::Idle),
-    (Given::Take(6), Told::Finished("2c0002000106020503")),
+    (
+        Given::Pdu("24000a0001060204000000000000000000"),
+        Replied::Done,
+    ),
+    (Given::Step(6), Replied::Idle),
+    (Given::Take(6), Replied::Finished("2c0002000106020503")),
     (
         Given::Pdu("24000a00010a0207400000000f01730166"),
-        Told::Admitted(2, 2),
+        Replied::Admitted(2, 2),
     ),
     (
         Given::Pdu("34000b00010a020000000808090a0b0c0d0e"),
-        Told::Stored,
+        Replied::Stored,
     ),
     (
         Given::Pdu("34000e00010a020000000000010203040506070809"),
-        Told::Stored,
+        Replied::Stored,
     ),
     (
         Given::Pdu("24000a00010a020400181c20150000000f"),
-        Told::Complete,
+        Replied::Complete,
     ),
-    (Given::Step(10), Told::Installed),
-    (Given::Take(10), Told::Finished("2c000200010a020502")),
+    (Given::Step(10), Replied::Installed),
+    (Given::Take(10), Replied::Finished("2c000200010a020502")),
     (
         Given::Pdu("24001400010e020740000000000000000370017a00058003792f7a"),
-        Told::Admitted(0, 2),
+        Replied::Admitted(0, 2),
     ),
     (
         Given::Pdu("24000a00010e0204000000000000000000"),
-        Told::Complete,
+        Replied::Complete,
     ),
-    (Given::Step(14), Told::Performed(0x70)),
-    (Given::Step(14), Told::Performed(0x80)),
+    (Given::Step(14), Replied::Performed(0x70)),
+    (Given::Step(14), Replied::Performed(0x80)),
     (
         Given::Take(14),
-        Told::Finished("2c001000010e020503010470017a0001068003792f7a00"),
+        Replied::Finished("2c001000010e020503010470017a0001068003792f7a00"),
     ),
     // After all of them the journal is full.
-    (Given::Cancel(14), Told::JournalFull),
+    (Given::Cancel(14), Replied::JournalFull),
 ];
 
 /// Sixteen Metadata PDUs, of neither a file nor requests, of transactions of entity 3.
@@ -142,13 +145,13 @@ fn replies(
     alloc: Global,
     journaled: &mut JournaledTree,
     given: Given,
-    told: Told,
+    replied: Replied,
 ) -> Result<bool, Memory> {
     let reply = match accept(rt, alloc, journaled, given)? {
         Reply::Memory => accept(rt, alloc, journaled, given)?,
         reply => reply,
     };
-    is_told(rt, alloc, &reply, told)
+    is_replied(rt, alloc, &reply, replied)
 }
 
 /// Fills in this many entries.
@@ -159,14 +162,14 @@ fn fill(
     count: usize,
 ) -> Result<(), Memory> {
     for text in FILLERS.iter().take(count) {
-        let told = replies(
+        let replied = replies(
             rt,
             alloc,
             journaled,
             Given::Pdu(*text),
-            Told::Admitted(0, 0),
+            Replied::Admitted(0, 0),
         )?;
-        assert!(rt; told, "{text}");
+        assert!(rt; replied, "{text}");
     }
     Ok(())
 }
@@ -180,13 +183,13 @@ fn go_on(
     count: usize,
 ) -> Result<(), Memory> {
     let mut before = count;
-    for (given, told) in &FOUR {
-        let told = if before < 16 {
-            *told
+    for (given, replied) in &FOUR {
+        let replied = if before < 16 {
+            *replied
         } else {
-            Told::JournalFull
+            Replied::JournalFull
         };
-        let well = replies(rt, alloc, journaled, *given, told)?;
+        let well = replies(rt, alloc, journaled, *given, replied)?;
         assert!(rt; well, "event {before}, of which {count} are fillers");
         before = before.saturating_add(1);
     }

@@ -2,7 +2,7 @@
 
 use super::scene::{Before, Scene, path_of};
 use super::views::{Item, Row, requests, run};
-use cfdp_actions::{Entry, Filestore, Kind, ListStore, Protected, Standing};
+use cfdp_actions::{Entry, ExistingNode, Filestore, Kind, ListStore, Protected};
 use cfdp_leases::footprint;
 use cfdp_paths::{Memory, Path};
 use cfdp_states::View;
@@ -80,9 +80,9 @@ impl<S: Filestore> Filestore for OneTree<S> {
         Err(AllocError)
     }
 
-    fn standing(&self, alloc: Global, path: &Path) -> Result<Vec<Standing>, Memory> {
+    fn existing(&self, alloc: Global, path: &Path) -> Result<Vec<ExistingNode>, Memory> {
         if path.is_at_or_below(&self.root) {
-            self.inner.standing(alloc, path)
+            self.inner.existing(alloc, path)
         } else {
             Err(AllocError)
         }

@@ -66,7 +66,7 @@ fn apply(
 ) -> Result<Status, Memory> {
     let before = answers(view, paths);
     match view.apply(request) {
-        Ok(told) => Ok(told),
+        Ok(replied) => Ok(replied),
         Err(_) => {
             assert!(rt;
                 answers(view, paths) == before,
@@ -90,9 +90,9 @@ fn try_items(rt: &impl Abort, view: &mut View<'_>, paths: &[Path; 3], requests: 
     assert!(rt; answers(view, paths) == AT_FIRST, "before the install");
     assert!(rt; install(rt, view, paths) == Ok(true), "the install");
     for (index, (request, (_, first, _, status))) in requests.iter().zip(&ITEMS).enumerate() {
-        let told = apply(rt, view, paths, request);
+        let replied = apply(rt, view, paths, request);
         assert!(rt;
-            told.map(Status::octet) == Ok(*status),
+            replied.map(Status::octet) == Ok(*status),
             "request {index}, on {}",
             first.escape_ascii()
         );

@@ -29,8 +29,8 @@ static ROWS: [Row; 12] = [
 /// Whether a configuration has the fault of its row.
 fn has_fault(row: &Row) -> bool {
     let (_, blocks, cap, checks, journal, fault) = row;
-    let told = Config::new(2, *blocks, *cap, *checks, *journal, Protected::new());
-    told.err() == *fault
+    let replied = Config::new(2, *blocks, *cap, *checks, *journal, Protected::new());
+    replied.err() == *fault
 }
 
 #[test]

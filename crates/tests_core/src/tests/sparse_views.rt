@@ -129,7 +129,7 @@ enum Went {
     /// Up to a request that is not successful.
     Refused,
     /// Up to a request of which the view can't say.
-    Untold,
+    Unseen,
 }
 
 /// How many lists went so.
@@ -139,7 +139,7 @@ struct Counts {
     moved: u32,
     inside: u32,
     refused: u32,
-    untold: u32,
+    unseen: u32,
 }
 
 impl Counts {
@@ -149,7 +149,7 @@ impl Counts {
             Went::Moved => &mut self.moved,
             Went::Inside => &mut self.inside,
             Went::Refused => &mut self.refused,
-            Went::Untold => &mut self.untold,
+            Went::Unseen => &mut self.unseen,
         };
         *count = count.saturating_add(1);
     }
@@ -221,11 +221,11 @@ fn apply(
     list: &List,
 ) -> Result<Went, Memory> {
     for (number, (request, status)) in list.requests.iter().zip(&list.statuses).enumerate() {
-        let told = open.apply(request)?;
-        assert!(rt; told == *status, "request {number}");
+        let replied = open.apply(request)?;
+        assert!(rt; replied == *status, "request {number}");
         match sparse.apply(request)? {
-            None => return Ok(Went::Untold),
-            Some(told) => assert!(rt; told == *status, "request {number}, sparse"),
+            None => return Ok(Went::Unseen),
+            Some(replied) => assert!(rt; replied == *status, "request {number}, sparse"),
         }
         if !status.is_successful() {
             return Ok(Went::Refused);
@@ -273,12 +273,12 @@ fn compare(rt: &impl Abort, alloc: Global, scene: &Scene, list: &List) -> Result
     )?;
     let Some(mut sparse) = made else {
         assert!(rt; false, "no view");
-        return Ok(Went::Untold);
+        return Ok(Went::Unseen);
     };
     let went = apply(rt, &mut open, &mut sparse, list)?;
     let sparse = sparse.into_view();
     assert!(rt;
-        went == Went::Untold || is_same(&open, &sparse),
+        went == Went::Unseen || is_same(&open, &sparse),
         "the need and the steps of both"
     );
     let is_whole = went == Went::Whole || went == Went::Moved;
@@ -308,7 +308,7 @@ fn random_lists_go_alike_on_both_views(rt: HostRuntime) -> Result<(), Memory> {
         moved: 0,
         inside: 0,
         refused: 0,
-        untold: 0,
+        unseen: 0,
     };
     for seed in 0..600u64 {
         counts.add(compare_one(&rt, rt.alloc(), seed)?);
@@ -325,6 +325,6 @@ fn random_lists_go_alike_on_both_views(rt: HostRuntime) -> Result<(), Memory> {
         counts.refused,
         counts.inside
     );
-    assert!(rt; counts.untold == 0, "{} untold", counts.untold);
+    assert!(rt; counts.unseen == 0, "{} not seen", counts.unseen);
     Ok(())
 }

@@ -4,63 +4,66 @@
 //! Over a store that takes no memory each File Data, EOF, step, cancel and check has its reply, whichever allocation is
 //! refused (`rt try --test --fail-alloc 1..` refuses each in turn); only Metadata and Take are handed in again.
 
-use super::entity::{Case, Given, Row, Told, check_all};
+use super::entity::{Case, Given, Replied, Row, check_all};
 use cfdp_paths::Memory;
 use cfdp_transactions::Phase;
 
 const A_FILE_IN_TWO_PIECES: &[Row] = &[
     Row::On(
         Given::Pdu("24000a00010a0207400000000f01730166"),
-        Told::Admitted(2, 2),
+        Replied::Admitted(2, 2),
     ),
     Row::Phase(10, Some(Phase::Receiving)),
     Row::On(
         Given::Pdu("34000b00010a020000000808090a0b0c0d0e"),
-        Told::Stored,
+        Replied::Stored,
     ),
     Row::Gaps(10, &[(0, 8)]),
     Row::On(
         Given::Pdu("34000e00010a020000000000010203040506070809"),
-        Told::Stored,
+        Replied::Stored,
     ),
     Row::On(
         Given::Pdu("24000a00010a020400181c20150000000f"),
-        Told::Complete,
+        Replied::Complete,
     ),
     Row::Phase(10, Some(Phase::Executing(0))),
     Row::Gaps(10, &[]),
     Row::Runnable(Some(10)),
-    Row::On(Given::Step(10), Told::Installed),
+    Row::On(Given::Step(10), Replied::Installed),
     Row::Phase(10, Some(Phase::Done)),
     Row::Spent(10, 2, 2),
     Row::Runnable(None),
-    Row::On(Given::Take(10), Told::Finished("2c000200010a020502")),
+    Row::On(Given::Take(10), Replied::Finished("2c000200010a020502")),
     Row::Phase(10, None),
     Row::Store(62, 62),
-    Row::Standing(&[(b"f", 15, 0x181c2015)]),
+    Row::Existing(&[(b"f", 15, 0x181c2015)]),
 ];
 
 const CHECKS_UP_TO_THE_LIMIT: &[Row] = &[
     Row::On(
         Given::Pdu("24000a00010b0207400000000f01730166"),
-        Told::Admitted(2, 2),
+        Replied::Admitted(2, 2),
     ),
     Row::On(
         Given::Pdu("24000a00010b020400181c20150000000f"),
-        Told::Waiting,
+        Replied::Waiting,
     ),
     Row::Gaps(11, &[(0, 15)]),
     Row::Phase(11, Some(Phase::Awaiting(0))),
-    Row::On(Given::Check(11), Told::Waiting),
+    Row::On(Given::Check(11), Replied::Waiting),
     Row::Phase(11, Some(Phase::Awaiting(1))),
-    Row::On(Given::Check(11), Told::Faulted(10)),
-    Row::On(Given::Take(11), Told::Finished("2c000500010b0205a4060102")),
+    Row::On(Given::Check(11), Replied::Faulted(10)),
+    Row::On(
+        Given::Take(11),
+        Replied::Finished("2c000500010b0205a4060102"),
+    ),
 ];
 
 const A_FILE_APPENDED_TO_ITSELF: &[Row] = &[
     Row::On(
         Given::Pdu("240011000132020740000000780173016100053001610161"),
-        Told::Admitted(3, 5),
+        Replied::Admitted(3, 5),
     ),
     Row::On(
         Given::Pdu(
@@ -69,37 +72,37 @@ const A_FILE_APPENDED_TO_ITSELF: &[Row] = &[
             0101010101010101010101010101010101010101010101010101010101010101010101010101010101010101010101010101\
             01010101010101010101010101010101010101010101010101010101010101",
         ),
-        Told::Stored,
+        Replied::Stored,
     ),
     Row::On(
         Given::Pdu("24000a0001320204001e1e1e1e00000078"),
-        Told::Complete,
+        Replied::Complete,
     ),
-    Row::On(Given::Step(50), Told::Installed),
-    Row::On(Given::Step(50), Told::Performed(0x30)),
+    Row::On(Given::Step(50), Replied::Installed),
+    Row::On(Given::Step(50), Replied::Performed(0x30)),
     Row::Spent(50, 3, 5),
     Row::Store(61, 61),
-    Row::Standing(&[(b"a", 240, 0x3c3c3c3c)]),
+    Row::Existing(&[(b"a", 240, 0x3c3c3c3c)]),
 ];
 
 const A_CANCELLED_LIST: &[Row] = &[
     Row::On(
         Given::Pdu("24001700010c020740000000000000000300016100030001620003000163"),
-        Told::Admitted(3, 6),
+        Replied::Admitted(3, 6),
     ),
     Row::On(
         Given::Pdu("24000a00010c0204000000000000000000"),
-        Told::Complete,
+        Replied::Complete,
     ),
-    Row::On(Given::Step(12), Told::Performed(0x00)),
-    Row::On(Given::Cancel(12), Told::Cancelled),
+    Row::On(Given::Step(12), Replied::Performed(0x00)),
+    Row::On(Given::Cancel(12), Replied::Cancelled),
     Row::On(
         Given::Pdu("24000d00010d0207400000000000000003100161"),
-        Told::Admitted(0, 2),
+        Replied::Admitted(0, 2),
     ),
     Row::On(
         Given::Take(12),
-        Told::Finished("2c001700010c0205f301040001610001040f01620001040f016300060102"),
+        Replied::Finished("2c001700010c0205f301040001610001040f01620001040f016300060102"),
     ),
 ];
 
@@ -110,15 +113,15 @@ const AS_THEY_COME: &[Row] = &[
     Row::Over(None),
     Row::On(
         Given::Pdu("24000a00010a0207400000000f01730166"),
-        Told::Admitted(2, 2),
+        Replied::Admitted(2, 2),
     ),
     Row::On(
         Given::Pdu("24000a00010b0207400000000f01730167"),
-        Told::Admitted(2, 2),
+        Replied::Admitted(2, 2),
     ),
     Row::On(
         Given::Pdu("24000a00010c0207400000000f01730166"),
-        Told::Conflict(10),
+        Replied::Conflict(10),
     ),
     Row::Order(&[10, 11, 12]),
     Row::Over(Some(12)),
@@ -126,18 +129,21 @@ const AS_THEY_COME: &[Row] = &[
     Row::Reached(10, 0, 0),
     Row::On(
         Given::Pdu("34000b00010a020000000808090a0b0c0d0e"),
-        Told::Stored,
+        Replied::Stored,
     ),
     Row::Reached(10, 15, 15),
     Row::On(
         Given::Pdu("24000a00010b020400181c20150000000f"),
-        Told::Waiting,
+        Replied::Waiting,
     ),
     Row::Reached(11, 0, 15),
-    Row::On(Given::Cancel(11), Told::Cancelled),
+    Row::On(Given::Cancel(11), Replied::Cancelled),
     Row::Reached(11, 0, 0),
     Row::Over(Some(11)),
-    Row::On(Given::Take(11), Told::Finished("2c000500010b0205f4060102")),
+    Row::On(
+        Given::Take(11),
+        Replied::Finished("2c000500010b0205f4060102"),
+    ),
     Row::Order(&[10, 12]),
     Row::Over(Some(12)),
 ];

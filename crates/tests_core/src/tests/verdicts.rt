@@ -48,8 +48,8 @@ fn the_call_of_the_guide(rt: HostRuntime) -> Result<(), Memory> {
     let alloc = rt.alloc();
     let scene = Scene::new(&rt, alloc, 32, &GUIDE)?;
     for (destination, tlvs, said) in &CALLS {
-        let told = scene.judge(&rt, alloc, Some((*destination, 480)), tlvs)?;
-        assert!(&rt; told.as_str() == *said, "{said}");
+        let replied = scene.judge(&rt, alloc, Some((*destination, 480)), tlvs)?;
+        assert!(&rt; replied.as_str() == *said, "{said}");
     }
     Ok(())
 }
@@ -81,8 +81,8 @@ fn needs_that_no_count_tells(rt: HostRuntime) -> Result<(), Memory> {
             bound: *bound,
             requests: &[],
         };
-        let told = scene.tell(rt.alloc(), &Quota::new(*spare), &list)?;
-        assert!(&rt; told.as_str() == *said, "{bound} octets, {spare} blocks");
+        let replied = scene.tell(rt.alloc(), &Quota::new(*spare), &list)?;
+        assert!(&rt; replied.as_str() == *said, "{bound} octets, {spare} blocks");
     }
     Ok(())
 }
@@ -152,7 +152,7 @@ fn judge(rt: &impl Abort, alloc: Global, scene: &Scene, row: &Row) -> Result<Str
     let (file, tlvs, said) = *row;
     let before = seen(rt, alloc, scene)?;
     match scene.judge(rt, alloc, file, tlvs) {
-        Ok(told) => Ok(told),
+        Ok(replied) => Ok(replied),
         Err(_) => {
             assert!(rt; seen(rt, alloc, scene)? == before, "refused memory: {said}");
             scene.judge(rt, alloc, file, tlvs)
@@ -164,8 +164,8 @@ fn judge(rt: &impl Abort, alloc: Global, scene: &Scene, row: &Row) -> Result<Str
 fn a_list_is_judged_or_memory_is_refused(rt: HostRuntime) -> Result<(), Memory> {
     let scene = Scene::new(&rt, rt.alloc(), 64, &BEFORE)?;
     for row in &LISTS {
-        let told = judge(&rt, rt.alloc(), &scene, row)?;
-        assert!(&rt; told.as_str() == row.2, "{}", row.2);
+        let replied = judge(&rt, rt.alloc(), &scene, row)?;
+        assert!(&rt; replied.as_str() == row.2, "{}", row.2);
     }
     Ok(())
 }

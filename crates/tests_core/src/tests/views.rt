@@ -43,8 +43,8 @@ fn apply(
     items: &[Item],
 ) -> Result<(), Memory> {
     for (index, (request, (_, _, _, status))) in requests.iter().zip(items).enumerate() {
-        let told = view.apply(request)?;
-        assert!(rt; told.octet() == *status, "{name}: request {index}");
+        let replied = view.apply(request)?;
+        assert!(rt; replied.octet() == *status, "{name}: request {index}");
     }
     Ok(())
 }
@@ -238,8 +238,8 @@ fn bounds(alloc: Global, scene: &Scene, item: Item) -> Result<(Option<u64>, Opti
 fn a_view_sees_what_is_leased_alone(rt: HostRuntime) -> Result<(), Memory> {
     let scene = Scene::new(&rt, rt.alloc(), 64, &DIRECTORY)?;
     for (item, file, directory) in &BOUNDS {
-        let told = bounds(rt.alloc(), &scene, *item)?;
-        assert!(&rt; told == (*file, *directory), "{}", item.1.escape_ascii());
+        let replied = bounds(rt.alloc(), &scene, *item)?;
+        assert!(&rt; replied == (*file, *directory), "{}", item.1.escape_ascii());
     }
     Ok(())
 }

@@ -166,7 +166,7 @@ static REFUSED: [Refused; 5] = [
 
 impl Refused {
     /// Whether the fault is reported, and the buffer is as before.
-    fn is_told(&self) -> bool {
+    fn is_refused_so(&self) -> bool {
         let mut buffer = buffer_with(self.octets);
         sealed(&mut buffer, self.octets.len()) == Err(self.fault)
             && buffer == buffer_with(self.octets)
@@ -176,6 +176,6 @@ impl Refused {
 #[test]
 fn refusals(rt: HostRuntime) {
     for refused in &REFUSED {
-        assert!(rt; refused.is_told(), "{}", refused.name);
+        assert!(rt; refused.is_refused_so(), "{}", refused.name);
     }
 }

@@ -17,7 +17,7 @@ use std::process::Abort;
 #[derive(Clone, Copy)]
 enum Said {
     Ack(Ack),
-    Nak(Range, &'static [Range]),
+    Nak(NakRange, &'static [NakRange]),
     Prompt(Prompt),
     KeepAlive(u64),
 }
@@ -256,14 +256,14 @@ fn sized(large: bool, number: u64) -> u64
 }
 
 /// A start and an end in as many octets.
-fn sized_range(large: bool, range: Range) -> Range
+fn sized_range(large: bool, range: NakRange) -> NakRange
     ensures { IsSizedRange large result }
 {
     (sized(large, range.0), sized(large, range.1))
 }
 
 /// The range in a list past what is read into it.
-const UNTOUCHED: Range = (7, 7);
+const UNTOUCHED: NakRange = (7, 7);
 
 /// Whether the PDU is read as the row says.
 fn is_read(row: &Row) -> bool {
@@ -368,7 +368,10 @@ fn rows_are_read_and_written(rt: HostRuntime) -> Result<(), WriteFault> {
 #[test]
 fn a_nak_is_none_of_the_others(rt: HostRuntime) {
     let octets = b"\x28\x00\x09\x00\x01\x05\x02\x08\x00\x00\x00\x00\x00\x00\x00\x0f";
-    assert!(rt; read_directive(octets) == Err(PduFault::BadDirective));
+    assert!(rt;
+        read_directive(octets) == Err(PduFault::BadDirective),
+        "a NAK PDU"
+    );
 }
 
 /// Octets that spell no NAK PDU of one request, and the first fault.

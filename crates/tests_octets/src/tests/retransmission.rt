@@ -2,7 +2,7 @@
 
 ghost use Rattle.std.specs.Prelude.{◌<◌, ◌+◌, ◌^◌, ◌≤◌};
 
-use cfdp_directives::Range;
+use cfdp_directives::NakRange;
 use cfdp_retransmission::{Expiry, NakPart, Timer, next_nak};
 
 /// A timer of 10 ticks with the limit 3, and what it is at a moment.
@@ -155,18 +155,19 @@ fn again_counts_one_more(rt: HostRuntime) {
             == Timer {
                 since: 40,
                 count: 3
-            }
+            },
+        "a timer of 5 that expires the third time at 40"
     );
 }
 
 /// A sequence from one offset to another, and its PDUs: the scope of each, and how many requests it has.
 struct Sequence {
     name: &'static str,
-    requests: &'static [Range],
+    requests: &'static [NakRange],
     low: u64,
     high: u64,
     most: usize,
-    pdus: &'static [(Range, usize)],
+    pdus: &'static [(NakRange, usize)],
 }
 
 static SEQUENCES: [Sequence; 6] = [

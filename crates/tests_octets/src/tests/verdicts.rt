@@ -95,7 +95,8 @@ fn verdicts_are_said(rt: HostRuntime) -> Result<(), Fail> {
         text.as_slice(),
         b"1/2 admitted: 1,265 blocks, 12 steps\n1/2 admitted: 1 block, 1 step\n\
           1/2 admitted: 0 blocks, 65,536 steps\n"
-            .as_slice()
+            .as_slice(),
+        "three verdicts"
     );
     Ok(())
 }

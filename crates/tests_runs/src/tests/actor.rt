@@ -3,7 +3,7 @@
 //! receiver asks for memory once it is made.
 
 use cfdp_actions::Protected;
-use cfdp_directives::{Range, TransactionStatus};
+use cfdp_directives::{NakRange, TransactionStatus};
 use cfdp_entity::Entity;
 use cfdp_pdus::PduFault;
 use cfdp_receiver::{Answer, Dropped, Handler, Mib, NakMode, NotMade, Receiver, Retries, Watch};
@@ -143,7 +143,7 @@ struct Seen {
     progress: Option<u64>,
     reach: Option<u64>,
     /// How many gaps there are, and the first one.
-    gaps: Option<(usize, Range)>,
+    gaps: Option<(usize, NakRange)>,
     spare: u32,
 }
 

@@ -207,5 +207,8 @@ fn end_of_links<R: Abort + Threads + Wait + Sync>(
 #[test]
 fn ends_of_links(rt: HostRuntime) {
     let end = end_of_links(&rt, rt.alloc(), FIRST_FAILS);
-    assert!(rt; is_end(rt.alloc(), end, 1, "cfdpsim: write failed"));
+    assert!(rt;
+        is_end(rt.alloc(), end, 1, "cfdpsim: write failed"),
+        "a writer that fails"
+    );
 }

@@ -73,7 +73,7 @@ fn ends_at_read(ran: &Ran<'_>, example: &Example, k: usize) -> bool {
     let fails = k <= script.len();
     let end = if fails { Err(RunFault::Read) } else { Ok(()) };
     let read = script.get(..k).unwrap_or(script);
-    ran.told() == (end, fails, false)
+    ran.stated() == (end, fails, false)
         && ran.has_begun(example.report)
         && requests(&ran.writer.text) == requests(read)
 }
@@ -91,7 +91,9 @@ fn fail_reads<R: Abort + Print>(rt: &R, alloc: Global, name: &str, example: &Exa
 fn ends_at_write(ran: &Ran<'_>, example: &Example, k: usize) -> bool {
     let fails = k < example.report.len();
     let end = if fails { Err(RunFault::Write) } else { Ok(()) };
-    ran.told() == (end, false, fails) && ran.has_begun(example.report) && ran.writer.text.len() == k
+    ran.stated() == (end, false, fails)
+        && ran.has_begun(example.report)
+        && ran.writer.text.len() == k
 }
 
 /// The kth write fails, of one octet each: the octets before it are a beginning of the report.
@@ -293,7 +295,10 @@ fn repeated(alloc: Global, before: &[u8], octet: u8, count: usize) -> Result<Vec
 #[test]
 fn memory_of_a_long_path(rt: HostRuntime) -> Result<(), AllocError> {
     let line = repeated(rt.alloc(), b"protect ", b'6', 2 * 778)?;
-    assert!(rt; is_bad(rt.alloc(), Transfers::new(rt.alloc()), &line));
+    assert!(rt;
+        is_bad(rt.alloc(), Transfers::new(rt.alloc()), &line),
+        "a path of 778 octets"
+    );
     Ok(())
 }
 

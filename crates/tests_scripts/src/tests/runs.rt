@@ -25,7 +25,7 @@ pub(super) struct Ran<'a> {
 
 impl<'a> Ran<'a> {
     /// How it ended, and whether its reader and its writer have failed.
-    pub(super) fn told(&self) -> (End, bool, bool) {
+    pub(super) fn stated(&self) -> (End, bool, bool) {
         let writer_failed = self.writer.has_failed();
         (self.end, self.reader.has_failed(), writer_failed)
     }
@@ -42,11 +42,11 @@ impl<'a> Ran<'a> {
 
     /// Whether that is reported and nothing else has failed, and a beginning of the report was written, in whole lines
     /// unless the writer was refused memory.
-    fn is_told_so(&self, report: &str) -> bool {
+    fn reports_that_alone(&self, report: &str) -> bool {
         let refused = self.writer.refused;
         let text = &self.writer.text;
         let is_whole = refused || text.is_empty() || text.ends_with(b"\n");
-        let (_, reader_failed, writer_failed) = self.told();
+        let (_, reader_failed, writer_failed) = self.stated();
         is_whole && !reader_failed && writer_failed == refused && self.has_begun(report)
     }
 }
@@ -97,7 +97,7 @@ impl<'a> Run<'a> {
         }
         let _ = println!(rt; "a run was refused memory, or its writer");
         assert!(rt;
-            ran.is_told_so(self.report),
+            ran.reports_that_alone(self.report),
             "a run that was refused memory"
         );
         self.once(alloc)

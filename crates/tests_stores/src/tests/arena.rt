@@ -88,7 +88,7 @@ fn copies_one_octet(arena: &mut Arena) -> bool {
 #[test]
 fn one_octet_is_copied(rt: HostRuntime) -> Result<(), Fail> {
     let mut arena = Arena::new(rt.alloc(), 2)?;
-    assert!(rt; copies_one_octet(&mut arena));
+    assert!(rt; copies_one_octet(&mut arena), "one octet");
     Ok(())
 }
 
@@ -98,11 +98,11 @@ fn an_arena_moves_to_a_thread(rt: HostRuntime) -> Result<(), Fail> {
     let block = arena.take().expect(&rt, "a block");
     arena.bytes_mut(block)[127] = 9;
     let worker = thread::spawn(&rt, move || (arena.bytes(block)[127], arena.free()))?;
-    assert_eq!(rt; worker.join(&rt), (9, 1));
+    assert_eq!(rt; worker.join(&rt), (9, 1), "an octet, and the free blocks");
     Ok(())
 }
 
 #[test]
 fn numbers(rt: HostRuntime) {
-    assert_eq!(rt; BlockId::of_number(65535).number(), 65535);
+    assert_eq!(rt; BlockId::of_number(65535).number(), 65535, "the last block");
 }

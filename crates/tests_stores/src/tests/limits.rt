@@ -3,7 +3,7 @@
 
 use super::calls::{Asked, deepest, parsed};
 use super::steps::{
-    Existing, Script, Shown, Step, are_listed, are_standing, performs, puts, run, shows_octets,
+    Existing, Script, Shown, Step, are_existing, are_listed, performs, puts, run, shows_octets,
     shows_staged, take, takes,
 };
 use cfdp_actions::{Filestore, Kind, Protected};
@@ -69,14 +69,14 @@ fn shows_rows<S: Filestore>(
     store: &S,
     listing: &[Existing<'_>],
     directory: &[u8],
-    standing: &[Existing<'_>],
+    existing: &[Existing<'_>],
     names: u8,
 ) -> Result<bool, Memory> {
     let top = parsed(alloc, directory)?;
     Ok(
         deepest(store, &top) == Some(names)
             && are_listed(alloc, &store.listing(alloc)?, listing)?
-            && are_standing(alloc, &store.standing(alloc, &top)?, standing)?,
+            && are_existing(alloc, &store.existing(alloc, &top)?, existing)?,
     )
 }
 

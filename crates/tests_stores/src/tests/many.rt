@@ -60,7 +60,7 @@ const FILLED: &[u8] = b"a a/1 a/2 a/3 a/4 a/5 a/6 a/7 a/8 b b/1 b/2 b/3 b/4 b/5 
     c c/1 c/2 c/3 c/4 c/5 c/6 c/7 c/8 d d/1 d/2 d/3 d/4 d/5 d/6 d/7 d/8 \
     e e/1 e/2 e/3 e/4 e/5 e/6 e/7 e/8 ";
 
-/// What changes at one place leaves all else.
+/// A change at one path leaves all else.
 const CHANGE: &[Step<'static>] = &[
     performs!(RenameFile, b"a", b"z" => status 0x20, ticks 0, free 19),
     performs!(RenameFile, b"z/8", b"b/0" => status 0x20, ticks 0, free 19),
@@ -89,7 +89,7 @@ const SEVENS: &[u8] = &[7; 121];
 const TWICE: &[u8] = &[7; 242];
 
 /// What is at and below the directory in which the one file with octets is then.
-const STANDING: &[Existing<'static>] = &[
+const EXISTING: &[Existing<'static>] = &[
     (b"d", Kind::Directory, 0, 0),
     (b"d/1", Kind::File, 0, 0),
     (b"d/2", Kind::File, 0, 0),
@@ -115,7 +115,7 @@ const MOVE_OCTETS: &[Step<'static>] = &[
     shows_octets!(b"c/1", size 0, at 0, b""),
     shows_octets!(b"e/1", size 0, at 0, b""),
     Step::Shows(Shown::Deepest(b"d", Some(2))),
-    Step::Shows(Shown::Standing(b"d", STANDING)),
+    Step::Shows(Shown::ExistingNode(b"d", EXISTING)),
 ];
 
 pub static SCRIPTS: [Script<'static>; 2] = [

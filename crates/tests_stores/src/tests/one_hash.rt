@@ -160,7 +160,7 @@ const IN_DIRECTORIES: &[Step<'static>] = &[
     performs!(AppendFile, J, BELOW_B => status 0x30, ticks 2, free 47),
     shows_octets!(J, size 3, at 0, b"abc"),
     Step::Shows(Shown::Checksum(BELOW_K, Some(0x6162_6300))),
-    Step::Shows(Shown::Standing(b"d", BELOW)),
+    Step::Shows(Shown::ExistingNode(b"d", BELOW)),
     performs!(RenameFile, b"d", K => status 0x20, ticks 0, free 47),
     Step::Shows(Shown::Deepest(K, Some(2))),
     performs!(DeleteFile, IN_K => status 0x10, ticks 1, free 48),

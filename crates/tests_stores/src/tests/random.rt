@@ -7,7 +7,7 @@ use super::calls::{
     Answer, Asked, checksum, deepest, parsed, read, read_staged, request, size, staged_size,
     unstage,
 };
-use cfdp_actions::{Filestore, Kind, ListStore, Protected, Request, Standing, refusal};
+use cfdp_actions::{ExistingNode, Filestore, Kind, ListStore, Protected, Request, refusal};
 use cfdp_paths::{Memory, Path};
 use cfdp_status::Action;
 use cfdp_tree::TreeStore;
@@ -293,7 +293,7 @@ impl Operation {
 
 /// What a store says of itself and of a path.
 #[derive(Drop, PartialEq)]
-struct Told {
+struct StoreAnswers {
     free: u32,
     kind: Option<Kind>,
     parent_is_good: bool,
@@ -302,8 +302,8 @@ struct Told {
     checksum: Option<u32>,
 }
 
-fn tells<S: Filestore>(store: &S, path: &Path) -> Told {
-    Told {
+fn tells<S: Filestore>(store: &S, path: &Path) -> StoreAnswers {
+    StoreAnswers {
         free: store.free(),
         kind: store.kind(path),
         parent_is_good: store.parent_is_good(path),
@@ -315,7 +315,7 @@ fn tells<S: Filestore>(store: &S, path: &Path) -> Told {
 
 /// What a store says of the path of an operation, and the octets at its offset, in the file and in the slot; `None`
 /// where it has no such offset.
-type Said = (Told, Option<Vec<u8>>, Option<Vec<u8>>);
+type Said = (StoreAnswers, Option<Vec<u8>>, Option<Vec<u8>>);
 
 fn says<S: Filestore>(
     alloc: Global,
@@ -332,14 +332,14 @@ fn says<S: Filestore>(
 /// What is at a path and below it, with the octets of the file.
 #[derive(Drop, PartialEq)]
 struct AtPath {
-    standing: Vec<Standing>,
+    existing: Vec<ExistingNode>,
     octets: Option<Vec<u8>>,
 }
 
 fn at_path<S: Filestore>(alloc: Global, store: &S, path: &Path) -> Result<AtPath, Memory> {
     let count = size(store, path).unwrap_or(0);
     Ok(AtPath {
-        standing: store.standing(alloc, path)?,
+        existing: store.existing(alloc, path)?,
         octets: read(alloc, store, path, 0, count)?,
     })
 }

@@ -153,7 +153,7 @@ const WHAT_EXISTS: &[Step<'static>] = &[
     performs!(CreateDirectory, b"d" => status 0x50, ticks 1, free 63),
     performs!(CreateFile, b"d/x" => status 0x00, ticks 1, free 62),
     Step::Shows(Shown::Listing(&[(b"d", Kind::Directory, 0, 0), (b"d/x", Kind::File, 0, 0)])),
-    Step::Shows(Shown::Standing(
+    Step::Shows(Shown::ExistingNode(
         b"d",
         &[(b"d", Kind::Directory, 0, 0), (b"d/x", Kind::File, 0, 0)],
     )),

@@ -63,7 +63,7 @@ fn push_file<'a>(
     Ok(())
 }
 
-/// One file is appended to another, which is then put in its place. The first octets of both are the one's.
+/// One file is appended to another, which is then replaced by it. The first octets of both are the one's.
 fn push_join<'a>(steps: &mut Vec<Step<'a>>, both: &'a [u8], front: usize) -> Result<(), Memory> {
     let (front, back) = (part(both, 0, front), part(both, front, both.len()));
     let (of_both, of_front, of_back) = (

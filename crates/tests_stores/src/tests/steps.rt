@@ -3,7 +3,7 @@
 use super::calls::{
     Answer, Asked, checksum, deepest, parsed, read, read_staged, size, staged_size,
 };
-use cfdp_actions::{Entry, Filestore, Kind, ListStore, Protected, Standing};
+use cfdp_actions::{Entry, ExistingNode, Filestore, Kind, ListStore, Protected};
 use cfdp_paths::{Memory, Path};
 use cfdp_status::Action;
 use cfdp_tree::TreeStore;
@@ -141,7 +141,7 @@ pub enum Shown<'a> {
     /// The paths of all that exists, a space after each.
     Paths(&'a [u8]),
     /// All that is at and below the path.
-    Standing(&'a [u8], &'a [Existing<'a>]),
+    ExistingNode(&'a [u8], &'a [Existing<'a>]),
 }
 
 /// The octets of a path, and the kind, the size and the checksum of what is there.
@@ -227,8 +227,8 @@ impl<'a> Shown<'a> {
             Shown::Deepest(path, names) => Ok(deepest(store, &parsed(alloc, path)?) == *names),
             Shown::Listing(rows) => are_listed(alloc, &store.listing(alloc)?, rows),
             Shown::Paths(text) => Ok(texts(alloc, &store.listing(alloc)?)?.as_slice() == *text),
-            Shown::Standing(path, rows) => {
-                are_standing(alloc, &store.standing(alloc, &parsed(alloc, path)?)?, rows)
+            Shown::ExistingNode(path, rows) => {
+                are_existing(alloc, &store.existing(alloc, &parsed(alloc, path)?)?, rows)
             }
         }
     }
@@ -282,18 +282,18 @@ pub fn are_listed(alloc: Global, listing: &[Entry], rows: &[Existing<'_>]) -> Re
 }
 
 /// Whether just these exist. Nothing is said of checksums.
-pub fn are_standing(
+pub fn are_existing(
     alloc: Global,
-    standing: &[Standing],
+    existing: &[ExistingNode],
     rows: &[Existing<'_>],
 ) -> Result<bool, Memory> {
-    for (found, (path, kind, size, _)) in standing.iter().zip(rows) {
+    for (found, (path, kind, size, _)) in existing.iter().zip(rows) {
         let is_same = found.kind == *kind && found.size == *size;
         if !is_same || found.path != parsed(alloc, path)? {
             return Ok(false);
         }
     }
-    Ok(standing.len() == rows.len())
+    Ok(existing.len() == rows.len())
 }
 
 /// The paths of a listing, a space after each.

@@ -71,7 +71,7 @@ const MOVES_NO_DEEPER_THAN_EIGHT_NAMES: &[Step<'static>] = &[
     Step::Shows(Shown::Deepest(b"z", Some(8))),
     Step::Shows(Shown::Deepest(b"e", Some(1))),
     Step::Shows(Shown::Deepest(b"a", None)),
-    Step::Shows(Shown::Standing(b"z/b", BELOW)),
+    Step::Shows(Shown::ExistingNode(b"z/b", BELOW)),
 ];
 
 /// Ones, as many as two blocks have.
@@ -115,7 +115,7 @@ const REPLACES: &[Step<'static>] = &[
     takes!(Asked::Extend(0, 3) => ticks 1, free 59),
     puts!(slot 0, at 0, b"xyz"),
     takes!(Asked::Install(0, b"b") => ticks 1, free 60),
-    Step::Shows(Shown::Standing(b"b", &[(b"b", Kind::File, 3, 0)])),
+    Step::Shows(Shown::ExistingNode(b"b", &[(b"b", Kind::File, 3, 0)])),
     shows_octets!(b"b", size 3, at 0, b"xyz"),
     Step::Shows(Shown::Checksum(b"b", Some(0x7879_7a00))),
 ];
@@ -169,7 +169,7 @@ const KEEPS_SUMS: &[Step<'static>] = &[
     Step::Shows(Shown::Checksum(b"b", Some(0x0d0c_0b09))),
     performs!(ReplaceFile, b"a", b"b" => status 0x40, ticks 3, free 60),
     Step::Shows(Shown::Checksum(b"a", Some(0x0d0c_0b09))),
-    // What a file had is staged no more, once another one took its place.
+    // What a file had is staged no more, once another one replaced it.
     takes!(Asked::Extend(0, 4) => ticks 1, free 59),
     puts!(slot 0, at 0, &[1]),
     takes!(Asked::Install(0, b"b") => ticks 1, free 60),

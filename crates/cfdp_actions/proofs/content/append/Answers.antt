@@ -4,15 +4,15 @@ use Rattle.cfdp_paths.specs.Paths.{path_cmp}
 use Rattle.cfdp_actions.specs.Filestore.{File, octets_in}
 use Rattle.cfdp_actions.specs.code.Listed.{shown_entries, entry_found}
 use Rattle.cfdp_actions.specs.declared.content.Content.TheVariants as content
-use Rattle.cfdp_actions.proofs.ShownLaws.{found_some, shown_twice, second_octets, stands, put_stands, put-same, file_there, file_is}
+use Rattle.cfdp_actions.proofs.ShownLaws.{found_some, shown_twice, second_octets, exists, put_exists, put-same, file_there, file_is}
 use Rattle.cfdp_actions.proofs.StagedLaws.{on_err}
 use Rattle.cfdp_actions.proofs.content.append.Goals as goal
 
 pub exchange-requires : goal.exchange-requires
-exchange-requires c = stands c.args.first.now c.args.entries.now (file_there _ c.requires.file)
+exchange-requires c = exists c.args.first.now c.args.entries.now (file_there _ c.requires.file)
 
 pub set-requires : goal.set-requires
-set-requires c = put_stands c.args.first.now content.Directory c.args.entries.now c.exchange.new.self c.exchange.ensures.put
+set-requires c = put_exists c.args.first.now content.Directory c.args.entries.now c.exchange.new.self c.exchange.ensures.put
 
 pub returns-in_err-extended-clause-err : goal.returns-in_err-extended-clause-err
 returns-in_err-extended-clause-err c =

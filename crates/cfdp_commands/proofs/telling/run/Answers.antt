@@ -1,6 +1,6 @@
 use Rattle.std.proofs.Common.{◌≡◌, ◌+◌, ◌-◌, suc, inl, inr, None, Some, subst, rules}
 use Rattle.cfdp_transactions.specs.World.{next_runnable}
-use Rattle.cfdp_transactions.specs.Settling.{most_settled}
+use Rattle.cfdp_transactions.specs.MostSettled.{most_settled}
 use Rattle.cfdp_commands.proofs.Steps.{Steps, steps_next, steps_end}
 use Rattle.cfdp_commands.proofs.telling.run.Goals as goal
 

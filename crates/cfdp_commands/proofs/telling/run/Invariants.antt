@@ -1,5 +1,5 @@
 use Rattle.std.proofs.Common.{◌-◌}
-use Rattle.cfdp_transactions.specs.Settling.{most_settled}
+use Rattle.cfdp_transactions.specs.MostSettled.{most_settled}
 use Rattle.cfdp_commands.proofs.Steps.{Steps}
 use Rattle.cfdp_commands.proofs.telling.run.Given as goal
 

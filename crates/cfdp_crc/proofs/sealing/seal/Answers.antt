@@ -1,6 +1,6 @@
 use Rattle.std.proofs.Common.{◌≡◌, ◌/◌, ◌%◌, ℕ, take, drop, length, List, ◌∷◌, Ok, sym, ap, ◌∙◌}
 use Rattle.cfdp_crc.specs.Seal.{plain_len, with_flag}
-use Rattle.cfdp_crc.proofs.Placing.{length-with_flag, sealed-is, rest-stays}
+use Rattle.cfdp_crc.proofs.SealedBuffer.{length-with_flag, sealed-is, rest-stays}
 use Rattle.cfdp_crc.proofs.sealing.seal.Goals as goal
 
 pub returns-clause-ok : goal.returns-clause-ok

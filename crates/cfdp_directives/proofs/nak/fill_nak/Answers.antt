@@ -2,10 +2,10 @@ use Rattle.std.proofs.Common.{arith, ◌≡◌, ◌+◌, ◌≤◌, ◌∷◌, [
 use Rattle.std.specs.List.{flat_map}
 use Rattle.cfdp_pdus.proofs.WriteSteps.{pdu_len}
 use Rattle.cfdp_pdus.specs.Canonical.{header_octets}
-use Rattle.cfdp_pdus.specs.Placing.{filled, with_octets_at}
+use Rattle.cfdp_pdus.specs.BufferParts.{filled, with_octets_at}
 use Rattle.cfdp_directives.specs.Spelling.{nak_field, range_octets}
 use Rattle.cfdp_directives.proofs.Lengths.{nak_parts, range_len}
-use Rattle.cfdp_pdus.proofs.Placing.{then, pdu_filled}
+use Rattle.cfdp_pdus.proofs.BufferParts.{then, pdu_filled}
 use Rattle.cfdp_directives.proofs.nak.fill_nak.Goals as goal
 
 pub put_header-requires-clause-room : goal.put_header-requires-clause-room

@@ -2,7 +2,7 @@ use Rattle.std.proofs.Common.{arith, ◌+◌}
 use Rattle.byteorder.specs.Endian.{big_bytes}
 use Rattle.byteorder.specs.Numbers.{length-bytes_high_first}
 use Rattle.cfdp_pdus.specs.Bits.{fss}
-use Rattle.cfdp_pdus.proofs.Placing.{then}
+use Rattle.cfdp_pdus.proofs.BufferParts.{then}
 use Rattle.cfdp_directives.proofs.nak.put_range.Goals as goal
 
 pub returns : goal.returns

@@ -2,11 +2,11 @@ use Rattle.std.proofs.Common.{arith, get_or, ◌∙◌, ap, sym, length, take}
 use Rattle.std.specs.List.{flat_map}
 use Rattle.std.proofs.lemmas.List.{length-append}
 use Rattle.std.proofs.lemmas.List.Folds.{length-flat_map-take}
-use Rattle.cfdp_pdus.specs.Placing.{with_octets_at}
+use Rattle.cfdp_pdus.specs.BufferParts.{with_octets_at}
 use Rattle.cfdp_directives.specs.Spelling.{range_octets}
 use Rattle.cfdp_directives.proofs.Lengths.{range_len}
 use Rattle.cfdp_directives.proofs.Ranges.{octets_more}
-use Rattle.cfdp_pdus.proofs.Placing.{then}
+use Rattle.cfdp_pdus.proofs.BufferParts.{then}
 use Rattle.cfdp_directives.proofs.nak.put_ranges.Goals as goal
 
 pub put_range-requires-clause-room : goal.put_range-requires-clause-room

@@ -1,6 +1,6 @@
 use Rattle.std.proofs.Common.{◌≡◌, ◌+◌, length, take}
 use Rattle.std.specs.List.{flat_map}
-use Rattle.cfdp_pdus.specs.Placing.{with_octets_at}
+use Rattle.cfdp_pdus.specs.BufferParts.{with_octets_at}
 use Rattle.cfdp_directives.specs.Spelling.{range_octets}
 use Rattle.cfdp_directives.proofs.nak.put_ranges.Given as goal
 

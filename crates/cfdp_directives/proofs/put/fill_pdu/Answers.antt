@@ -1,6 +1,6 @@
 use Rattle.std.proofs.Common.{arith, false}
 use Rattle.cfdp_pdus.proofs.WriteSteps.{pdu_len}
-use Rattle.cfdp_pdus.proofs.Placing.{pdu_filled}
+use Rattle.cfdp_pdus.proofs.BufferParts.{pdu_filled}
 use Rattle.cfdp_directives.proofs.put.fill_pdu.Goals as goal
 
 pub put_header-requires-clause-room : goal.put_header-requires-clause-room

@@ -1,4 +1,4 @@
-use Rattle.cfdp_draw.proofs.Placing.{stays_inside}
+use Rattle.cfdp_draw.proofs.AxisPositions.{stays_inside}
 use Rattle.cfdp_draw.proofs.laws.stays_inside.Goals as goal
 
 pub returns : goal.returns

@@ -1,4 +1,4 @@
-use Rattle.cfdp_draw.proofs.Placing.{time_goes_right}
+use Rattle.cfdp_draw.proofs.AxisPositions.{time_goes_right}
 use Rattle.cfdp_draw.proofs.laws.time_goes_right.Goals as goal
 
 pub returns : goal.returns

@@ -5,7 +5,7 @@ use Rattle.std.specs.List.Sorted.{IsStrictlySortedBy}
 use Rattle.cfdp_paths.specs.Paths.{Path, path_cmp, ancestors}
 use Rattle.cfdp_paths.proofs.Below.{parent-take}
 use Rattle.cfdp_leases.proofs.Closed.{closed_to-more, same_set-beginning, same_set-left, same_set-last}
-use Rattle.cfdp_leases.proofs.Sets.{stands}
+use Rattle.cfdp_leases.proofs.Sets.{exists}
 use Rattle.cfdp_leases.proofs.gathering.insert_ancestors.Goals as goal
 
 pub insert_beginning-requires-clause-gap : goal.insert_beginning-requires-clause-gap
@@ -37,7 +37,7 @@ returns-in-Ok-clause-added c =
     let n = c.args.path.now in
     let count = c.loop-count.count in
     same_set-beginning paths n (count - 1) count c.loop-count.invariant.closed (omega arith) (omega arith) (omega arith)
-    (subst (λ (xs : List Path). stands (take (count - 1) n) xs) c.deref.ensures.value c.in-Ok.ensures.found)
+    (subst (λ (xs : List Path). exists (take (count - 1) n) xs) c.deref.ensures.value c.in-Ok.ensures.found)
     ∙ c.loop-count.invariant.left
 
 pub loop-count-preserved : goal.loop-count-preserved

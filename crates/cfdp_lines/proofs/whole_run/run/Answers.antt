@@ -45,7 +45,8 @@ pub returns-then-left-eq0-clause-read : goal.returns-then-left-eq0-clause-read
 returns-then-left-eq0-clause-read g c = λ _.
     let some : 0 < length c.in-Ok.piece.now = search rules in
     let spent : c.pieces.left ≡ 0 = search rules in
-    inr (Running-long _ _ _ _ _ _ _ _ _ _ (rw spent at c.pieces.invariant.0) c.in-Ok.ensures.octets some c.pieces.session.one_line c.pieces.session.within)
+    inr (Running-long _ _ _ _ _ _ _ _ _ _ (rw spent at c.pieces.invariant.0) c.in-Ok.ensures.octets some
+    c.pieces.session.whole.one_line c.pieces.session.whole.within)
 
 pub returns-in_err-feed-clause-bad : goal.returns-in_err-feed-clause-bad
 returns-in_err-feed-clause-bad g c = λ n e.

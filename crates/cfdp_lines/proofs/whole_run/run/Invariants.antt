@@ -7,7 +7,7 @@ use Rattle.cfdp_lines.proofs.whole_run.run.Given as goal
 abbrev pub invariant-pieces : goal.invariant-pieces
 invariant-pieces g l =
     Running g.S.Script.State g.S.Script.answer (g.S.Script.state l.fn.script)
-    (line_reading l.session.number (g.S.Script.state l.session.script) l.session.line.items)
+    (line_reading l.session.number (g.S.Script.state l.session.script) l.session.line)
     l.left
     (g.R.ScriptIn.remaining l.initial.reader)
     (g.R.ScriptIn.remaining l.reader)

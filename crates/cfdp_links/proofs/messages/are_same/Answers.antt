@@ -22,6 +22,6 @@ returns-then-not-is_same c =
           ∙ ap (λ said. slice_index_or said k (said_of x)) same
           ∙ get_or-map said_of ys k y (said_of x) y_in
           ∙ sym (ap said_of c.index-due-index.is) in
-          let told = c.is_same.ensures.1 said in
+          let stated = c.is_same.ensures.1 said in
           absurd cc,
     )

@@ -1,7 +1,7 @@
 use Rattle.std.proofs.Common.{rules, arith, ◌≡◌, ◌+◌, ◌*◌, ℕ, ap, ◌∙◌, ◌∷◌, []}
 use Rattle.cfdp_pdus.specs.Canonical.{first_octet}
-use Rattle.cfdp_pdus.specs.Placing.{with_octets_at}
-use Rattle.cfdp_pdus.proofs.Placing.{header_filled}
+use Rattle.cfdp_pdus.specs.BufferParts.{with_octets_at}
+use Rattle.cfdp_pdus.proofs.BufferParts.{header_filled}
 use Rattle.cfdp_pdus.proofs.buffer.put_header.Goals as goal
 
 pub returns : goal.returns

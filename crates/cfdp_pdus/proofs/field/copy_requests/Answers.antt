@@ -1,6 +1,6 @@
 use Rattle.std.proofs.Common.{◌≡◌, ◌++◌, ◌∷◌, [], sym, ap, ◌∙◌, length, length-append, arith}
 use Rattle.std.proofs.lemmas.Bool.{ne_eqb}
-use Rattle.cfdp_pdus.specs.code.Fields.{whole}
+use Rattle.cfdp_pdus.specs.code.Fields.{field_if_whole}
 use Rattle.cfdp_pdus.specs.First.{fields_at, requests_of}
 use Rattle.cfdp_pdus.proofs.CountSteps.{joined, join_none, join_next, rest_is_ok, has_room}
 use Rattle.cfdp_pdus.proofs.FieldLoop.{whole_ok}
@@ -20,7 +20,7 @@ unwrap-request-requires c =
     let good = rest_is_ok c.args.count c.loop-read.requests.items (requests_of left) (requests_of (fields_at c.args.octets.now))
     c.loop-read.invariant.copied c.requires in
     let field = c.unwrap-field.result in
-    let read = c.in-Some.ensures.steps ∙ ap (λ r. whole r ∷ c.next.new.self) c.unwrap-field.ensures in
+    let read = c.in-Some.ensures.steps ∙ ap (λ r. field_if_whole r ∷ c.next.new.self) c.unwrap-field.ensures in
     rw c.read_request_parts.ensures (next_request left c.next.new.self field.kind field.value.now read c.if-field-eq-FILESTORE_REQUEST.true good)
 
 pub push_reserved-requires : goal.push_reserved-requires
@@ -29,7 +29,7 @@ push_reserved-requires c =
     let after = c.next.new.self in
     let total = requests_of (fields_at c.args.octets.now) in
     let field = c.unwrap-field.result in
-    let read = c.in-Some.ensures.steps ∙ ap (λ r. whole r ∷ c.next.new.self) c.unwrap-field.ensures in
+    let read = c.in-Some.ensures.steps ∙ ap (λ r. field_if_whole r ∷ c.next.new.self) c.unwrap-field.ensures in
     let front = c.loop-read.requests.items in
     let request = c.unwrap-request.result in
     let here = asks left after field.kind field.value.now request read c.if-field-eq-FILESTORE_REQUEST.true
@@ -47,7 +47,7 @@ loop-read-preserved-then-field-eq-FILESTORE_REQUEST c =
     let left = c.loop-read.read-iterator in
     let after = c.next.new.self in
     let field = c.unwrap-field.result in
-    let read = c.in-Some.ensures.steps ∙ ap (λ r. whole r ∷ c.next.new.self) c.unwrap-field.ensures in
+    let read = c.in-Some.ensures.steps ∙ ap (λ r. field_if_whole r ∷ c.next.new.self) c.unwrap-field.ensures in
     let front = c.loop-read.requests.items in
     let request = c.unwrap-request.result in
     let here = asks left after field.kind field.value.now request read c.if-field-eq-FILESTORE_REQUEST.true
@@ -66,7 +66,7 @@ pub loop-read-preserved : goal.loop-read-preserved
 loop-read-preserved c =
     let left = c.loop-read.read-iterator in
     let field = c.unwrap-field.result in
-    let read = c.in-Some.ensures.steps ∙ ap (λ r. whole r ∷ c.next.new.self) c.unwrap-field.ensures in
+    let read = c.in-Some.ensures.steps ∙ ap (λ r. field_if_whole r ∷ c.next.new.self) c.unwrap-field.ensures in
     let here = passes left c.next.new.self field.kind field.value.now read (ne_eqb field.kind 0 c.if-field-eq-FILESTORE_REQUEST.false) in
     record {
       copied = sym (ap (joined c.loop-read.requests.items) here) ∙ c.loop-read.invariant.copied;

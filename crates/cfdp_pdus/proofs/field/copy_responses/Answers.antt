@@ -1,6 +1,6 @@
 use Rattle.std.proofs.Common.{Ok, ◌≡◌, ◌++◌, ◌∷◌, [], sym, ap, ◌∙◌, length, length-append, arith}
 use Rattle.std.proofs.lemmas.Bool.{ne_eqb}
-use Rattle.cfdp_pdus.specs.code.Fields.{whole}
+use Rattle.cfdp_pdus.specs.code.Fields.{field_if_whole}
 use Rattle.cfdp_tlv.specs.Reading.{◌>>=◌}
 use Rattle.cfdp_pdus.specs.code.Counting.{responses_in_fields}
 use Rattle.cfdp_pdus.specs.First.{fields_at, outcome_fields}
@@ -23,7 +23,7 @@ unwrap-response-requires c =
     let good = first_is_ok (outcome_fields left) (λ others. Ok others.0) (rest_is_ok c.args.count c.loop-read.responses.items (responses_in_fields left)
     (responses_in_fields (fields_at c.args.octets.now)) c.loop-read.invariant.copied c.requires) in
     let field = c.unwrap-field.result in
-    let read = c.in-Some.ensures.steps ∙ ap (λ r. whole r ∷ c.next.new.self) c.unwrap-field.ensures in
+    let read = c.in-Some.ensures.steps ∙ ap (λ r. field_if_whole r ∷ c.next.new.self) c.unwrap-field.ensures in
     rw c.read_response_parts.ensures (next_response left c.next.new.self field.kind field.value.now read c.if-field-eq-FILESTORE_RESPONSE.true good)
 
 pub push_reserved-requires : goal.push_reserved-requires
@@ -32,7 +32,7 @@ push_reserved-requires c =
     let after = c.next.new.self in
     let total = responses_in_fields (fields_at c.args.octets.now) in
     let field = c.unwrap-field.result in
-    let read = c.in-Some.ensures.steps ∙ ap (λ r. whole r ∷ c.next.new.self) c.unwrap-field.ensures in
+    let read = c.in-Some.ensures.steps ∙ ap (λ r. field_if_whole r ∷ c.next.new.self) c.unwrap-field.ensures in
     let front = c.loop-read.responses.items in
     let response = c.unwrap-response.result in
     let here = copies left after field.kind field.value.now response read c.if-field-eq-FILESTORE_RESPONSE.true
@@ -50,7 +50,7 @@ loop-read-preserved-then-field-eq-FILESTORE_RESPONSE c =
     let left = c.loop-read.read-iterator in
     let after = c.next.new.self in
     let field = c.unwrap-field.result in
-    let read = c.in-Some.ensures.steps ∙ ap (λ r. whole r ∷ c.next.new.self) c.unwrap-field.ensures in
+    let read = c.in-Some.ensures.steps ∙ ap (λ r. field_if_whole r ∷ c.next.new.self) c.unwrap-field.ensures in
     let front = c.loop-read.responses.items in
     let response = c.unwrap-response.result in
     let here = copies left after field.kind field.value.now response read c.if-field-eq-FILESTORE_RESPONSE.true
@@ -71,7 +71,7 @@ loop-read-preserved c =
     let good = first_is_ok (outcome_fields left) (λ others. Ok others.0) (rest_is_ok c.args.count c.loop-read.responses.items (responses_in_fields left)
     (responses_in_fields (fields_at c.args.octets.now)) c.loop-read.invariant.copied c.requires) in
     let field = c.unwrap-field.result in
-    let read = c.in-Some.ensures.steps ∙ ap (λ r. whole r ∷ c.next.new.self) c.unwrap-field.ensures in
+    let read = c.in-Some.ensures.steps ∙ ap (λ r. field_if_whole r ∷ c.next.new.self) c.unwrap-field.ensures in
     let here = skips left c.next.new.self field.kind field.value.now read (ne_eqb field.kind 1 c.if-field-eq-FILESTORE_RESPONSE.false) good in
     record {
       copied = sym (ap (joined c.loop-read.responses.items) here) ∙ c.loop-read.invariant.copied;

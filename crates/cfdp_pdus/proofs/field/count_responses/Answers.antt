@@ -1,7 +1,7 @@
 use Rattle.std.proofs.Common.{◌∷◌, sym, ap, ◌∙◌, arith}
 use Rattle.std.proofs.lemmas.Bool.{ne_eqb}
 use Rattle.std.proofs.lemmas.Result.{err_from_is_err_and}
-use Rattle.cfdp_pdus.specs.code.Fields.{whole}
+use Rattle.cfdp_pdus.specs.code.Fields.{field_if_whole}
 use Rattle.cfdp_pdus.specs.First.{outcome_fields}
 use Rattle.cfdp_pdus.proofs.Splits.{fields_len, fewer}
 use Rattle.cfdp_pdus.proofs.OutcomeLoop.{tells, locates, passes, refused_response, refused_entity, cut, none_left, counted_outcome, count_first, count_none, count_response, count_entity}
@@ -15,7 +15,7 @@ loop-read-init c =
 pub returns-in_default : goal.returns-in_default
 returns-in_default c =
     let left = c.loop-read.read-iterator in
-    let read = c.in-Some.ensures.steps ∙ ap (λ r. whole r ∷ c.next.new.self) c.in_default.is in
+    let read = c.in-Some.ensures.steps ∙ ap (λ r. field_if_whole r ∷ c.next.new.self) c.in_default.is in
     sym (ap (counted_outcome c.loop-read.count c.loop-read.fault) (cut left c.next.new.self read)) ∙ c.loop-read.invariant.found
 
 pub returns-in_err-read_response_parts : goal.returns-in_err-read_response_parts
@@ -23,7 +23,7 @@ returns-in_err-read_response_parts c =
     let p = err_from_is_err_and c.from_residual.result c.from_residual.ensures.1 in
     let left = c.loop-read.read-iterator in
     let field = c.in-Ok.field in
-    let read = c.in-Some.ensures.steps ∙ ap (λ r. whole r ∷ c.next.new.self) c.in-Ok.is in
+    let read = c.in-Some.ensures.steps ∙ ap (λ r. field_if_whole r ∷ c.next.new.self) c.in-Ok.is in
     let here = refused_response left c.next.new.self field.kind field.value.now c.in_err-read_response_parts.field-0.0 read
     c.if-field-eq-FILESTORE_RESPONSE.true (sym c.in_err-read_response_parts.ensures) in
     rw (p.1, p.2) (sym (ap (counted_outcome c.loop-read.count c.loop-read.fault) here) ∙ c.loop-read.invariant.found)
@@ -33,7 +33,7 @@ returns-in_err-entity c =
     let p = err_from_is_err_and c.from_residual-in_err-entity.result c.from_residual-in_err-entity.ensures.1 in
     let left = c.loop-read.read-iterator in
     let field = c.in-Ok.field in
-    let read = c.in-Some.ensures.steps ∙ ap (λ r. whole r ∷ c.next.new.self) c.in-Ok.is in
+    let read = c.in-Some.ensures.steps ∙ ap (λ r. field_if_whole r ∷ c.next.new.self) c.in-Ok.is in
     let here = refused_entity left c.next.new.self field.kind field.value.now c.in_err-entity.field-0.0 read
     c.if-field-eq-ENTITY_ID.true c.in_err-entity.ensures in
     rw (p.1, p.2) (sym (ap (counted_outcome c.loop-read.count c.loop-read.fault) here) ∙ c.loop-read.invariant.found)
@@ -43,7 +43,7 @@ loop-read-preserved-then-field-eq-FILESTORE_RESPONSE c =
     let left = c.loop-read.read-iterator in
     let after = c.next.new.self in
     let field = c.in-Ok.field in
-    let read = c.in-Some.ensures.steps ∙ ap (λ r. whole r ∷ c.next.new.self) c.in-Ok.is in
+    let read = c.in-Some.ensures.steps ∙ ap (λ r. field_if_whole r ∷ c.next.new.self) c.in-Ok.is in
     let here = tells left after field.kind field.value.now c.in_ok-read_response_parts.field-0 read
     c.if-field-eq-FILESTORE_RESPONSE.true (sym c.in_ok-read_response_parts.ensures) in
     record {
@@ -57,7 +57,7 @@ loop-read-preserved-then-field-eq-ENTITY_ID c =
     let left = c.loop-read.read-iterator in
     let after = c.next.new.self in
     let field = c.in-Ok.field in
-    let read = c.in-Some.ensures.steps ∙ ap (λ r. whole r ∷ c.next.new.self) c.in-Ok.is in
+    let read = c.in-Some.ensures.steps ∙ ap (λ r. field_if_whole r ∷ c.next.new.self) c.in-Ok.is in
     let here = locates left after field.kind field.value.now c.in_ok-entity.entity read c.if-field-eq-ENTITY_ID.true c.in_ok-entity.ensures in
     record {
       found = sym (count_entity c.loop-read.count c.loop-read.fault c.in_ok-entity.entity (outcome_fields after))
@@ -70,7 +70,7 @@ loop-read-preserved c =
     let left = c.loop-read.read-iterator in
     let after = c.next.new.self in
     let field = c.in-Ok.field in
-    let read = c.in-Some.ensures.steps ∙ ap (λ r. whole r ∷ c.next.new.self) c.in-Ok.is in
+    let read = c.in-Some.ensures.steps ∙ ap (λ r. field_if_whole r ∷ c.next.new.self) c.in-Ok.is in
     let here = passes left after field.kind field.value.now read (ne_eqb field.kind 1 c.if-field-eq-FILESTORE_RESPONSE.false)
     (ne_eqb field.kind 6 c.if-field-eq-ENTITY_ID.false) in
     record {

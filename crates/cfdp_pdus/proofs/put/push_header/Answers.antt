@@ -2,7 +2,7 @@ use Rattle.std.proofs.Common.{◌≡◌, ◌∙◌, ap, take, arith}
 use Rattle.std.specs.Prelude.{replicate}
 use Rattle.std.proofs.lemmas.Grind.{common_steps}
 use Rattle.cfdp_pdus.specs.Canonical.{header_octets}
-use Rattle.cfdp_pdus.proofs.Placing.{header_front}
+use Rattle.cfdp_pdus.proofs.BufferParts.{header_front}
 use Rattle.cfdp_pdus.proofs.put.push_header.Goals as goal
 
 pub returns-clause-items : goal.returns-clause-items

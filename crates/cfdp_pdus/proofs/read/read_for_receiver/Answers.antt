@@ -9,7 +9,7 @@ use Rattle.cfdp_pdus.specs.Sound.{IsSound}
 use Rattle.cfdp_pdus.specs.Receiving.{received, received_of}
 use Rattle.cfdp_pdus.specs.code.Receiving.{ReceivesLean}
 use Rattle.cfdp_pdus.proofs.PduSteps.{pdu_again}
-use Rattle.cfdp_pdus.proofs.ReceiveSteps.{told_holds, copied}
+use Rattle.cfdp_pdus.proofs.ReceiveSteps.{result_holds, copied}
 use Rattle.cfdp_pdus.proofs.FaultSteps.{never_memory}
 use Rattle.cfdp_pdus.proofs.SoundSteps.{octets_from, pdu_sound}
 use Rattle.cfdp_pdus.proofs.read.read_for_receiver.Goals as goal
@@ -17,7 +17,7 @@ use Rattle.cfdp_pdus.proofs.read.read_for_receiver.Goals as goal
 pub returns-clause-found : goal.returns-clause-found
 returns-clause-found c =
     let octets = c.args.octets.now in
-    told_holds (SpellsPdu octets) octets c.receive_whole.result (λ pdu spelled. spelled) c.receive_whole.ensures.exact
+    result_holds (SpellsPdu octets) octets c.receive_whole.result (λ pdu spelled. spelled) c.receive_whole.ensures.exact
 
 pub returns-clause-only : goal.returns-clause-only
 returns-clause-only c = λ pdu spelled.
@@ -39,4 +39,4 @@ pub returns-clause-sound : goal.returns-clause-sound
 returns-clause-sound c =
     let octets = c.args.octets.now in
     let are = octets_from octets (λ i. omega (arith, c.type_inv.octets i)) in
-    told_holds IsSound octets c.receive_whole.result (λ pdu. pdu_sound octets pdu are) c.receive_whole.ensures.exact
+    result_holds IsSound octets c.receive_whole.result (λ pdu. pdu_sound octets pdu are) c.receive_whole.ensures.exact

@@ -1,4 +1,4 @@
-use Rattle.cfdp_plans.proofs.Telling.{pdu_line_read}
+use Rattle.cfdp_plans.proofs.PduLines.{pdu_line_read}
 use Rattle.cfdp_plans.proofs.laws.pdu_line_is_read.Goals as goal
 
 pub returns : goal.returns

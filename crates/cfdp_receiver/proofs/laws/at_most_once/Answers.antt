@@ -1,4 +1,4 @@
-use Rattle.cfdp_receiver.proofs.Again.{at_most_once as proved}
+use Rattle.cfdp_receiver.proofs.MetadataAgain.{at_most_once as proved}
 use Rattle.cfdp_receiver.proofs.laws.at_most_once.Goals as goal
 
 pub returns : goal.returns

@@ -1,4 +1,4 @@
-use Rattle.cfdp_receiver.proofs.Once.{ends_stay_there as proved}
+use Rattle.cfdp_receiver.proofs.NaksAskOnce.{ends_stay_there as proved}
 use Rattle.cfdp_receiver.proofs.laws.ends_stay_there.Goals as goal
 
 pub returns : goal.returns

@@ -1,4 +1,4 @@
-use Rattle.cfdp_receiver.proofs.Asking.{exactly_missing as proved}
+use Rattle.cfdp_receiver.proofs.NaksAsk.{exactly_missing as proved}
 use Rattle.cfdp_receiver.proofs.laws.exactly_missing.Goals as goal
 
 pub returns : goal.returns

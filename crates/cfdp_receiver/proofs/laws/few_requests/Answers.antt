@@ -1,4 +1,4 @@
-use Rattle.cfdp_receiver.proofs.Asking.{few_requests as proved}
+use Rattle.cfdp_receiver.proofs.NaksAsk.{few_requests as proved}
 use Rattle.cfdp_receiver.proofs.laws.few_requests.Goals as goal
 
 pub returns : goal.returns

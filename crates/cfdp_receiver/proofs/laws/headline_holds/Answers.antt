@@ -1,4 +1,4 @@
-use Rattle.cfdp_receiver.proofs.Handing.{headline_holds as proved}
+use Rattle.cfdp_receiver.proofs.HandedOn.{headline_holds as proved}
 use Rattle.cfdp_receiver.proofs.laws.headline_holds.Goals as goal
 
 pub returns : goal.returns

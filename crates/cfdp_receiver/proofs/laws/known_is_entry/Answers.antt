@@ -1,4 +1,4 @@
-use Rattle.cfdp_receiver.proofs.Knowing.{known_is_entry as proved}
+use Rattle.cfdp_receiver.proofs.SessionsAreKnown.{known_is_entry as proved}
 use Rattle.cfdp_receiver.proofs.laws.known_is_entry.Goals as goal
 
 pub returns : goal.returns

@@ -1,4 +1,4 @@
-use Rattle.cfdp_receiver.proofs.Asking.{naks_ask as proved}
+use Rattle.cfdp_receiver.proofs.NaksAsk.{naks_ask as proved}
 use Rattle.cfdp_receiver.proofs.laws.naks_ask.Goals as goal
 
 pub returns : goal.returns

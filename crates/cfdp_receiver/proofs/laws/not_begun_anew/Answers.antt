@@ -1,4 +1,4 @@
-use Rattle.cfdp_receiver.proofs.Again.{not_begun_anew as proved}
+use Rattle.cfdp_receiver.proofs.MetadataAgain.{not_begun_anew as proved}
 use Rattle.cfdp_receiver.proofs.laws.not_begun_anew.Goals as goal
 
 pub returns : goal.returns

@@ -1,4 +1,4 @@
-use Rattle.cfdp_receiver.proofs.Others.{others_keep_entries as proved}
+use Rattle.cfdp_receiver.proofs.OthersStay.{others_keep_entries as proved}
 use Rattle.cfdp_receiver.proofs.laws.others_keep_entries.Goals as goal
 
 pub returns : goal.returns

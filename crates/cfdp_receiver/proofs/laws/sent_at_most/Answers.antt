@@ -1,4 +1,4 @@
-use Rattle.cfdp_receiver.proofs.Limits.{sent_at_most as proved}
+use Rattle.cfdp_receiver.proofs.FinishedSentAtMost.{sent_at_most as proved}
 use Rattle.cfdp_receiver.proofs.laws.sent_at_most.Goals as goal
 
 pub returns : goal.returns

@@ -1,4 +1,4 @@
-use Rattle.cfdp_receiver.proofs.Others.{work_keeps_others as proved}
+use Rattle.cfdp_receiver.proofs.OthersStay.{work_keeps_others as proved}
 use Rattle.cfdp_receiver.proofs.laws.work_keeps_others.Goals as goal
 
 pub returns : goal.returns

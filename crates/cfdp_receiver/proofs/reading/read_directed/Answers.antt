@@ -4,7 +4,7 @@ use Rattle.cfdp_pdus.specs.First.{Start, start_at, pdu_at}
 use Rattle.cfdp_pdus.specs.Receiving.{received_of}
 use Rattle.cfdp_pdus.specs.Sound.{IsSoundMetadata}
 use Rattle.cfdp_receiver.specs.State.{OtherPdu}
-use Rattle.cfdp_receiver.proofs.Read.{finished_input, metadata_readable}
+use Rattle.cfdp_receiver.proofs.ReadPdus.{finished_input, metadata_readable}
 use Rattle.cfdp_receiver.proofs.reading.read_directed.Goals as goal
 
 pub returns-in-None-clause-ok : goal.returns-in-None-clause-ok

@@ -1,5 +1,5 @@
 use Rattle.std.proofs.Common.{◌∙◌, arith}
-use Rattle.cfdp_receiver.proofs.Written.{not_empty, part_next}
+use Rattle.cfdp_receiver.proofs.PdusByNumber.{not_empty, part_next}
 use Rattle.cfdp_receiver.proofs.writing.+nth_part.Goals as goal
 
 pub returns : goal.returns

@@ -3,7 +3,7 @@ use Rattle.std.specs.Bool.{⊤}
 use Rattle.std.specs.Option.{option_copied}
 use Rattle.cfdp_paths.specs.Paths.{Path}
 use Rattle.cfdp_leases.specs.Items.{items_of}
-use Rattle.cfdp_leases.proofs.Sets.{stands-append_right}
+use Rattle.cfdp_leases.proofs.Sets.{exists-append_right}
 use Rattle.cfdp_states.specs.code.Sparse.{AreSame, paths_in}
 use Rattle.cfdp_states.proofs.SparsePaths.{holds_all, sees_by_more}
 use Rattle.cfdp_states.proofs.origins.shown.Goals as goal
@@ -26,4 +26,4 @@ returns-clause-sees c =
     let same : AreSame (paths_in c.add_all-3.new.paths) (two ++ named) =
     subst (λ (more : List Path). AreSame (paths_in c.add_all-3.new.paths) (two ++ more)) c.deref.ensures.value c.in_ok-add_all-3.ensures in
     sees_by_more (paths_in c.add_all-3.new.paths) named (items_of (option_copied c.args.destination) c.args.requests.now)
-    (λ x h. same x ∙ stands-append_right x two named h) c.in_ok-named.ensures
+    (λ x h. same x ∙ exists-append_right x two named h) c.in_ok-named.ensures

@@ -1,6 +1,6 @@
 use Rattle.std.proofs.Common.{arith}
 use Rattle.std.specs.FinMap.{empty}
-use Rattle.cfdp_states.proofs.Surveys.{adds_root, adds_inside, adds_rest, adds_before, adds_behind, next_within}
+use Rattle.cfdp_states.proofs.Surveys.{adds_root, adds_inside, adds_rest, adds_before, adds_rest_of_paths, next_within}
 use Rattle.cfdp_states.proofs.Surveyed.{whole_survey}
 use Rattle.cfdp_states.proofs.survey.survey.Goals as goal
 
@@ -43,4 +43,4 @@ returns-clause-extents g c =
     whole_survey roots paths c.args.footprint.now F c.add_paths-2.new.extents c.exclusive-exclusive.ensures.paths c.shared-shared.ensures.paths
     (adds_rest roots paths c.loop-index.index c.loop-index.next F empty c.loop-index.extents c.add_paths-2.new.extents c.loop-index-test.false
     c.loop-index.invariant.adds
-    (adds_behind paths c.loop-index.next F c.loop-index.extents c.add_paths-2.new.extents c.in_ok-add_paths-2.ensures))
+    (adds_rest_of_paths paths c.loop-index.next F c.loop-index.extents c.add_paths-2.new.extents c.in_ok-add_paths-2.ensures))

@@ -8,6 +8,8 @@ returns-in_err-push-clause-booked g c = rw c.in_err-push.ensures.err c.requires.
 
 pub returns-clause-booked : goal.returns-clause-booked
 returns-clause-booked g c =
-    let row : c.new-entry.result ≡ fresh_entry c.args.header.now c.args.metadata c.args.phase 0 [] 0 0 = rw (c.new-entry.ensures, c.new.ensures.items) refl in
-    rw (c.in_ok-push.ensures.ok, row) (final_booked (g.S.Filestore.state c.args.store.now) c.args.books.now c.requires.booked c.args.header.now c.args.metadata
+    let table_entry : c.new-entry.result ≡ fresh_entry c.args.header.now c.args.metadata c.args.phase 0 [] 0 0 = rw
+    (c.new-entry.ensures, c.new.ensures.items) refl in
+    rw (c.in_ok-push.ensures.ok, table_entry) (final_booked (g.S.Filestore.state c.args.store.now) c.args.books.now c.requires.booked c.args.header.now
+    c.args.metadata
     c.args.phase c.requires.over)

@@ -13,9 +13,9 @@ returns g c =
     let m = c.args.metadata.now in
     let known : IsFalse (has_file m && not (is_known_checksum m.checksum_type)) = elim c.else-names_file.branch [
       | else-names_file-via-then-names_file+else-not-is_known_checksum w ↦
-          let told : is_known_checksum m.checksum_type ≡ true = rw (← c.metadata.view_is) (sym w.is_known_checksum.ensures
+          let returned : is_known_checksum m.checksum_type ≡ true = rw (← c.metadata.view_is) (sym w.is_known_checksum.ensures
           ∙ w.if-not-is_known_checksum.false) in
-          file_known (has_file m) (is_known_checksum m.checksum_type) told
+          file_known (has_file m) (is_known_checksum m.checksum_type) returned
       | else-names_file-via-else-names_file w ↦ let none : has_file m ≡ false = sym c.names_file.ensures ∙ w.if-names_file.false in rw none refl
     ] in
     record {

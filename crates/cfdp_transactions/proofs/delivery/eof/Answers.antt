@@ -8,7 +8,7 @@ use Rattle.cfdp_transactions.specs.code.Books.{world_of}
 use Rattle.cfdp_transactions.proofs.KeptTable.Answering.{live_at, entry_is, carry}
 use Rattle.cfdp_transactions.proofs.KeptTable.EntryChanged.{slot_below}
 use Rattle.cfdp_transactions.proofs.Soundness.Turning.{empty_by_length}
-use Rattle.cfdp_transactions.proofs.KeptTable.EofAnswers.{eof_fault, eof_again, eof_first, eof_bare, eof_no_file, eof_size, eof_waits, eof_whole, is_wrong_size, received_size, whole_row}
+use Rattle.cfdp_transactions.proofs.KeptTable.EofAnswers.{eof_fault, eof_again, eof_first, eof_bare, eof_no_file, eof_size, eof_waits, eof_whole, is_wrong_size, received_size, whole_entry}
 use Rattle.cfdp_transactions.proofs.delivery.eof.Goals as goal
 
 pub end-requires-clause-live : goal.end-requires-clause-live
@@ -173,7 +173,7 @@ returns-then-not-is_whole-clause-answer g c = λ e there.
     let file : has_file r.metadata ≡ true = rw c.metadata.ensures at (sym c.names_file.ensures ∙ c.if-not-names_file.false) in
     let size = received_size s b c.requires.sound c.requires.booked k r at live in
     let wrong : is_wrong_size (world_of s b) c.args.eof (entry_in s.filestore r) ≡ false = rw size (sym c.has_wrong_size.ensures ∙ c.if-has_wrong_size.false) in
-    let all = whole_row s b c.requires.sound c.requires.booked k r at live c.args.eof.size ∙ sym c.is_whole.ensures ∙ c.if-not-is_whole.true in
+    let all = whole_entry s b c.requires.sound c.requires.booked k r at live c.args.eof.size ∙ sym c.is_whole.ensures ∙ c.if-not-is_whole.true in
     begin ∙ eof_waits _ _ k c.args.eof e there (rw same some) (rw same file) (rw same wrong) (rw same all)
     (rw same (rw c.is_complete-complete.ensures at c.turn-then-not-is_whole.ensures.turns))
 
@@ -203,6 +203,6 @@ returns-clause-answer g c = λ e there.
     let file : has_file r.metadata ≡ true = rw c.metadata.ensures at (sym c.names_file.ensures ∙ c.if-not-names_file.false) in
     let size = received_size s b c.requires.sound c.requires.booked k r at live in
     let wrong : is_wrong_size (world_of s b) c.args.eof (entry_in s.filestore r) ≡ false = rw size (sym c.has_wrong_size.ensures ∙ c.if-has_wrong_size.false) in
-    let all = whole_row s b c.requires.sound c.requires.booked k r at live c.args.eof.size ∙ sym c.is_whole.ensures ∙ c.if-not-is_whole.false in
+    let all = whole_entry s b c.requires.sound c.requires.booked k r at live c.args.eof.size ∙ sym c.is_whole.ensures ∙ c.if-not-is_whole.false in
     carry _ _ _ _ c.judge.ensures.answered (begin ∙ eof_whole _ k c.args.eof e (rw same some) (rw same file) (rw same wrong) (rw same all)
     ∙ c.judge.ensures.answer e there)

@@ -10,7 +10,7 @@ use Rattle.cfdp_transactions.specs.code.TableEntries.{entry_in}
 use Rattle.cfdp_transactions.specs.Delivery.{limit}
 use Rattle.cfdp_transactions.proofs.KeptTable.Answering.{live_at, entry_is}
 use Rattle.cfdp_transactions.proofs.KeptTable.DataAnswers.{stored_length, many_pieces, few_pieces, data_past, data_dropped, data_stored}
-use Rattle.cfdp_transactions.proofs.KeptTable.WorldOfTable.{row_at}
+use Rattle.cfdp_transactions.proofs.KeptTable.WorldOfTable.{table_entry_at}
 use Rattle.cfdp_transactions.proofs.Soundness.Needs.{data_live}
 use Rattle.cfdp_transactions.proofs.file_data.receive.Goals as goal
 
@@ -106,7 +106,7 @@ stage-requires-clause-taken g c =
     rw (c.ranges-2.ensures, offset, count) at (sym c.has_room_for.ensures ∙ c.if-not-has_room_for.false) in
     let below : p.offset + length p.octets ≤ limit r.phase b.config (entry_in s.filestore r) = ltb-false _ _ past in (
       entry_in s.filestore r,
-      row_at s.filestore b.table k r at,
+      table_entry_at s.filestore b.table k r at,
       record {
         opens = takes;
         some = more;

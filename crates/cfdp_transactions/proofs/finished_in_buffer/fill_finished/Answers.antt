@@ -2,10 +2,10 @@ use Rattle.std.proofs.Common.{rules, arith, ◌≡◌, ◌+◌, ◌-◌, ◌*◌
 use Rattle.std.specs.List.{flat_map}
 use Rattle.cfdp_pdus.specs.Bits.{digit}
 use Rattle.cfdp_pdus.specs.Canonical.{fault_location, finished_field, response_field}
-use Rattle.cfdp_pdus.specs.Placing.{with_octets_at}
+use Rattle.cfdp_pdus.specs.BufferParts.{with_octets_at}
 use Rattle.cfdp_pdus.specs.Values.{FinishedFields}
 use Rattle.cfdp_pdus.proofs.CanonicalSteps.{finished_short}
-use Rattle.cfdp_pdus.proofs.Placing.{then}
+use Rattle.cfdp_pdus.proofs.BufferParts.{then}
 use Rattle.cfdp_pdus.proofs.WriteSteps.{finished_len, pdu_len}
 use Rattle.cfdp_transactions.specs.code.FinishedInBuffer.{answered_with}
 use Rattle.cfdp_transactions.proofs.FinishedPdus.PutBefore.{header_before}

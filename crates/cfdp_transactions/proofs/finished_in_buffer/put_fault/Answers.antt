@@ -1,7 +1,7 @@
 use Rattle.std.proofs.Common.{arith, ◌≡◌, ◌∷◌, [], ◌+◌, ◌∙◌, ℕ, ap, sym, length, drop}
 use Rattle.cfdp_pdus.specs.Canonical.{location}
-use Rattle.cfdp_pdus.specs.Placing.{with_octets_at}
-use Rattle.cfdp_pdus.proofs.Placing.{then}
+use Rattle.cfdp_pdus.specs.BufferParts.{with_octets_at}
+use Rattle.cfdp_pdus.proofs.BufferParts.{then}
 use Rattle.cfdp_pdus.proofs.WriteSteps.{location_len}
 use Rattle.cfdp_transactions.proofs.finished_in_buffer.put_fault.Goals as goal
 

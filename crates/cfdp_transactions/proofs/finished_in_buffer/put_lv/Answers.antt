@@ -1,5 +1,5 @@
 use Rattle.std.proofs.Common.{arith, ◌∷◌, [], ◌+◌, length}
-use Rattle.cfdp_pdus.proofs.Placing.{then}
+use Rattle.cfdp_pdus.proofs.BufferParts.{then}
 use Rattle.cfdp_transactions.proofs.finished_in_buffer.put_lv.Goals as goal
 
 pub returns-clause-written : goal.returns-clause-written

@@ -1,8 +1,8 @@
 use Rattle.std.proofs.Common.{◌≡◌, ◌++◌, Option, Some, List, ℕ, arith, ap, ◌∙◌}
 use Rattle.cfdp_tlv.specs.Field.{lv}
 use Rattle.cfdp_tlv.specs.Grammar.{names_as_lv}
-use Rattle.cfdp_pdus.specs.Placing.{with_octets_at}
-use Rattle.cfdp_pdus.proofs.Placing.{then}
+use Rattle.cfdp_pdus.specs.BufferParts.{with_octets_at}
+use Rattle.cfdp_pdus.proofs.BufferParts.{then}
 use Rattle.cfdp_transactions.proofs.finished_in_buffer.put_names.Goals as goal
 
 pub returns-in-Some-clause-written : goal.returns-in-Some-clause-written

@@ -2,8 +2,8 @@ use Rattle.std.proofs.Common.{arith, ◌≡◌, ◌+◌, ◌-◌, ◌∷◌, [],
 use Rattle.std.proofs.lemmas.List.{length-append}
 use Rattle.cfdp_status.specs.Codes.{octet_of}
 use Rattle.cfdp_tlv.specs.Grammar.{names_as_lv, response_octets}
-use Rattle.cfdp_pdus.specs.Placing.{with_octets_at}
-use Rattle.cfdp_pdus.proofs.Placing.{then}
+use Rattle.cfdp_pdus.specs.BufferParts.{with_octets_at}
+use Rattle.cfdp_pdus.proofs.BufferParts.{then}
 use Rattle.cfdp_transactions.specs.Outcome.{answered}
 use Rattle.cfdp_transactions.proofs.FinishedPdus.PutBefore.{before}
 use Rattle.cfdp_transactions.proofs.finished_in_buffer.put_response.Goals as goal

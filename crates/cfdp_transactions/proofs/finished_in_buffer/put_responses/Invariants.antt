@@ -1,7 +1,7 @@
 use Rattle.std.proofs.Common.{◌≡◌, ◌+◌, true, length}
 use Rattle.std.specs.List.{flat_map, list_all}
 use Rattle.cfdp_pdus.specs.Canonical.{is_short_response, response_field}
-use Rattle.cfdp_pdus.specs.Placing.{with_octets_at}
+use Rattle.cfdp_pdus.specs.BufferParts.{with_octets_at}
 use Rattle.cfdp_transactions.specs.Outcome.{responses_of}
 use Rattle.cfdp_transactions.specs.code.TakenOutcome.{statuses_of}
 use Rattle.cfdp_transactions.proofs.FinishedPdus.ResponsesPut.{responses_from}

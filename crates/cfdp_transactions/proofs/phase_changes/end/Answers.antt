@@ -1,5 +1,5 @@
 use Rattle.std.proofs.Common.{arith}
-use Rattle.cfdp_transactions.proofs.KeptTable.EntryChanged.{live_row, slot_below, least_spent, most_spent, in_use, blocks-unstaged}
+use Rattle.cfdp_transactions.proofs.KeptTable.EntryChanged.{live_entry, slot_below, least_spent, most_spent, in_use, blocks-unstaged}
 use Rattle.cfdp_transactions.proofs.Indexes.{get_inside}
 use Rattle.cfdp_transactions.proofs.KeptTable.EntryEnded.{ended_world, ended_booked}
 use Rattle.cfdp_transactions.proofs.phase_changes.end.Goals as goal
@@ -10,7 +10,7 @@ gave-requires-clause-used g c =
     let b = c.args.books.now in
     let r = c.at-entry.result.now in
     let at = c.at-entry.ensures in
-    let live = live_row s b c.args.index r c.requires.live at in
+    let live = live_entry s b c.args.index r c.requires.live at in
     let given = rw c.slot-slot.ensures at c.unstage-given.ensures.ticks in
     omega (
       arith,
@@ -25,7 +25,7 @@ close-requires g c =
     let b = c.args.books.now in
     let r = c.at-entry.result.now in
     let at = c.at-entry.ensures in
-    rw c.slot-slot.ensures (slot_below s b c.requires.sound c.requires.booked c.args.index r at (live_row s b c.args.index r c.requires.live at))
+    rw c.slot-slot.ensures (slot_below s b c.requires.sound c.requires.booked c.args.index r at (live_entry s b c.args.index r c.requires.live at))
 
 pub end-requires-clause-within : goal.end-requires-clause-within
 end-requires-clause-within g c = get_inside _ _ _ c.at-entry.ensures
@@ -36,7 +36,7 @@ end-requires-clause-least g c =
     let b = c.args.books.now in
     let r = c.at-entry.result.now in
     let at = c.at-entry.ensures in
-    rw at (least_spent s b c.requires.sound c.requires.booked c.args.index r at (live_row s b c.args.index r c.requires.live at))
+    rw at (least_spent s b c.requires.sound c.requires.booked c.args.index r at (live_entry s b c.args.index r c.requires.live at))
 
 pub end-requires-clause-most : goal.end-requires-clause-most
 end-requires-clause-most g c =
@@ -44,7 +44,7 @@ end-requires-clause-most g c =
     let b = c.args.books.now in
     let r = c.at-entry.result.now in
     let at = c.at-entry.ensures in
-    rw at (most_spent s b c.requires.sound c.requires.booked c.args.index r at (live_row s b c.args.index r c.requires.live at))
+    rw at (most_spent s b c.requires.sound c.requires.booked c.args.index r at (live_entry s b c.args.index r c.requires.live at))
 
 pub returns-clause-ends : goal.returns-clause-ends
 returns-clause-ends g c =
@@ -54,7 +54,7 @@ returns-clause-ends g c =
     let at = c.at-entry.ensures in
     let given = rw c.slot-slot.ensures at c.unstage-given.ensures.ticks in
     rw (c.unstage-given.ensures.dropped, c.slot-slot.ensures, c.end.ensures r at)
-    (ended_world s b c.requires.sound c.requires.booked c.args.index r at (live_row s b c.args.index r c.requires.live at) c.args.condition c.args.by_eof
+    (ended_world s b c.requires.sound c.requires.booked c.args.index r at (live_entry s b c.args.index r c.requires.live at) c.args.condition c.args.by_eof
     c.unstage-given.result given)
 
 pub returns-clause-booked : goal.returns-clause-booked
@@ -69,5 +69,5 @@ returns-clause-booked g c =
     let back = rw c.slot-slot.ensures at c.close.ensures.spare in
     rw (c.unstage-given.ensures.dropped, c.slot-slot.ensures, c.end.ensures r at, c.release.ensures, c.name-transaction.ensures)
     (ended_booked s b c.requires.sound c.requires.booked c.args.index r at
-    (live_row s b c.args.index r c.requires.live at) c.args.condition c.args.by_eof c.unstage-given.result given
+    (live_entry s b c.args.index r c.requires.live at) c.args.condition c.args.by_eof c.unstage-given.result given
     c.gave.new.self c.close.new.self gave c.gave.ensures.spare close back)

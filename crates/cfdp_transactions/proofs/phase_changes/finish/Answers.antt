@@ -1,4 +1,4 @@
-use Rattle.cfdp_transactions.proofs.KeptTable.EntryChanged.{live_row, slot_below}
+use Rattle.cfdp_transactions.proofs.KeptTable.EntryChanged.{live_entry, slot_below}
 use Rattle.cfdp_transactions.proofs.KeptTable.EntryDone.{finished_world, finished_booked}
 use Rattle.cfdp_transactions.proofs.phase_changes.finish.Goals as goal
 
@@ -8,7 +8,7 @@ close-requires g c =
     let b = c.args.books.now in
     let r = c.at-entry.result.now in
     let at = c.at-entry.ensures in
-    let live = live_row s b c.args.index r c.requires.live at in
+    let live = live_entry s b c.args.index r c.requires.live at in
     rw c.slot-slot.ensures (slot_below s b c.requires.sound c.requires.booked c.args.index r at live)
 
 pub returns-clause-done : goal.returns-clause-done
@@ -17,7 +17,7 @@ returns-clause-done g c =
     let b = c.args.books.now in
     let r = c.at-entry.result.now in
     let at = c.at-entry.ensures in
-    let live = live_row s b c.args.index r c.requires.live at in
+    let live = live_entry s b c.args.index r c.requires.live at in
     rw (c.turn.ensures r at, c.eof-eof.ensures) (finished_world s b c.requires.sound c.requires.booked c.args.index r at live c.requires.bare)
 
 pub returns-clause-booked : goal.returns-clause-booked
@@ -26,7 +26,7 @@ returns-clause-booked g c =
     let b = c.args.books.now in
     let r = c.at-entry.result.now in
     let at = c.at-entry.ensures in
-    let live = live_row s b c.args.index r c.requires.live at in
+    let live = live_entry s b c.args.index r c.requires.live at in
     let close = rw c.slot-slot.ensures at c.close.ensures.closed in
     let back = rw c.slot-slot.ensures at c.close.ensures.spare in
     rw (c.turn.ensures r at, c.eof-eof.ensures, c.release.ensures, c.name-transaction.ensures)

@@ -56,8 +56,8 @@ act-requires-clause-succeeds g c =
     let there = sym (rw c.in-Some.is at c.item.ensures) in
     rw (c.protected.ensures, c.slot-slot.ensures) (succeeds c.requires.laws s b c.requires.sound c.requires.booked c.args.index r at n executing item there)
 
-pub settle_quota-requires-clause-slot : goal.settle_quota-requires-clause-slot
-settle_quota-requires-clause-slot g c =
+pub book_quota-requires-clause-slot : goal.book_quota-requires-clause-slot
+book_quota-requires-clause-slot g c =
     let s = g.S.Filestore.state c.args.store.now in
     let b = c.args.books.now in
     let r = c.at-entry.result.now in
@@ -66,8 +66,8 @@ settle_quota-requires-clause-slot g c =
     let executing : r.phase ≡ Executing n = cc in
     rw c.slot-slot.ensures (slot_below s b c.requires.sound c.requires.booked c.args.index r at (rw executing refl))
 
-pub settle_quota-requires-clause-opened : goal.settle_quota-requires-clause-opened
-settle_quota-requires-clause-opened g c =
+pub book_quota-requires-clause-opened : goal.book_quota-requires-clause-opened
+book_quota-requires-clause-opened g c =
     let s = g.S.Filestore.state c.args.store.now in
     let b = c.args.books.now in
     let r = c.at-entry.result.now in
@@ -78,8 +78,8 @@ settle_quota-requires-clause-opened g c =
     let there = sym (rw c.in-Some.is at c.item.ensures) in
     rw c.slot-slot.ensures (opened c.requires.laws s b c.requires.sound c.requires.booked c.args.index r at n executing item there)
 
-pub settle_quota-requires-clause-taken : goal.settle_quota-requires-clause-taken
-settle_quota-requires-clause-taken g c =
+pub book_quota-requires-clause-taken : goal.book_quota-requires-clause-taken
+book_quota-requires-clause-taken g c =
     let s = g.S.Filestore.state c.args.store.now in
     let b = c.args.books.now in
     let r = c.at-entry.result.now in
@@ -93,8 +93,8 @@ settle_quota-requires-clause-taken g c =
     rw (c.slot-slot.ensures, c.free-before.ensures.value, c.free-after.ensures.value, state)
     (taken_within c.requires.laws s b c.requires.sound c.requires.booked c.args.index r at n executing item there)
 
-pub settle_quota-requires-clause-given : goal.settle_quota-requires-clause-given
-settle_quota-requires-clause-given g c =
+pub book_quota-requires-clause-given : goal.book_quota-requires-clause-given
+book_quota-requires-clause-given g c =
     let s = g.S.Filestore.state c.args.store.now in
     let b = c.args.books.now in
     let r = c.at-entry.result.now in
@@ -108,8 +108,8 @@ settle_quota-requires-clause-given g c =
     rw (c.free-before.ensures.value, c.free-after.ensures.value, state) (given_within c.requires.laws s b c.requires.sound c.requires.booked c.args.index r at n
     executing item there)
 
-pub settle_quota-requires-clause-unused : goal.settle_quota-requires-clause-unused
-settle_quota-requires-clause-unused g c =
+pub book_quota-requires-clause-unused : goal.book_quota-requires-clause-unused
+book_quota-requires-clause-unused g c =
     let s = g.S.Filestore.state c.args.store.now in
     let b = c.args.books.now in
     let r = c.at-entry.result.now in
@@ -270,13 +270,13 @@ returns-then-last-clause-booked g c =
     let ticks_are = rw (c.protected.ensures, c.slot-slot.ensures, same) at c.in-Ok.ensures.ticks in
     let is_after = c.free-after.ensures.value ∙ ap free_blocks state in
     let is_last : (c.from.result + 1 == c.item_count.result) ≡ (suc n == length r.items) = rw (c.from.ensures, c.item_count.ensures, add-one) refl in
-    let settles = rw c.slot-slot.ensures at c.settle_quota.ensures in
+    let booking = rw c.slot-slot.ensures at c.book_quota.ensures in
     let close = rw c.slot-slot.ensures at c.close.ensures.closed in
     let back = rw c.slot-slot.ensures at c.close.ensures.spare in
     rw (state, c.advance.ensures r at, c.release.ensures, c.name-transaction.ensures)
     (booked_done c.requires.laws s b c.requires.sound c.requires.booked c.args.index r at n executing item there c.free-before.result c.free-after.result
     c.in-Ok.ticks (c.from.result + 1 == c.item_count.result) c.is_install-install.result c.free-before.ensures.value is_after ticks_are
-    c.is_install-install.ensures is_last c.settle_quota.new.quota settles c.close.new.self close back
+    c.is_install-install.ensures is_last c.book_quota.new.quota booking c.close.new.self close back
     (eq-eqb (c.from.result + 1) c.item_count.result c.if-last.true))
 
 pub returns-else-last-clause-booked : goal.returns-else-last-clause-booked
@@ -294,8 +294,8 @@ returns-else-last-clause-booked g c =
     let ticks_are = rw (c.protected.ensures, c.slot-slot.ensures, same) at c.in-Ok.ensures.ticks in
     let is_after = c.free-after.ensures.value ∙ ap free_blocks state in
     let is_last : (c.from.result + 1 == c.item_count.result) ≡ (suc n == length r.items) = rw (c.from.ensures, c.item_count.ensures, add-one) refl in
-    let settles = rw c.slot-slot.ensures at c.settle_quota.ensures in
+    let booking = rw c.slot-slot.ensures at c.book_quota.ensures in
     rw (state, c.advance.ensures r at) (booked_more c.requires.laws s b c.requires.sound c.requires.booked c.args.index r at n executing item there
     c.free-before.result c.free-after.result c.in-Ok.ticks (c.from.result
     + 1 == c.item_count.result) c.is_install-install.result c.free-before.ensures.value is_after ticks_are c.is_install-install.ensures is_last
-    c.settle_quota.new.quota settles (differ (c.from.result + 1) c.item_count.result c.if-last.false))
+    c.book_quota.new.quota booking (differ (c.from.result + 1) c.item_count.result c.if-last.false))

@@ -9,17 +9,17 @@ use Rattle.cfdp_transactions.proofs.taken_outcome.take_moved.Goals as goal
 pub returns-clause-answer : goal.returns-clause-answer
 returns-clause-answer g c =
     let s = g.S.Filestore.state c.args.store.now in
-    let row = c.at-entry.result.now in
-    let over : IsFalse (is_live row.phase) = sym (c.is_live.ensures ∙ ap is_live c.phase.ensures) ∙ c.if-is_live.false in
+    let table_entry = c.at-entry.result.now in
+    let over : IsFalse (is_live table_entry.phase) = sym (c.is_live.ensures ∙ ap is_live c.phase.ensures) ∙ c.if-is_live.false in
     let here = c.at-entry.ensures in
     let taken = c.take_out.ensures.taken in
-    let same : c.take_out.result ≡ row = cc in
-    let requests : c.into_requests-requests.result.items ≡ row.metadata.requests = c.into_requests-requests.ensures
+    let same : c.take_out.result ≡ table_entry = cc in
+    let requests : c.into_requests-requests.result.items ≡ table_entry.metadata.requests = c.into_requests-requests.ensures
     ∙ ap (λ (r : TableEntryFields). r.metadata.requests) same in
-    let performed : c.from-performed.result ≡ row.performed = c.from-performed.ensures ∙ c.performed.ensures in
-    let made : c.with_responses.result ≡ outcome_of (entry_in s.filestore row) =
+    let performed : c.from-performed.result ≡ table_entry.performed = c.from-performed.ensures ∙ c.performed.ensures in
+    let made : c.with_responses.result ≡ outcome_of (entry_in s.filestore table_entry) =
     c.with_responses.ensures ∙ rw (c.bare_outcome-outcome.ensures s.filestore, c.responses_to.ensures, requests, performed) refl in
-    rw c.take_out.ensures.rest (taken_answer s c.args.books.now c.requires.booked c.args.index row c.at-entry.ensures over c.with_responses.result made)
+    rw c.take_out.ensures.rest (taken_answer s c.args.books.now c.requires.booked c.args.index table_entry c.at-entry.ensures over c.with_responses.result made)
 
 pub returns-clause-booked : goal.returns-clause-booked
 returns-clause-booked g c =

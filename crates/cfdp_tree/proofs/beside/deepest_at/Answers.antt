@@ -3,7 +3,7 @@ use Rattle.cfdp_order.specs.Orders.{nodes}
 use Rattle.cfdp_order.proofs.TreeLaws.{no_nodes}
 use Rattle.cfdp_tree.specs.code.Nodes.{nodes_in}
 use Rattle.cfdp_tree.specs.code.Orders.{in_order}
-use Rattle.cfdp_tree.specs.code.Walk.{walks_at, most_names_in, StandAt}
+use Rattle.cfdp_tree.specs.code.Walk.{walks_at, most_names_in, AreAtDepth}
 use Rattle.cfdp_tree.proofs.OfWalks.OtherLaws.{longest_kept, longest_left, longest_within}
 use Rattle.cfdp_tree.proofs.OfWalks.WalkLaws.{read_below}
 use Rattle.cfdp_tree.proofs.beside.deepest_at.Goals as goal
@@ -32,7 +32,7 @@ pub deepest_in-requires-clause-deep : goal.deepest_in-requires-clause-deep
 deepest_in-requires-clause-deep c =
     let below = read_below (nodes_in c.args.arena.now) c.requires.tree c.args.orders.now c.requires.ordered (length c.args.others.now.directory.now + 1)
     c.args.node c.requires.deep c.from.result c.from.ensures c.index.result.now c.index.ensures in
-    subst (λ n. StandAt (nodes_in c.args.arena.now) (n + 1 + 1) (nodes c.args.orders.now.links.items c.index.result.now))
+    subst (λ n. AreAtDepth (nodes_in c.args.arena.now) (n + 1 + 1) (nodes c.args.orders.now.links.items c.index.result.now))
     (sym c.depth-depth.ensures.depth) below.deep_below
 
 -- the longest path at and below the entry

@@ -30,22 +30,22 @@ returns-clause-nodes c =
     written_nodes c.args.arena.now c.args.node.now c.bytes_mut-block.result.now c.set_sum.new.block c.requires.node c.bytes_mut-block.ensures.octets
     (c.set_sum.ensures.header ∙ c.set_size.ensures.header ∙ c.set_run.ensures.header)
 
-pub returns-clause-row : goal.returns-clause-row
-returns-clause-row c =
+pub returns-clause-fields : goal.returns-clause-fields
+returns-clause-fields c =
     let arena = c.args.arena.now in let b = c.args.node.now in let shown = c.bytes_mut-block.result.now in let contents = c.args.contents.now in
     ap node_fields_of (written_octets arena b shown c.set_sum.new.block c.requires.node c.bytes_mut-block.ensures.octets (c.set_sum.ensures.header
     ∙ c.set_size.ensures.header ∙ c.set_run.ensures.header))
-    ∙ c.set_sum.ensures.row
-    ∙ ap (λ (r : NodeFields). record r { sum = contents.sum }) c.set_size.ensures.row
-    ∙ ap (λ (r : NodeFields). record r { size = contents.size; sum = contents.sum }) c.set_run.ensures.row
+    ∙ c.set_sum.ensures.fields
+    ∙ ap (λ (r : NodeFields). record r { sum = contents.sum }) c.set_size.ensures.fields
+    ∙ ap (λ (r : NodeFields). record r { size = contents.size; sum = contents.sum }) c.set_run.ensures.fields
     ∙ ap (λ xs. with_contents (node_fields_of xs) contents) (node_octets arena b c.requires.node shown c.bytes_mut-block.ensures.octets)
 
 pub returns-clause-name : goal.returns-clause-name
 returns-clause-name c =
     let arena = c.args.arena.now in let b = c.args.node.now in let shown = c.bytes_mut-block.result.now in let new = c.set_sum.new.block in let run =
     c.args.contents.now.run in
-    let long = ap (λ (r : NodeFields). r.name_length) c.set_sum.ensures.row ∙ ap (λ (r : NodeFields). r.name_length) c.set_size.ensures.row
-    ∙ ap (λ (r : NodeFields). r.name_length) c.set_run.ensures.row ∙ run_keeps (λ (r : NodeFields). r.name_length) (node_fields_of shown) run refl in
+    let long = ap (λ (r : NodeFields). r.name_length) c.set_sum.ensures.fields ∙ ap (λ (r : NodeFields). r.name_length) c.set_size.ensures.fields
+    ∙ ap (λ (r : NodeFields). r.name_length) c.set_run.ensures.fields ∙ run_keeps (λ (r : NodeFields). r.name_length) (node_fields_of shown) run refl in
     let name : node_name new ≡ node_name shown = (λ k. take (long k) ((c.set_sum.ensures.name ∙ c.set_size.ensures.name ∙ c.set_run.ensures.name) k)) in
     ap node_name (written_octets arena b shown new c.requires.node c.bytes_mut-block.ensures.octets (c.set_sum.ensures.header ∙ c.set_size.ensures.header
     ∙ c.set_run.ensures.header))

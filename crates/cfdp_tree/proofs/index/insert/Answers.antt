@@ -10,7 +10,7 @@ use Rattle.cfdp_tree.specs.code.Tree.{Relinked}
 use Rattle.cfdp_tree.specs.code.Index.{no_head, bucket_of, head_count, IsIndex}
 use Rattle.cfdp_tree.proofs.OfRuns.Counts.{free_count-written}
 use Rattle.cfdp_tree.proofs.OfNodes.TreeLaws.{node_live}
-use Rattle.cfdp_tree.proofs.OfNodes.LinkLaws.{link_noted, link_row, link_name, link_links}
+use Rattle.cfdp_tree.proofs.OfNodes.LinkLaws.{link_noted, link_fields, link_name, link_links}
 use Rattle.cfdp_tree.proofs.OfRuns.SpareLaws.{runs_stay}
 use Rattle.cfdp_tree.proofs.OfIndex.HeadLaws.{head_here}
 use Rattle.cfdp_tree.proofs.OfIndex.InsertLaws.{inserted_beside, inserted}
@@ -63,15 +63,15 @@ returns-clause-index c =
     let same = head_here heads bucket head within c.index-heads-bucket.is in
     let not_full = c.if-head-eq-MOST_LISTED.false in
     let room : head.listed < 8 = omega (arith, not_full, (c.requires.index.each bucket within).few, ap (λ (h : ListHead). h.listed) same) in
-    let row = link_row arena b shown new head.first entry.node is e.row e.header e.name in
-    let noted = link_noted arena b shown new head.first entry.node is e.row e.header e.name in
-    let name = link_name arena b shown new head.first entry.node is e.row e.header e.name in
+    let fields = link_fields arena b shown new head.first entry.node is e.fields e.header e.name in
+    let noted = link_noted arena b shown new head.first entry.node is e.fields e.header e.name in
+    let name = link_name arena b shown new head.first entry.node is e.fields e.header e.name in
     subst (λ after. IsIndex after (slice_set heads bucket record { first = b; listed = head.listed + 1; unlisted = head.unlisted }) None) (sym noted)
     (inserted nodes heads b bucket within c.requires.index entry.node
     ((λ i. bucket_of (entry.there i) (entry.named i) (length heads)) ∙ sym c.bucket_of-bucket.ensures.bucket)
     head (sym same) new room
-    (ap (λ (r : NodeFields). r.same_head) row)
-    (ap (λ (r : NodeFields). if r.parent == b then None else Some r.parent) row)
+    (ap (λ (r : NodeFields). r.same_head) fields)
+    (ap (λ (r : NodeFields). if r.parent == b then None else Some r.parent) fields)
     name
     (omega (arith, live_within arena b (node_live arena b entry.node), c.free-free.ensures.capacity)))
 
@@ -80,8 +80,8 @@ returns-clause-links c =
     let arena = c.args.arena.now in let b = c.args.node.now in let entry = c.requires.entry in
     let new = c.set_same_head.new.block in let e = c.set_same_head.ensures in let shown = c.bytes_mut.result.now in let is = c.bytes_mut.ensures.octets in
     let first = c.index-heads-bucket.result.first in
-    subst (Relinked (nodes_in arena)) (sym (link_noted arena b shown new first entry.node is e.row e.header e.name))
-    (link_links arena b shown new first entry.node is e.row e.header e.name c.requires.tree e.whole)
+    subst (Relinked (nodes_in arena)) (sym (link_noted arena b shown new first entry.node is e.fields e.header e.name))
+    (link_links arena b shown new first entry.node is e.fields e.header e.name c.requires.tree e.whole)
 
 pub returns-clause-runs : goal.returns-clause-runs
 returns-clause-runs c = runs_stay c.args.arena.now c.args.node.now c.set_same_head.new.block c.requires.entry.node

@@ -18,7 +18,7 @@ loop-step-init c =
       nodes = subst (λ n. All (IsNode nodes) (index_chain nodes n head.first)) all c.requires.nodes;
       later = (λ some. c.requires.later (omega (arith, some)));
       left = (λ has. subst (λ n. Contains (index_chain nodes n head.first) c.args.node.now) all has);
-      behind = (λ b has. has);
+      following = (λ b has. has);
     }
 
 pub bytes-requires : goal.bytes-requires
@@ -53,7 +53,7 @@ loop-step-preserved c =
       later = (λ some. eqb-false c.same_head_of-next.result b (sym c.eq.ensures ∙ c.if-eq.false));
       left = (λ has. subst (λ xs. Contains xs b) rest_is
           (rest_has l.before (index_chain nodes m next) b (subst (λ xs. Contains xs b) list (l.invariant.left has)) (l.invariant.later (omega arith))));
-      behind = (λ x has. l.invariant.behind x (subst (λ n. Contains (index_chain nodes n l.before) x) (sym fewer)
+      following = (λ x has. l.invariant.following x (subst (λ n. Contains (index_chain nodes n l.before) x) (sym fewer)
           (has_later l.before (index_chain nodes (count - (l._step + 1)) next) x
           (subst (λ y. Contains (index_chain nodes (count - (l._step + 1)) y) x) (sym next_is) has))));
     }
@@ -74,7 +74,7 @@ returns-then-eq-clause-there c =
     let l = c.loop-step in let nodes = nodes_in c.args.arena.now in let count = c.args.head.now.listed in
     let m = count - (l._step + 1) in
     let more : count - l._step ≡ suc m = omega arith in
-    l.invariant.behind l.before (subst (λ n. Contains (index_chain nodes n l.before) l.before) (sym more)
+    l.invariant.following l.before (subst (λ n. Contains (index_chain nodes n l.before) l.before) (sym more)
     (has_first l.before (index_chain nodes m (node_fields_at nodes l.before).same_head)))
 
 pub returns-clause-none : goal.returns-clause-none

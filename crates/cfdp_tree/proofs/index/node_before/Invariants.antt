@@ -11,6 +11,6 @@ invariant-loop-step l = record {
   nodes : All (IsNode (nodes_in l.arena)) (index_chain (nodes_in l.arena) (l._step-end + 1 - l._step) l.before);
   later : 0 < l._step-end + 1 - l._step → l.before ≢ l.node;
   left : Contains (list_of (nodes_in l.arena) l.head) l.node → Contains (index_chain (nodes_in l.arena) (l._step-end + 1 - l._step) l.before) l.node;
-  behind : (b : ℕ) → Contains (index_chain (nodes_in l.arena) (l._step-end - l._step) l.before) b
+  following : (b : ℕ) → Contains (index_chain (nodes_in l.arena) (l._step-end - l._step) l.before) b
       → Contains (index_chain (nodes_in l.arena) (l.head.listed - 1) l.head.first) b;
 }

@@ -10,7 +10,7 @@ use Rattle.cfdp_tree.specs.code.Index.{index_chain, list_of, without_node}
 use Rattle.cfdp_tree.proofs.OfRuns.Counts.{free_count-written}
 use Rattle.cfdp_tree.proofs.OfNodes.TreeLaws.{node_live, node_octets}
 use Rattle.cfdp_tree.proofs.OfIndex.IndexLaws.{chain_some, once_first, kept_chain}
-use Rattle.cfdp_tree.proofs.OfNodes.LinkLaws.{link_noted, link_row, link_links, next_here, next_other}
+use Rattle.cfdp_tree.proofs.OfNodes.LinkLaws.{link_noted, link_fields, link_links, next_here, next_other}
 use Rattle.cfdp_tree.proofs.OfIndex.CutLaws.{without_first, without_all, cut_chain, in_list, in_nodes}
 use Rattle.cfdp_tree.proofs.OfRuns.SpareLaws.{runs_stay}
 use Rattle.cfdp_tree.proofs.index.take_out.Goals as goal
@@ -52,9 +52,10 @@ returns-clause-list c =
     in
     let some = chain_some nodes (head.listed - 1) head.first p before.there in
     let all : head.listed ≡ suc (head.listed - 1) = omega arith in
-    let linked = next_here nodes p new node ∙ ap (λ (r : NodeFields). r.same_head) (link_row arena p shown new link node is e.row e.header e.name) ∙ next_is in
+    let linked = next_here nodes p new node ∙ ap (λ (r : NodeFields). r.same_head) (link_fields arena p shown new link node is e.fields e.header e.name)
+    ∙ next_is in
     let once = subst (λ n. AllPairs (λ x y. x ≢ y) (index_chain nodes n head.first)) all c.requires.once in
-    ap (λ xs. index_chain xs (head.listed - 1) head.first) (link_noted arena p shown new link node is e.row e.header e.name)
+    ap (λ xs. index_chain xs (head.listed - 1) head.first) (link_noted arena p shown new link node is e.fields e.header e.name)
     ∙ cut_chain nodes p b before.before (with_block nodes p new) (next_other nodes p new node) linked (head.listed - 1) head.first once before.there
     ∙ ap (λ n. without_node b (index_chain nodes n head.first)) (sym all)
 
@@ -65,7 +66,7 @@ returns-clause-others c =
     let new = c.set_same_head.new.block in let e = c.set_same_head.ensures in let shown = c.bytes_mut.result.now in let is = c.bytes_mut.ensures.octets in
     let link = c.same_head_of-next.result in
     let node = in_nodes nodes head p before.there c.requires.nodes in
-    (λ other apart. ap (λ xs. index_chain xs other.listed other.first) (link_noted arena p shown new link node is e.row e.header e.name)
+    (λ other apart. ap (λ xs. index_chain xs other.listed other.first) (link_noted arena p shown new link node is e.fields e.header e.name)
     ∙ kept_chain nodes (with_block nodes p new) p (next_other nodes p new node) other.listed other.first
     (λ k d within same. apart k d within (subst (Contains (list_of nodes head)) same (in_list nodes head p before.there))))
 
@@ -75,8 +76,8 @@ returns-clause-links c =
     let new = c.set_same_head.new.block in let e = c.set_same_head.ensures in let shown = c.bytes_mut.result.now in let is = c.bytes_mut.ensures.octets in
     let link = c.same_head_of-next.result in
     let node = in_nodes (nodes_in arena) c.args.head.now p before.there c.requires.nodes in
-    subst (Relinked (nodes_in arena)) (sym (link_noted arena p shown new link node is e.row e.header e.name))
-    (link_links arena p shown new link node is e.row e.header e.name c.requires.tree e.whole)
+    subst (Relinked (nodes_in arena)) (sym (link_noted arena p shown new link node is e.fields e.header e.name))
+    (link_links arena p shown new link node is e.fields e.header e.name c.requires.tree e.whole)
 
 pub returns-clause-runs : goal.returns-clause-runs
 returns-clause-runs c =

@@ -1,13 +1,13 @@
 use Rattle.std.proofs.Common.{◌+◌, ◌*◌, ◌∙◌, set, get_or, arith}
 use Rattle.std.proofs.lemmas.List.{drop-set-lt}
-use Rattle.cfdp_tree.proofs.OfNodes.NodeFieldLaws.{row-summed}
+use Rattle.cfdp_tree.proofs.OfNodes.NodeFieldLaws.{fields-summed}
 use Rattle.cfdp_tree.proofs.node_block.set_sum.Goals as goal
 
-pub returns-clause-row : goal.returns-clause-row
-returns-clause-row c =
+pub returns-clause-fields : goal.returns-clause-fields
+returns-clause-fields c =
     let e = c.to_le_bytes.ensures in
     let is = (λ k. get_or (e k) 0 0 + 256 * get_or (e k) 1 0 + 65536 * (get_or (e k) 2 0 + 256 * get_or (e k) 3 0)) ∙ omega (arith, c.ranges.sum.fits) in
-    row-summed c.args.block.now c.told-block _ _ _ _ c.args.sum is
+    fields-summed c.args.block.now c.told-block _ _ _ _ c.args.sum is
 
 pub returns-clause-name : goal.returns-clause-name
 returns-clause-name c =

@@ -11,7 +11,7 @@ use Rattle.cfdp_tree.proofs.OfRuns.Counts.{free_count-taken}
 use Rattle.cfdp_tree.proofs.OfRuns.GrowLaws.{no_live, taken_written}
 use Rattle.cfdp_tree.proofs.OfNodes.TreeLaws.{node_live}
 use Rattle.cfdp_tree.proofs.OfRuns.SpareLaws.{runs_stay_taken}
-use Rattle.cfdp_tree.proofs.OfNodes.WriteLaws.{created_octets, created_nodes, home_told}
+use Rattle.cfdp_tree.proofs.OfNodes.WriteLaws.{created_octets, created_nodes, home_written}
 use Rattle.cfdp_tree.proofs.nodes.create_node.Goals as goal
 
 pub returns-clause-nodes : goal.returns-clause-nodes
@@ -21,12 +21,12 @@ returns-clause-nodes c =
     (sym (taken_written a t.new.arena b blank_block new t.ensures.zeros))
     (created_nodes a b new t.ensures.within (ap (λ (h : Header). h.kind) c.write_node.ensures.header))
 
-pub returns-clause-row : goal.returns-clause-row
-returns-clause-row c =
+pub returns-clause-fields : goal.returns-clause-fields
+returns-clause-fields c =
     let a = c.args.arena.now in let t = c.take_block-node in let b = t.result in let new = c.write_node.new.block in
     ap (λ later. node_fields_of (octets_of (nodes_in later) b)) (taken_written a t.new.arena b blank_block new t.ensures.zeros)
     ∙ ap node_fields_of (created_octets a b new t.ensures.within (ap (λ (h : Header). h.kind) c.write_node.ensures.header))
-    ∙ c.write_node.ensures.row
+    ∙ c.write_node.ensures.fields
     ∙ ap (λ parent. plain_fields parent c.args.kind c.args.name.now) c.unwrap_or-parent.ensures
 
 pub returns-clause-home : goal.returns-clause-home
@@ -34,7 +34,7 @@ returns-clause-home c =
     let a = c.args.arena.now in let t = c.take_block-node in let b = t.result in let directory = c.args.directory in
     let apart : directory ≢ Some b =
     (λ e. no_live (octets_at a b) t.ensures.was_free (node_live a b (subst (λ d. IfSome d (λ n. IsNode (nodes_in a) n)) e c.requires.directory))) in
-    ap (λ (r : NodeFields). if r.parent == b then None else Some r.parent) (returns-clause-row c) ∙ home_told directory b apart
+    ap (λ (r : NodeFields). if r.parent == b then None else Some r.parent) (returns-clause-fields c) ∙ home_written directory b apart
 
 pub returns-clause-name : goal.returns-clause-name
 returns-clause-name c =

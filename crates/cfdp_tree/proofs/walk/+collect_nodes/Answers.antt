@@ -4,7 +4,7 @@ use Rattle.std.specs.Prelude.{OnOk}
 use Rattle.cfdp_order.specs.declared.links.Order.{Order}
 use Rattle.cfdp_order.specs.Orders.{nodes, left_of, IsOrder}
 use Rattle.cfdp_tree.specs.code.Nodes.{nodes_in}
-use Rattle.cfdp_tree.specs.code.Walk.{walks_at, StandAt}
+use Rattle.cfdp_tree.specs.code.Walk.{walks_at, AreAtDepth}
 use Rattle.cfdp_tree.proofs.OfWalks.WalkLaws.{filled, read_parts, top_inside, falls_below, no_walk}
 use Rattle.cfdp_tree.proofs.walk.+collect_nodes.Goals as goal
 
@@ -45,7 +45,8 @@ collect_nodes-requires t c =
           c.requires.ordered,
           (
             subst (λ (o : Order). IsOrder c.args.orders.now.links.items o) (sym c.left.ensures) p.is_before,
-            subst (λ (o : Order). StandAt (nodes_in c.args.arena.now) c.args.depth (nodes c.args.orders.now.links.items o)) (sym c.left.ensures) p.deep_before,
+            subst (λ (o : Order). AreAtDepth (nodes_in c.args.arena.now) c.args.depth (nodes c.args.orders.now.links.items o)) (sym c.left.ensures)
+                p.deep_before,
           ),
         ),
       ),
@@ -77,7 +78,8 @@ collect_nodes-requires-3 t c =
           c.requires.ordered,
           (
             subst (λ (o : Order). IsOrder c.args.orders.now.links.items o) (sym c.right.ensures) p.is_after,
-            subst (λ (o : Order). StandAt (nodes_in c.args.arena.now) c.args.depth (nodes c.args.orders.now.links.items o)) (sym c.right.ensures) p.deep_after,
+            subst (λ (o : Order). AreAtDepth (nodes_in c.args.arena.now) c.args.depth (nodes c.args.orders.now.links.items o)) (sym c.right.ensures)
+                p.deep_after,
           ),
         ),
       ),
@@ -86,8 +88,8 @@ collect_nodes-requires-3 t c =
 -- what the last call adds
 added : {A E : Type 0} (r : Result A E) (new was : List ℕ) (list : List ℕ) (whole : List ℕ) → OnOk r (new ≡ was ++ list) → was ++ list ≡ whole →
     OnOk r (new ≡ whole)
-added (Ok x) new was list whole told same = told ∙ same
-added (Err e) new was list whole told same = tt
+added (Ok x) new was list whole described same = described ∙ same
+added (Err e) new was list whole described same = tt
 
 pub returns : goal.returns
 returns t c =

@@ -4,7 +4,7 @@ use Rattle.cfdp_order.specs.declared.links.Order.{Order}
 use Rattle.cfdp_tree.specs.declared.orders.Orders.{Orders}
 use Rattle.cfdp_order.specs.Orders.{nodes, left_of, right_of, IsOrder}
 use Rattle.cfdp_tree.specs.code.Nodes.{nodes_in}
-use Rattle.cfdp_tree.specs.code.Walk.{walks_at, most_names_in, StandAt}
+use Rattle.cfdp_tree.specs.code.Walk.{walks_at, most_names_in, AreAtDepth}
 use Rattle.cfdp_tree.proofs.OfWalks.WalkLaws.{filled, read_parts, top_inside, falls_below, no_walk, names_few}
 use Rattle.cfdp_tree.proofs.walk.+deepest_in.Goals as goal
 use Rattle.cfdp_tree.proofs.walk.+deepest_in.Goals.{then-is_empty-2, else-is_empty-2, then-is_empty-3, else-is_empty-3, then-is_empty-4, else-is_empty-4}
@@ -44,7 +44,7 @@ deepest_in-before-requires t c =
           c.requires.ordered,
           (
             subst (λ (o : Order). IsOrder c.args.orders.now.links.items o) (sym c.left-left.ensures) p.is_before,
-            subst (λ (o : Order). StandAt (nodes_in c.args.arena.now) c.args.depth (nodes c.args.orders.now.links.items o))
+            subst (λ (o : Order). AreAtDepth (nodes_in c.args.arena.now) c.args.depth (nodes c.args.orders.now.links.items o))
                 (sym c.left-left.ensures) p.deep_before,
           ),
         ),
@@ -77,7 +77,7 @@ deepest_in-after-requires t c =
           c.requires.ordered,
           (
             subst (λ (o : Order). IsOrder c.args.orders.now.links.items o) (sym c.right-right.ensures) p.is_after,
-            subst (λ (o : Order). StandAt (nodes_in c.args.arena.now) c.args.depth (nodes c.args.orders.now.links.items o))
+            subst (λ (o : Order). AreAtDepth (nodes_in c.args.arena.now) c.args.depth (nodes c.args.orders.now.links.items o))
                 (sym c.right-right.ensures) p.deep_after,
           ),
         ),
@@ -85,20 +85,20 @@ deepest_in-after-requires t c =
     )
 
 -- what a part adds: nothing if it is empty
-abbrev Told : Blocks → Orders → ℕ → Order → ℕ → Type 0
-Told now orders depth part value = (value ≡ most_names_in now (walks_at orders depth (nodes orders.links.items part))) × (value ≤ 8)
+abbrev PartAdds : Blocks → Orders → ℕ → Order → ℕ → Type 0
+PartAdds now orders depth part value = (value ≡ most_names_in now (walks_at orders depth (nodes orders.links.items part))) × (value ≤ 8)
 
-none_told : (now : Blocks) (orders : Orders) (depth : ℕ) (part : Order) (value : ℕ) → value ≡ 0 → part.height ≡ 0 → Told now orders depth part value
-none_told now orders depth part value zero empty = (zero ∙ ap (most_names_in now) (sym (no_walk orders (9 - depth) part empty)), omega (arith, zero))
+none_stated : (now : Blocks) (orders : Orders) (depth : ℕ) (part : Order) (value : ℕ) → value ≡ 0 → part.height ≡ 0 → PartAdds now orders depth part value
+none_stated now orders depth part value zero empty = (zero ∙ ap (most_names_in now) (sym (no_walk orders (9 - depth) part empty)), omega (arith, zero))
 
-some_told : (now : Blocks) (orders : Orders) (depth : ℕ) (part other : Order) (value result : ℕ) → value ≡ result → part ≡ other →
-    Told now orders depth part result → Told now orders depth other value
-some_told now orders depth part other value result is same told =
-    (is ∙ told.0 ∙ ap (λ (o : Order). most_names_in now (walks_at orders depth (nodes orders.links.items o))) same, omega (arith, is, told.1))
+some_stated : (now : Blocks) (orders : Orders) (depth : ℕ) (part other : Order) (value result : ℕ) → value ≡ result → part ≡ other →
+    PartAdds now orders depth part result → PartAdds now orders depth other value
+some_stated now orders depth part other value result is same described =
+    (is ∙ described.0 ∙ ap (λ (o : Order). most_names_in now (walks_at orders depth (nodes orders.links.items o))) same, omega (arith, is, described.1))
 
 none_at : (now : Blocks) (orders : Orders) (depth : ℕ) (part other : Order) (value : ℕ) → value ≡ 0 → part ≡ other → part.height ≡ 0 →
-    Told now orders depth other value
-none_at now orders depth part other value zero same empty = none_told now orders depth other value zero (sym (ap (λ (o : Order). o.height) same) ∙ empty)
+    PartAdds now orders depth other value
+none_at now orders depth part other value zero same empty = none_stated now orders depth other value zero (sym (ap (λ (o : Order). o.height) same) ∙ empty)
 
 -- nothing is longer than 8 names
 full : (depth below before after here whole : ℕ) → here ≡ max depth below → here ≡ 8 → whole ≡ max (max (max depth below) before) after → whole ≤ 8
@@ -119,9 +119,10 @@ returns-then-here-eq-MOST_NAMES-clause-value t c =
     let p = read_parts c.args.arena.now c.requires.tree c.args.orders.now c.requires.ordered c.free-free.ensures.capacity.1 c.args.order c.args.depth
     c.requires.order (filled c.is_empty.result c.args.order.height c.if-is_empty.false c.is_empty.ensures.1) c.requires.deep
     c.from.result c.from-2.result c.from.ensures c.from-2.ensures c.index.result.now c.index-2.result.now c.index.ensures c.index-2.ensures in
-    let below : Told now orders (depth + 1) c.index-2.result.now c.if-is_empty-2.below = elim c.if-is_empty-2.branch [
-      | then-is_empty-2 w ↦ none_told now orders (depth + 1) c.index-2.result.now c.if-is_empty-2.below w.below-is (c.is_empty-2.ensures.0 w.if-is_empty-2.true)
-      | else-is_empty-2 w ↦ some_told now orders (depth + 1) c.index-2.result.now c.index-2.result.now c.if-is_empty-2.below w.deepest_in-below.result
+    let below : PartAdds now orders (depth + 1) c.index-2.result.now c.if-is_empty-2.below = elim c.if-is_empty-2.branch [
+      | then-is_empty-2 w ↦ none_stated now orders (depth + 1) c.index-2.result.now c.if-is_empty-2.below w.below-is
+          (c.is_empty-2.ensures.0 w.if-is_empty-2.true)
+      | else-is_empty-2 w ↦ some_stated now orders (depth + 1) c.index-2.result.now c.index-2.result.now c.if-is_empty-2.below w.deepest_in-below.result
           w.below-is refl (w.deepest_in-below.ensures.value, w.deepest_in-below.ensures.within)
     ] in
     full _ _ _ _ _ _ (c.max-here.ensures ∙ ap (max depth) below.0) c.if-here-eq-MOST_NAMES.true p.longest_is
@@ -133,15 +134,16 @@ returns-then-sofar-eq-MOST_NAMES-clause-value t c =
     let p = read_parts c.args.arena.now c.requires.tree c.args.orders.now c.requires.ordered c.free-free.ensures.capacity.1 c.args.order c.args.depth
     c.requires.order (filled c.is_empty.result c.args.order.height c.if-is_empty.false c.is_empty.ensures.1) c.requires.deep
     c.from.result c.from-2.result c.from.ensures c.from-2.ensures c.index.result.now c.index-2.result.now c.index.ensures c.index-2.ensures in
-    let below : Told now orders (depth + 1) c.index-2.result.now c.if-is_empty-2.below = elim c.if-is_empty-2.branch [
-      | then-is_empty-2 w ↦ none_told now orders (depth + 1) c.index-2.result.now c.if-is_empty-2.below w.below-is (c.is_empty-2.ensures.0 w.if-is_empty-2.true)
-      | else-is_empty-2 w ↦ some_told now orders (depth + 1) c.index-2.result.now c.index-2.result.now c.if-is_empty-2.below w.deepest_in-below.result
+    let below : PartAdds now orders (depth + 1) c.index-2.result.now c.if-is_empty-2.below = elim c.if-is_empty-2.branch [
+      | then-is_empty-2 w ↦ none_stated now orders (depth + 1) c.index-2.result.now c.if-is_empty-2.below w.below-is
+          (c.is_empty-2.ensures.0 w.if-is_empty-2.true)
+      | else-is_empty-2 w ↦ some_stated now orders (depth + 1) c.index-2.result.now c.index-2.result.now c.if-is_empty-2.below w.deepest_in-below.result
           w.below-is refl (w.deepest_in-below.ensures.value, w.deepest_in-below.ensures.within)
     ] in
-    let before : Told now orders depth (left_of c.index.result.now) c.if-is_empty-3.before = elim c.if-is_empty-3.branch [
+    let before : PartAdds now orders depth (left_of c.index.result.now) c.if-is_empty-3.before = elim c.if-is_empty-3.branch [
       | then-is_empty-3 w ↦ none_at now orders depth c.left-left.result (left_of c.index.result.now) c.if-is_empty-3.before w.before-is c.left-left.ensures
           (c.is_empty-3.ensures.0 w.if-is_empty-3.true)
-      | else-is_empty-3 w ↦ some_told now orders depth c.left-left.result (left_of c.index.result.now) c.if-is_empty-3.before w.deepest_in-before.result
+      | else-is_empty-3 w ↦ some_stated now orders depth c.left-left.result (left_of c.index.result.now) c.if-is_empty-3.before w.deepest_in-before.result
           w.before-is c.left-left.ensures (w.deepest_in-before.ensures.value, w.deepest_in-before.ensures.within)
     ] in
     full_left _ _ _ _ _ _ _ (c.max-here.ensures ∙ ap (max depth) below.0) (c.max-sofar.ensures ∙ ap (max c.max-here.result) before.0)
@@ -153,21 +155,22 @@ returns-clause-value t c =
     let p = read_parts c.args.arena.now c.requires.tree c.args.orders.now c.requires.ordered c.free-free.ensures.capacity.1 c.args.order c.args.depth
     c.requires.order (filled c.is_empty.result c.args.order.height c.if-is_empty.false c.is_empty.ensures.1) c.requires.deep
     c.from.result c.from-2.result c.from.ensures c.from-2.ensures c.index.result.now c.index-2.result.now c.index.ensures c.index-2.ensures in
-    let below : Told now orders (depth + 1) c.index-2.result.now c.if-is_empty-2.below = elim c.if-is_empty-2.branch [
-      | then-is_empty-2 w ↦ none_told now orders (depth + 1) c.index-2.result.now c.if-is_empty-2.below w.below-is (c.is_empty-2.ensures.0 w.if-is_empty-2.true)
-      | else-is_empty-2 w ↦ some_told now orders (depth + 1) c.index-2.result.now c.index-2.result.now c.if-is_empty-2.below w.deepest_in-below.result
+    let below : PartAdds now orders (depth + 1) c.index-2.result.now c.if-is_empty-2.below = elim c.if-is_empty-2.branch [
+      | then-is_empty-2 w ↦ none_stated now orders (depth + 1) c.index-2.result.now c.if-is_empty-2.below w.below-is
+          (c.is_empty-2.ensures.0 w.if-is_empty-2.true)
+      | else-is_empty-2 w ↦ some_stated now orders (depth + 1) c.index-2.result.now c.index-2.result.now c.if-is_empty-2.below w.deepest_in-below.result
           w.below-is refl (w.deepest_in-below.ensures.value, w.deepest_in-below.ensures.within)
     ] in
-    let before : Told now orders depth (left_of c.index.result.now) c.if-is_empty-3.before = elim c.if-is_empty-3.branch [
+    let before : PartAdds now orders depth (left_of c.index.result.now) c.if-is_empty-3.before = elim c.if-is_empty-3.branch [
       | then-is_empty-3 w ↦ none_at now orders depth c.left-left.result (left_of c.index.result.now) c.if-is_empty-3.before w.before-is c.left-left.ensures
           (c.is_empty-3.ensures.0 w.if-is_empty-3.true)
-      | else-is_empty-3 w ↦ some_told now orders depth c.left-left.result (left_of c.index.result.now) c.if-is_empty-3.before w.deepest_in-before.result
+      | else-is_empty-3 w ↦ some_stated now orders depth c.left-left.result (left_of c.index.result.now) c.if-is_empty-3.before w.deepest_in-before.result
           w.before-is c.left-left.ensures (w.deepest_in-before.ensures.value, w.deepest_in-before.ensures.within)
     ] in
-    let after : Told now orders depth (right_of c.index.result.now) c.if-is_empty-4.after = elim c.if-is_empty-4.branch [
+    let after : PartAdds now orders depth (right_of c.index.result.now) c.if-is_empty-4.after = elim c.if-is_empty-4.branch [
       | then-is_empty-4 w ↦ none_at now orders depth c.right-right.result (right_of c.index.result.now) c.if-is_empty-4.after w.after-is c.right-right.ensures
           (c.is_empty-4.ensures.0 w.if-is_empty-4.true)
-      | else-is_empty-4 w ↦ some_told now orders depth c.right-right.result
+      | else-is_empty-4 w ↦ some_stated now orders depth c.right-right.result
           (right_of c.index.result.now) c.if-is_empty-4.after w.deepest_in-after.result w.after-is c.right-right.ensures (
             w.deepest_in-after.ensures.value,
             w.deepest_in-after.ensures.within,

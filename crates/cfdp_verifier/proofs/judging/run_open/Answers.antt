@@ -11,9 +11,9 @@ pub returns-then-not-branch : goal.returns-then-not-branch
 returns-then-not-branch g c =
     refused_at c.args.protected.now (g.S.Filestore.state c.args.store.now).filestore c.args.bound c.args.items.now.destination c.args.items.now.requests.items
     c.args.footprint.now (IsViewOf c.in_ok-view.view)
-    c.in_ok-view.ensures.told (IsViewOf c.install.new.self) c.in-Some.path c.in_ok-install.field-0
+    c.in_ok-view.ensures.stated (IsViewOf c.install.new.self) c.in-Some.path c.in_ok-install.field-0
     (installed_at c.args.protected.now c.in_ok-view.view c.install.new.self c.in-Some.path c.args.bound c.in_ok-install.field-0 c.in_ok-view.ensures.prefixes
-    c.in_ok-install.ensures.told) c.in-Some.is c.requires.footprint c.if-not-branch.true
+    c.in_ok-install.ensures.stated) c.in-Some.is c.requires.footprint c.if-not-branch.true
 
 pub returns-in_err-run_requests : goal.returns-in_err-run_requests
 returns-in_err-run_requests g c =
@@ -27,12 +27,12 @@ returns-in_err-run_requests g c =
       | in-Some+in_ok-install+else-not-branch w ↦ rw w.view-is (file_at c.args.protected.now
           (g.S.Filestore.state c.args.store.now).filestore c.args.bound c.args.items.now.destination c.args.items.now.requests.items c.args.footprint.now
           (IsViewOf c.in_ok-view.view)
-          c.in_ok-view.ensures.told (IsViewOf w.install.new.self) w.in-Some.path w.in_ok-install.field-0
+          c.in_ok-view.ensures.stated (IsViewOf w.install.new.self) w.in-Some.path w.in_ok-install.field-0
           (installed_at c.args.protected.now c.in_ok-view.view w.install.new.self w.in-Some.path c.args.bound w.in_ok-install.field-0
-          c.in_ok-view.ensures.prefixes w.in_ok-install.ensures.told) w.in-Some.is c.requires.footprint w.if-not-branch.false)
+          c.in_ok-view.ensures.prefixes w.in_ok-install.ensures.stated) w.in-Some.is c.requires.footprint w.if-not-branch.false)
       | in_default w ↦ rw w.view-is (no_file_at c.args.protected.now (g.S.Filestore.state c.args.store.now).filestore c.args.bound c.args.items.now.destination
           c.args.items.now.requests.items c.args.footprint.now (IsViewOf c.in_ok-view.view)
-          c.in_ok-view.ensures.told w.in_default.is c.requires.footprint c.requires.bound)
+          c.in_ok-view.ensures.stated w.in_default.is c.requires.footprint c.requires.bound)
     ] in
     let p = err_from_is_err_and c.from_residual-in_err-run_requests.result c.from_residual-in_err-run_requests.ensures.1 in
     let fault = c.in_err-run_requests.field-0.0 in
@@ -55,12 +55,12 @@ returns g c =
       | in-Some+in_ok-install+else-not-branch w ↦ rw w.view-is (file_at c.args.protected.now
           (g.S.Filestore.state c.args.store.now).filestore c.args.bound c.args.items.now.destination c.args.items.now.requests.items c.args.footprint.now
           (IsViewOf c.in_ok-view.view)
-          c.in_ok-view.ensures.told (IsViewOf w.install.new.self) w.in-Some.path w.in_ok-install.field-0
+          c.in_ok-view.ensures.stated (IsViewOf w.install.new.self) w.in-Some.path w.in_ok-install.field-0
           (installed_at c.args.protected.now c.in_ok-view.view w.install.new.self w.in-Some.path c.args.bound w.in_ok-install.field-0
-          c.in_ok-view.ensures.prefixes w.in_ok-install.ensures.told) w.in-Some.is c.requires.footprint w.if-not-branch.false)
+          c.in_ok-view.ensures.prefixes w.in_ok-install.ensures.stated) w.in-Some.is c.requires.footprint w.if-not-branch.false)
       | in_default w ↦ rw w.view-is (no_file_at c.args.protected.now (g.S.Filestore.state c.args.store.now).filestore c.args.bound c.args.items.now.destination
           c.args.items.now.requests.items c.args.footprint.now (IsViewOf c.in_ok-view.view)
-          c.in_ok-view.ensures.told w.in_default.is c.requires.footprint c.requires.bound)
+          c.in_ok-view.ensures.stated w.in_default.is c.requires.footprint c.requires.bound)
     ] in
     all_done c.args.protected.now (g.S.Filestore.state c.args.store.now).filestore (replicate c.args.bound 0)
     (items_of c.args.items.now.destination c.args.items.now.requests.items) c.args.items.now.requests.items

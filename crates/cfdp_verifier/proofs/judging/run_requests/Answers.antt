@@ -2,7 +2,7 @@ use Rattle.std.proofs.Common.{◌≡◌, ◌∙◌, refl, true, false, map}
 use Rattle.cfdp_status.specs.Codes.{is_successful}
 use Rattle.cfdp_actions.specs.Actions.{Perform, Performed}
 use Rattle.cfdp_states.specs.Views.{IsViewOf}
-use Rattle.cfdp_verifier.proofs.Running.{told_at, view_counts, goes_on, fails_at, ends}
+use Rattle.cfdp_verifier.proofs.Running.{answer_at, view_counts, goes_on, fails_at, ends}
 use Rattle.cfdp_verifier.proofs.judging.run_requests.Goals as goal
 
 pub returns-then-not-is_successful : goal.returns-then-not-is_successful
@@ -14,8 +14,8 @@ returns-then-not-is_successful c =
       fails_at c.args.view.now.prefixes F (map Perform c.args.requests.now) start high taken (IsViewOf c.loop-number.view)
           (IsViewOf c.apply.new.self) c.args.requests.now c.loop-number.number
           c.index-requests-number.result c.in_ok-status.status c.loop-number-test.true c.index-requests-number.is
-          (told_at c.args.view.now.prefixes c.loop-number.view c.apply.new.self (Perform c.index-requests-number.result)
-          (Performed c.in_ok-status.status) c.loop-number.invariant.0 c.in_ok-status.ensures.told) failed
+          (answer_at c.args.view.now.prefixes c.loop-number.view c.apply.new.self (Perform c.index-requests-number.result)
+          (Performed c.in_ok-status.status) c.loop-number.invariant.0 c.in_ok-status.ensures.stated) failed
           (c.loop-number.invariant.1 F start high taken seen within),
       refl,
     )
@@ -28,8 +28,8 @@ loop-number-preserved c =
           goes_on c.args.view.now.prefixes F (map Perform c.args.requests.now) start high taken (IsViewOf c.loop-number.view)
           (IsViewOf c.apply.new.self) c.args.requests.now c.loop-number.number
           c.index-requests-number.result c.in_ok-status.status c.loop-number-test.true c.index-requests-number.is
-          (told_at c.args.view.now.prefixes c.loop-number.view c.apply.new.self (Perform c.index-requests-number.result)
-          (Performed c.in_ok-status.status) c.loop-number.invariant.0 c.in_ok-status.ensures.told) done
+          (answer_at c.args.view.now.prefixes c.loop-number.view c.apply.new.self (Perform c.index-requests-number.result)
+          (Performed c.in_ok-status.status) c.loop-number.invariant.0 c.in_ok-status.ensures.stated) done
           (c.loop-number.invariant.1 F start high taken seen within),
     )
 

@@ -29,9 +29,9 @@ returns-then-not-branch g c =
     let listed : lent ≡ items_of d requests = λ i. items_of (c.as_ref-destination.ensures.value i) (c.deref.ensures.value i) in
     let seen : IsSparseViewOf v.view (items_of d requests) G (blocks G) (blocks G) 0 =
     subst (λ (items : List Item). IsSparseViewOf v.view items G (blocks G) (blocks G) 0) listed
-    (some_of (λ it. IsSparseViewOf it.view lent G (blocks G) (blocks G) 0) c.in_ok-made.made v c.in-Some.is c.in_ok-made.ensures.told) in
+    (some_of (λ it. IsSparseViewOf it.view lent G (blocks G) (blocks G) 0) c.in_ok-made.made v c.in-Some.is c.in_ok-made.ensures.stated) in
     refused_at_sparse prefixes F bound d requests fp v.view same seen c.install.new.self.view c.in-Some-destination.path c.in_ok-install.field-0
-    c.in_ok-install.ensures.told c.in-Some-destination.is c.requires.footprint c.if-not-branch.true
+    c.in_ok-install.ensures.stated c.in-Some-destination.is c.requires.footprint c.if-not-branch.true
 
 pub returns-in_err-run_requests_sparse : goal.returns-in_err-run_requests_sparse
 returns-in_err-run_requests_sparse g c =
@@ -48,7 +48,7 @@ returns-in_err-run_requests_sparse g c =
     let listed : lent ≡ items_of d requests = λ i. items_of (c.as_ref-destination.ensures.value i) (c.deref.ensures.value i) in
     let seen : IsSparseViewOf v.view (items_of d requests) G (blocks G) (blocks G) 0 =
     subst (λ (items : List Item). IsSparseViewOf v.view items G (blocks G) (blocks G) 0) listed
-    (some_of (λ it. IsSparseViewOf it.view lent G (blocks G) (blocks G) 0) c.in_ok-made.made v c.in-Some.is c.in_ok-made.ensures.told) in
+    (some_of (λ it. IsSparseViewOf it.view lent G (blocks G) (blocks G) 0) c.in_ok-made.made v c.in-Some.is c.in_ok-made.ensures.stated) in
     let u = c.match-items.view in
     let still : u.view.prefixes ≡ prefixes = elim c.match-items.branch [
       | in-Some-destination+in_ok-install+else-not-branch w ↦ rw w.view-is (w.in_ok-install.ensures.prefixes ∙ same)
@@ -58,7 +58,7 @@ returns-in_err-run_requests_sparse g c =
     elim c.match-items.branch [
       | in-Some-destination+in_ok-install+else-not-branch w ↦ rw w.view-is
           (file_at_sparse prefixes F bound d requests fp v.view same seen w.install.new.self.view w.in-Some-destination.path w.in_ok-install.field-0
-          w.in_ok-install.ensures.told w.in-Some-destination.is c.requires.footprint w.if-not-branch.false)
+          w.in_ok-install.ensures.stated w.in-Some-destination.is c.requires.footprint w.if-not-branch.false)
       | in_default-destination w ↦ rw w.view-is
           (no_file_at_sparse prefixes F bound d requests fp v.view same seen w.in_default-destination.is c.requires.footprint c.requires.bound)
     ] in
@@ -85,7 +85,7 @@ returns g c =
     let listed : lent ≡ items_of d requests = λ i. items_of (c.as_ref-destination.ensures.value i) (c.deref.ensures.value i) in
     let seen : IsSparseViewOf v.view (items_of d requests) G (blocks G) (blocks G) 0 =
     subst (λ (items : List Item). IsSparseViewOf v.view items G (blocks G) (blocks G) 0) listed
-    (some_of (λ it. IsSparseViewOf it.view lent G (blocks G) (blocks G) 0) c.in_ok-made.made v c.in-Some.is c.in_ok-made.ensures.told) in
+    (some_of (λ it. IsSparseViewOf it.view lent G (blocks G) (blocks G) 0) c.in_ok-made.made v c.in-Some.is c.in_ok-made.ensures.stated) in
     let u = c.match-items.view in
     let still : u.view.prefixes ≡ prefixes = elim c.match-items.branch [
       | in-Some-destination+in_ok-install+else-not-branch w ↦ rw w.view-is (w.in_ok-install.ensures.prefixes ∙ same)
@@ -95,7 +95,7 @@ returns g c =
     elim c.match-items.branch [
       | in-Some-destination+in_ok-install+else-not-branch w ↦ rw w.view-is
           (file_at_sparse prefixes F bound d requests fp v.view same seen w.install.new.self.view w.in-Some-destination.path w.in_ok-install.field-0
-          w.in_ok-install.ensures.told w.in-Some-destination.is c.requires.footprint w.if-not-branch.false)
+          w.in_ok-install.ensures.stated w.in-Some-destination.is c.requires.footprint w.if-not-branch.false)
       | in_default-destination w ↦ rw w.view-is
           (no_file_at_sparse prefixes F bound d requests fp v.view same seen w.in_default-destination.is c.requires.footprint c.requires.bound)
     ] in

@@ -68,11 +68,11 @@ static CLOSINGS: [Closing; 4] = [
 /// The fault, if any, and how many entries and seats are handed back.
 type HandedBack = (Option<Fault>, usize, usize);
 
-fn told_of_closed(closed: &Closed<TreeStore>) -> HandedBack {
+fn handed_by_closed(closed: &Closed<TreeStore>) -> HandedBack {
     (None, closed.journal.len(), closed.seats.len())
 }
 
-fn told_of_refused(refused: &NotClosed<TreeStore>) -> HandedBack {
+fn handed_by_refused(refused: &NotClosed<TreeStore>) -> HandedBack {
     let entries = refused.journaled.journal().len();
     (Some(refused.fault), entries, refused.seats.len())
 }
@@ -80,8 +80,8 @@ fn told_of_refused(refused: &NotClosed<TreeStore>) -> HandedBack {
 /// Closes with the seats.
 pub fn closed(journaled: JournaledTree, seats: Vec<Seat>) -> HandedBack {
     match close(journaled, seats) {
-        Ok(closed) => told_of_closed(&closed),
-        Err(refused) => told_of_refused(&refused),
+        Ok(closed) => handed_by_closed(&closed),
+        Err(refused) => handed_by_refused(&refused),
     }
 }
 
@@ -98,9 +98,9 @@ fn closes(rt: &(impl Abort + Wait), alloc: Global, closing: &Closing) -> Result<
     }
     seats.push(two)?;
     let handed_in = seats.len();
-    let told = closed(first.into_journaled(), seats);
+    let replied = closed(first.into_journaled(), seats);
     assert!(rt;
-        told == (closing.fault, entries, handed_in),
+        replied == (closing.fault, entries, handed_in),
         "{}",
         closing.name
     );

@@ -202,7 +202,7 @@ fn go_through(
 }
 
 /// What leases of no path show at their end.
-const NO_PATHS: &str = "paths: LeasedPaths { rows: {}, others: {} } }";
+const NO_PATHS: &str = "paths: LeasedPaths { by_hash: {}, others: {} } }";
 
 /// Goes through the rows with a pair of paths, and returns what the leases show after that. All that takes memory but
 /// the grants comes before them.

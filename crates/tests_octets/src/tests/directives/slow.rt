@@ -145,7 +145,7 @@ pub fn directive(octets: &[u8]) -> Result<Directive, PduFault> {
 }
 
 // The start and the end at an index of a NAK PDU's data field, of which the scope is the first.
-fn range(header: &Header, field: &[u8], index: usize) -> Range {
+fn range(header: &Header, field: &[u8], index: usize) -> NakRange {
     let len = offset_len(header.large);
     let at = index.wrapping_mul(2 * len).wrapping_add(1);
     (
@@ -155,7 +155,7 @@ fn range(header: &Header, field: &[u8], index: usize) -> Range {
 }
 
 /// The NAK PDU that the octets spell, read offset by offset.
-pub fn nak(octets: &[u8], requests: &mut [Range]) -> Result<Nak, NakFault> {
+pub fn nak(octets: &[u8], requests: &mut [NakRange]) -> Result<Nak, NakFault> {
     let Parts { header, field } = take_apart(octets)?;
     if octet(field, 0) != 8 {
         return Err(NakFault::Pdu(PduFault::BadDirective));

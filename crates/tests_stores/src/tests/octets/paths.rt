@@ -99,10 +99,10 @@ static AROUND_A_LONG_NAME: [(&str, AroundALongName); 8] = [
 ];
 
 /// The whole.
-fn around_a_long_name(alloc: Global, before: &[u8], behind: &[u8]) -> Result<Vec<u8>, Memory> {
+fn around_a_long_name(alloc: Global, before: &[u8], following: &[u8]) -> Result<Vec<u8>, Memory> {
     let mut octets = Vec::from_slice(alloc, before)?;
     octets.extend_from_slice(&[b'x'; LONGEST_NAME + 1])?;
-    octets.extend_from_slice(behind)?;
+    octets.extend_from_slice(following)?;
     Ok(octets)
 }
 
@@ -133,7 +133,7 @@ enum Relation {
 
 impl Relation {
     /// Whether such a path is at or below the other one, below it, and a child of it.
-    fn told(self) -> (bool, bool, bool) {
+    fn stated(self) -> (bool, bool, bool) {
         match self {
             Relation::Child => (true, true, true),
             Relation::Below => (true, true, false),
@@ -175,7 +175,7 @@ impl Row for Beside {
     fn holds(&self, alloc: Global) -> Result<bool, Memory> {
         let path = parsed(alloc, self.0)?;
         let other = parsed(alloc, self.1)?;
-        Ok(beside(&path, &other) == self.2.told())
+        Ok(beside(&path, &other) == self.2.stated())
     }
 }
 

@@ -83,7 +83,7 @@ static REQUESTS: [(&str, Asked); 12] = [
 ];
 
 // A response TLV, and its status, names and message.
-struct Told {
+struct ResponseParts {
     octets: &'static [u8],
     status: Status,
     first: &'static [u8],
@@ -91,10 +91,10 @@ struct Told {
     message: &'static [u8],
 }
 
-static RESPONSES: [(&str, Told); 14] = [
+static RESPONSES: [(&str, ResponseParts); 14] = [
     (
         "a file was created",
-        Told {
+        ResponseParts {
             octets: b"\x01\x04\x00\x01a\x00",
             status: Status::Successful(Action::CreateFile),
             first: b"a",
@@ -104,7 +104,7 @@ static RESPONSES: [(&str, Told); 14] = [
     ),
     (
         "create file was not allowed",
-        Told {
+        ResponseParts {
             octets: b"\x01\x04\x01\x01a\x00",
             status: Status::NotAllowed(Action::CreateFile),
             first: b"a",
@@ -114,7 +114,7 @@ static RESPONSES: [(&str, Told); 14] = [
     ),
     (
         "create file was not performed",
-        Told {
+        ResponseParts {
             octets: b"\x01\x04\x0f\x01a\x00",
             status: Status::NotPerformed(Action::CreateFile),
             first: b"a",
@@ -124,7 +124,7 @@ static RESPONSES: [(&str, Told); 14] = [
     ),
     (
         "a file was deleted",
-        Told {
+        ResponseParts {
             octets: b"\x01\x04\x10\x01a\x00",
             status: Status::Successful(Action::DeleteFile),
             first: b"a",
@@ -134,7 +134,7 @@ static RESPONSES: [(&str, Told); 14] = [
     ),
     (
         "delete file was not performed",
-        Told {
+        ResponseParts {
             octets: b"\x01\x04\x1f\x01a\x00",
             status: Status::NotPerformed(Action::DeleteFile),
             first: b"a",
@@ -144,7 +144,7 @@ static RESPONSES: [(&str, Told); 14] = [
     ),
     (
         "a directory was created",
-        Told {
+        ResponseParts {
             octets: b"\x01\x04\x50\x01d\x00",
             status: Status::Successful(Action::CreateDirectory),
             first: b"d",
@@ -154,7 +154,7 @@ static RESPONSES: [(&str, Told); 14] = [
     ),
     (
         "a file was created in a directory",
-        Told {
+        ResponseParts {
             octets: b"\x01\x06\x00\x03d/x\x00",
             status: Status::Successful(Action::CreateFile),
             first: b"d/x",
@@ -164,7 +164,7 @@ static RESPONSES: [(&str, Told); 14] = [
     ),
     (
         "remove directory was not allowed",
-        Told {
+        ResponseParts {
             octets: b"\x01\x04\x62\x01d\x00",
             status: Status::NotAllowed(Action::RemoveDirectory),
             first: b"d",
@@ -174,7 +174,7 @@ static RESPONSES: [(&str, Told); 14] = [
     ),
     (
         "a file in a directory was renamed",
-        Told {
+        ResponseParts {
             octets: b"\x01\x08\x20\x03d/x\x01b\x00",
             status: Status::Successful(Action::RenameFile),
             first: b"d/x",
@@ -184,7 +184,7 @@ static RESPONSES: [(&str, Told); 14] = [
     ),
     (
         "rename file was not performed",
-        Told {
+        ResponseParts {
             octets: b"\x01\x06\x2f\x01a\x01b\x00",
             status: Status::NotPerformed(Action::RenameFile),
             first: b"a",
@@ -194,7 +194,7 @@ static RESPONSES: [(&str, Told); 14] = [
     ),
     (
         "the second file of a replace does not exist",
-        Told {
+        ResponseParts {
             octets: b"\x01\x06\x42\x01b\x01c\x00",
             status: Status::ReplaceSecondAbsent,
             first: b"b",
@@ -204,7 +204,7 @@ static RESPONSES: [(&str, Told); 14] = [
     ),
     (
         "a directory was denied",
-        Told {
+        ResponseParts {
             octets: b"\x01\x04\x80\x01d\x00",
             status: Status::Successful(Action::DenyDirectory),
             first: b"d",
@@ -214,7 +214,7 @@ static RESPONSES: [(&str, Told); 14] = [
     ),
     (
         "an append, with a message",
-        Told {
+        ResponseParts {
             octets: b"\x01\x07\x30\x01b\x01b\x01m",
             status: Status::Successful(Action::AppendFile),
             first: b"b",
@@ -224,7 +224,7 @@ static RESPONSES: [(&str, Told); 14] = [
     ),
     (
         "a / in front",
-        Told {
+        ResponseParts {
             octets: b"\x01\x05\x00\x02/a\x00",
             status: Status::Successful(Action::CreateFile),
             first: b"/a",
@@ -303,14 +303,14 @@ fn written_response(
 }
 
 // Whether a response has the status, the names and the message of a row.
-fn tells(response: &FilestoreResponse, told: &Told) -> bool {
-    response.status() == told.status
-        && response.first() == told.first
-        && response.second() == told.second
-        && response.message() == told.message
+fn tells(response: &FilestoreResponse, stated: &ResponseParts) -> bool {
+    response.status() == stated.status
+        && response.first() == stated.first
+        && response.second() == stated.second
+        && response.message() == stated.message
 }
 
-impl Row for Told {
+impl Row for ResponseParts {
     fn holds(&self, alloc: Global) -> Result<bool, AllocError> {
         let response = response_in(alloc, self.octets)?;
         let out = written_response(alloc, b"x", &response)?;
@@ -466,5 +466,8 @@ fn appended(alloc: Global) -> Result<Vec<u8>, AllocError> {
 
 #[test]
 fn appended_field(rt: HostRuntime) {
-    assert!(rt; appended(rt.alloc()).as_deref() == Ok(b"x\x02ab".as_slice()));
+    assert!(rt;
+        appended(rt.alloc()).as_deref() == Ok(b"x\x02ab".as_slice()),
+        "an LV field after an octet"
+    );
 }

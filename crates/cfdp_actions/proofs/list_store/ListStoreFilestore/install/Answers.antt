@@ -6,7 +6,7 @@ use Rattle.cfdp_actions.specs.Store.{with_changes}
 use Rattle.cfdp_actions.specs.Listed.{vector_octets}
 use Rattle.cfdp_actions.specs.code.Listed.{shown_entries}
 use Rattle.cfdp_actions.specs.declared.content.Content.TheVariants as content
-use Rattle.cfdp_actions.proofs.ShownLaws.{found_some, found_absent, shown_put, shown_twice, put_stands}
+use Rattle.cfdp_actions.proofs.ShownLaws.{found_some, found_absent, shown_put, shown_twice, put_exists}
 use Rattle.cfdp_actions.proofs.StoreLaws.{seen_node, seen_staged, seen_free, octets_small, found_small, weight_unless, installed_store, installed_kept}
 use Rattle.cfdp_actions.proofs.list_store.ListStoreFilestore.install.Goals as goal
 
@@ -67,7 +67,7 @@ pub set-requires : goal.set-requires
 set-requires c =
     let es = c.self.inside.entries in
     let first = c.in_ok-insert.ensures.ok ∙ ap (λ k. put path_cmp k (content.File c.new.result) es) c.in_ok-copy.ensures in
-    put_stands c.args.path.now (content.File c.new.result) es c.insert.new.self first
+    put_exists c.args.path.now (content.File c.new.result) es c.insert.new.self first
 
 pub invariant_of-self-2 : goal.invariant_of-self-2
 invariant_of-self-2 c =

@@ -1,14 +1,14 @@
 use Rattle.std.proofs.Common.{is_some, sym, ap, ◌∙◌, ◌-◌, arith}
 use Rattle.cfdp_actions.specs.Filestore.{weight}
 use Rattle.cfdp_actions.specs.code.Listed.{shown_entries}
-use Rattle.cfdp_actions.proofs.ShownLaws.{found_some, shown_without, stands}
+use Rattle.cfdp_actions.proofs.ShownLaws.{found_some, shown_without, exists}
 use Rattle.cfdp_actions.proofs.StoreLaws.{seen_node, seen_gone, gone_kept, found_small, few_used}
 use Rattle.cfdp_actions.proofs.list_store.ListStoreFilestore.remove.Goals as goal
 
 pub unwrap-removed-requires : goal.unwrap-removed-requires
 unwrap-removed-requires c =
     ap is_some c.remove.ensures.value
-    ∙ stands c.args.path.now c.self.inside.entries (sym (ap is_some (seen_node _ _ _ _ c.self.invariant _ c.self.view_is c.args.path.now)) ∙ c.requires.present)
+    ∙ exists c.args.path.now c.self.inside.entries (sym (ap is_some (seen_node _ _ _ _ c.self.invariant _ c.self.view_is c.args.path.now)) ∙ c.requires.present)
 
 pub blocks-blocks-requires : goal.blocks-blocks-requires
 blocks-blocks-requires c =

@@ -6,7 +6,7 @@ use Rattle.cfdp_actions.specs.Store.{with_changes}
 use Rattle.cfdp_actions.specs.code.Listed.{shown_entries, entry_found}
 use Rattle.cfdp_actions.specs.declared.content.Content.TheVariants as content
 use Rattle.cfdp_actions.proofs.RowLaws.{blocks_of-small}
-use Rattle.cfdp_actions.proofs.ShownLaws.{found_some, shown_put, stands}
+use Rattle.cfdp_actions.proofs.ShownLaws.{found_some, shown_put, exists}
 use Rattle.cfdp_actions.proofs.StoreLaws.{seen_node, seen_put, seen_free, put_kept, octets_small, few_used, found_small, there_file, weight_there}
 use Rattle.cfdp_actions.proofs.list_store.ListStoreFilestore.replace.Goals as goal
 
@@ -21,7 +21,7 @@ blocks_of-taken-requires c =
     )
 
 pub exchange-old-requires : goal.exchange-old-requires
-exchange-old-requires c = stands c.args.first.now c.self.inside.entries (there_file _ _ _ _ c.self.invariant _ c.self.view_is c.args.first.now c.requires.first)
+exchange-old-requires c = exists c.args.first.now c.self.inside.entries (there_file _ _ _ _ c.self.invariant _ c.self.view_is c.args.first.now c.requires.first)
 
 pub blocks_of-given-requires : goal.blocks_of-given-requires
 blocks_of-given-requires c =

@@ -8,8 +8,8 @@ returns c =
     let items = c.self.inside.prefixes.items in
     let found = c.in_ok-get.ensures.lookup in
     let there : c.args.index < length items = omega (arith, found.3.0, ap length c.as_slice.ensures.value) in
-    let stands = present_at items c.args.index c.in_ok-get.field-0.now c.self.invariant there in
-    c.as_ref.ensures.value ∙ (rw c.as_slice.ensures.value at found.1) ∙ stands ∙ ap (λ paths. slice_get paths c.args.index) c.self.view_is
+    let exists = present_at items c.args.index c.in_ok-get.field-0.now c.self.invariant there in
+    c.as_ref.ensures.value ∙ (rw c.as_slice.ensures.value at found.1) ∙ exists ∙ ap (λ paths. slice_get paths c.args.index) c.self.view_is
 
 pub returns-in_err-get : goal.returns-in_err-get
 returns-in_err-get c =

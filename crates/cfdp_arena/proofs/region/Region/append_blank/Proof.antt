@@ -9,7 +9,7 @@ use Rattle.cfdp_arena.specs.Ownership.{Block}
 use Rattle.cfdp_arena.specs.code.Ownership.{block_type, blocks_own, region_owns}
 use Rattle.cfdp_arena.specs.contracts.region.Region as C
 use Rattle.cfdp_arena.specs.contracts.region.Region.append_blank as f
-use Rattle.cfdp_arena.proofs.Rows.{Fields, fields_told, row_append, blank_typed, blank_in}
+use Rattle.cfdp_arena.proofs.RegionBlocks.{Fields, fields_are_words, row_append, blank_typed, blank_in}
 use Rattle.cfdp_arena.proofs.region.Region.append_blank.Statement.{statement}
 use Rattle.cfdp_arena.proofs.region.Region.append_blank.Code as code
 
@@ -29,7 +29,7 @@ append_blank_spec 𝓤 𝓛 𝓜 𝓡 wired =
     qed 𝓛 (((‵ (flft κ q) ⊛ ‵ ftrue) ⊛ ‵ (owns (types_at f.ended.signature.params κs) a y.0.4)) ∷ raw (fact 𝓤 (i ≡ count)) ∷ raw (fact 𝓤 (i < d.room)) ∷ []) ∵
     move ! (1 ∷ 2 ∷ []) $ heard ! _ (λ next. heard ! _ (λ more. split ! $ split ! $ move ! (2 ∷ []) $ fsplit ! $ fsplit3 ! $ keep ! (1 ∷ 2 ∷ 4 ∷ []) $
     enter ! _ _ _ _ _ $ alloc_all ! (λ l. pass_all ! refl ((tt, tt), ((tt, record { fits = are.1.0.1 }), tt)) $
-    opens ! tt R b o (λ vs. move ! (1 ∷ []) $ fsplit ! $ peeks ! Fields (Is Fields) (shows 𝓛 Fields) (d.base, (d.room, tt)) vs (λ told. move ! (1 ∷ []) $
+    opens ! tt R b o (λ vs. move ! (1 ∷ []) $ fsplit ! $ peeks ! Fields (Is Fields) (shows 𝓛 Fields) (d.base, (d.room, tt)) vs (λ stated. move ! (1 ∷ []) $
     in_a_block ! d.base (λ p. region_owns p d.room d.blocks) (id⊢ 𝓤 (never 𝓤))
     (λ b' o' e. fsplit ! $ fsplit ! $ flt_l ! (λ few. flt_l ! (λ small. fsplit ! $ move ! (1 ∷ []) $ fsplit ! $
     let at = i * 128 + o' in let far : i * 128 < 2 ^ 64 = omega arith in let left : d.room - count ≡ suc (d.room - (i + 1)) = omega arith in
@@ -39,7 +39,8 @@ append_blank_spec 𝓤 𝓛 𝓜 𝓡 wired =
     use1 𝓛 (‵ (froom block_type b' at) ⊛ ‵ (froom (ty_array block_type (d.room - (i + 1))) b' (at + 128)))
     (𝓛.laws.room_uncons block_type (d.room - (i + 1)) b' at) $ split ! $
     -- [the room of one block; the room after it; the right; the blocks; what the fields own; the region's cell; the open borrow, in three entries]
-    let Cell = λ (ws : List Val). ‵ (cell_at full_share Fields.mir ws b o) in let word_is = fields_told d.base d.room vs told in rewrite ! 5 Cell word_is refl $
+    let Cell = λ (ws : List Val). ‵ (cell_at full_share Fields.mir ws b o) in let word_is = fields_are_words d.base d.room vs stated in rewrite ! 5 Cell
+    word_is refl $
     first ! $ blocks ! $
     sets ! (rep ! 128 (lit ! tt)) refl (blank_typed 𝓛 128).0 $
     sets ! (is ! (of_opd ! (load ! (through ! refl (fld ! refl (stop !))) (look_in ! 5 (sub ! 0 refl (whole !))))) (ap ptr_val e)) refl (tt, tt) $

@@ -5,7 +5,7 @@ use Rattle.core.proofs.mem.Facts.{says_two}
 use Rattle.cfdp_arena.specs.Ownership.{Block, region_lends}
 use Rattle.cfdp_arena.specs.contracts.region.Region as C
 use Rattle.cfdp_arena.specs.contracts.region.Region.block as f
-use Rattle.cfdp_arena.proofs.Rows.{Fields, fields_told, fields_open, block_seen}
+use Rattle.cfdp_arena.proofs.RegionBlocks.{Fields, fields_are_words, fields_open, block_seen}
 use Rattle.cfdp_arena.proofs.region.Region.block.Statement.{statement}
 use Rattle.cfdp_arena.proofs.region.Region.block.Code as code
 
@@ -35,8 +35,8 @@ block_spec 𝓤 𝓛 𝓜 𝓡 wired =
     fsplit ! $ feq_l ! (λ long. feq_i ! ℕ (length x) 128 long $ fjoin ! $ hide ! $ move ! (1 ∷ 2 ∷ []) $
     -- [what the `&` shows of the fields; the token; what it shows of the block]
     looks ! tt Fields (fields_open 𝓛) (d.base, (d.room, tt)) b o (λ q' vs.
-    move ! (1 ∷ []) $ peeks ! Fields (Is Fields) (shows 𝓛 Fields) (d.base, (d.room, tt)) vs (λ told.
-    let Cell = λ (ws : List Val). ‵ (cell_at q' Fields.mir ws b o) in let word_is = fields_told d.base d.room vs told in rewrite ! 1 Cell word_is refl $
+    move ! (1 ∷ []) $ peeks ! Fields (Is Fields) (shows 𝓛 Fields) (d.base, (d.room, tt)) vs (λ stated.
+    let Cell = λ (ws : List Val). ‵ (cell_at q' Fields.mir ws b o) in let word_is = fields_are_words d.base d.room vs stated in rewrite ! 1 Cell word_is refl $
     first ! $ blocks ! $
     sets ! (is ! (of_opd ! (load ! (through ! refl (fld ! refl (stop !))) (look_in ! 1 (sub ! 0 refl (whole !))))) (ap ptr_val e)) refl (tt, tt) $
     sets ! (bin ! (get ! refl) (lit ! tt) (record { fits = far })) refl (tt, record { fits = far }) $

@@ -9,7 +9,7 @@ use Rattle.cfdp_arena.specs.code.Ownership.{blocks_own, rest_own, region_owns}
 use Rattle.cfdp_arena.specs.code.Region.{with_block_octets}
 use Rattle.cfdp_arena.specs.contracts.region.Region as C
 use Rattle.cfdp_arena.specs.contracts.region.Region.block_mut as f
-use Rattle.cfdp_arena.proofs.Rows.{Fields, fields_told, block_out, block_in, block_whole, closed}
+use Rattle.cfdp_arena.proofs.RegionBlocks.{Fields, fields_are_words, block_out, block_in, block_whole, closed}
 use Rattle.cfdp_arena.proofs.region.Region.block_mut.Statement.{statement}
 use Rattle.cfdp_arena.proofs.region.Region.block_mut.Code as code
 
@@ -28,14 +28,15 @@ block_mut_spec 𝓤 𝓛 𝓜 𝓡 wired =
     qed 𝓛 (((‵ (flft κ q) ⊛ ‵ ftrue) ⊛ ‵ (owns (types_at f.ended.signature.params κs) a y.0.4)) ∷ raw (fact 𝓤 (i < length d.blocks)) ∷ []) ∵
     move ! (1 ∷ []) $ heard ! _ (λ within. split ! $ split ! $ move ! (2 ∷ []) $ fsplit ! $ fsplit3 ! $ keep ! (1 ∷ 2 ∷ 4 ∷ []) $
     enter ! _ _ _ _ _ $ alloc_all ! (λ l. pass_all ! refl ((tt, tt), ((tt, record { fits = are.1.0.1 }), tt)) $
-    opens ! tt R b o (λ vs. move ! (1 ∷ []) $ fsplit ! $ peeks ! Fields (Is Fields) (shows 𝓛 Fields) (d.base, (d.room, tt)) vs (λ told. move ! (1 ∷ []) $
+    opens ! tt R b o (λ vs. move ! (1 ∷ []) $ fsplit ! $ peeks ! Fields (Is Fields) (shows 𝓛 Fields) (d.base, (d.room, tt)) vs (λ stated. move ! (1 ∷ []) $
     in_a_block ! d.base (λ p. region_owns p d.room d.blocks) (id⊢ 𝓤 (never 𝓤)) (λ b' o' e. fsplit ! $ fsplit ! $ flt_l ! (λ few. flt_l ! (λ small. fsplit ! $
     let at = i * 128 + o' in let far : i * 128 < 2 ^ 64 = omega arith in
     let Others = others (shares Block) full_share d.blocks i b' o' in
     use1 𝓛 (‵ (part_at Block full_share x b' at) ⊛ ‵ Others) (block_out 𝓛 b' o' d.blocks i within) $ split ! $
     use1 𝓛 (given (length x ≡ 128) (‵ (part_at Block full_share x b' at))) (block_whole 𝓛 x b' at) $ learn ! (λ long.
     -- [the block; the other blocks; the room and the right; what the fields own; the region's cell; the open borrow, in three entries]
-    let Cell = λ (ws : List Val). ‵ (cell_at full_share Fields.mir ws b o) in let word_is = fields_told d.base d.room vs told in rewrite ! 4 Cell word_is refl $
+    let Cell = λ (ws : List Val). ‵ (cell_at full_share Fields.mir ws b o) in let word_is = fields_are_words d.base d.room vs stated in rewrite ! 4 Cell
+    word_is refl $
     first ! $ blocks ! $
     sets ! (is ! (of_opd ! (load ! (through ! refl (fld ! refl (stop !))) (look_in ! 4 (sub ! 0 refl (whole !))))) (ap ptr_val e)) refl (tt, tt) $
     sets ! (bin ! (get ! refl) (lit ! tt) (record { fits = far })) refl (tt, record { fits = far }) $

@@ -16,7 +16,7 @@ use Rattle.cfdp_arena.specs.code.Ownership.{blocks_own, rest_own, region_owns}
 use Rattle.cfdp_arena.specs.code.Region.{with_front}
 use Rattle.cfdp_arena.specs.contracts.region.Region as C
 use Rattle.cfdp_arena.specs.contracts.region.Region.front_mut as f
-use Rattle.cfdp_arena.proofs.Rows.{Fields, fields_told, front_out, front_in, closed}
+use Rattle.cfdp_arena.proofs.RegionBlocks.{Fields, fields_are_words, front_out, front_in, closed}
 use Rattle.cfdp_arena.proofs.region.Region.front_mut.Statement.{statement}
 use Rattle.cfdp_arena.proofs.region.Region.front_mut.Code as code
 
@@ -35,13 +35,14 @@ front_mut_spec 𝓤 𝓛 𝓜 𝓡 wired =
     qed 𝓛 (((‵ (flft κ q) ⊛ ‵ ftrue) ⊛ ‵ (owns (types_at f.ended.signature.params κs) a y.0.4)) ∷ raw (fact 𝓤 (n ≤ length d.blocks)) ∷ []) ∵
     move ! (1 ∷ []) $ heard ! _ (λ within. split ! $ split ! $ move ! (2 ∷ []) $ fsplit ! $ fsplit3 ! $ keep ! (1 ∷ 2 ∷ 4 ∷ []) $
     enter ! _ _ _ _ _ $ alloc_all ! (λ l. pass_all ! refl ((tt, tt), ((tt, record { fits = are.1.0.1 }), tt)) $
-    opens ! tt R b o (λ vs. move ! (1 ∷ []) $ fsplit ! $ peeks ! Fields (Is Fields) (shows 𝓛 Fields) (d.base, (d.room, tt)) vs (λ told. move ! (1 ∷ []) $
+    opens ! tt R b o (λ vs. move ! (1 ∷ []) $ fsplit ! $ peeks ! Fields (Is Fields) (shows 𝓛 Fields) (d.base, (d.room, tt)) vs (λ stated. move ! (1 ∷ []) $
     in_a_block ! d.base (λ p. region_owns p d.room d.blocks) (id⊢ 𝓤 (never 𝓤)) (λ b' o' e. fsplit ! $ fsplit ! $ flt_l ! (λ few. flt_l ! (λ small. fsplit ! $
     let long : length xs ≡ n = length-take-le n d.blocks within in
     let roomy : length xs < 2 ^ 64 = omega arith in let fitting : length xs * 128 < 2 ^ 63 = omega arith in
     use1 𝓛 (‵ (cells (mem Block) xs b' o') ⊛ ‵ (cells (mem Block) zs b' (n * 128 + o'))) (front_out 𝓛 b' o' d.blocks n within) $ split ! $
     -- [the first blocks; those after them; the room and the right; what the fields own; the region's cell; the open borrow, in three entries]
-    let Cell = λ (ws : List Val). ‵ (cell_at full_share Fields.mir ws b o) in let word_is = fields_told d.base d.room vs told in rewrite ! 4 Cell word_is refl $
+    let Cell = λ (ws : List Val). ‵ (cell_at full_share Fields.mir ws b o) in let word_is = fields_are_words d.base d.room vs stated in rewrite ! 4 Cell
+    word_is refl $
     first ! $ blocks ! $
     sets ! (is ! (of_opd ! (load ! (through ! refl (fld ! refl (stop !))) (look_in ! 4 (sub ! 0 refl (whole !))))) (ap ptr_val e)) refl (tt, tt) $
     sets_last ! (agg ! (and_then ! (get ! refl) (and_then ! (get ! refl) (no_more !)))) refl (tt, (tt, (record { fits = are.1.0.1 }, tt))) $

@@ -13,7 +13,7 @@ use Rattle.cfdp_arena.specs.code.Ownership.{region_owns}
 use Rattle.cfdp_arena.specs.contracts.region.Region as C
 use Rattle.cfdp_arena.specs.contracts.region.Region.release as f
 use Rattle.cfdp_arena.proofs.Heap.{region_type, region_size, Gives, at_gives, gives_goes, gives_gives}
-use Rattle.cfdp_arena.proofs.Rows.{word, word_good, fields_fit, region_told, blocks_room}
+use Rattle.cfdp_arena.proofs.RegionBlocks.{word, word_good, fields_fit, region_is_word, blocks_room}
 use Rattle.cfdp_arena.proofs.region.Region.release.Statement.{statement}
 use Rattle.cfdp_arena.proofs.region.Region.release.Code as code
 
@@ -28,7 +28,7 @@ release_spec 𝓤 𝓛 𝓜 𝓡 wired =
       (Goes-dropped 𝓛 1 (RefOf (0 ∷ []) tt (plain (λ _. HP.the_row)) (λ _. tt)) yes (λ κs x w. refl), tt),
     )
     f.Key.name code.function (code.unfolded 𝓤 𝓛.H 𝓜 𝓡 wired)
-    (λ κs. ((λ d. word d.base d.room ∷ []), (shr_vals, tt))) (λ κs. (region_told 𝓛, (shr_Tells (named 0) κs.0 HP.the_row, tt))) (λ κs qs bounds a _ are.
+    (λ κs. ((λ d. word d.base d.room ∷ []), (shr_vals, tt))) (λ κs. (region_is_word 𝓛, (shr_Tells (named 0) κs.0 HP.the_row, tt))) (λ κs qs bounds a _ are.
     let κ = κs.0 in let q = qs.0 in let d = a.0 in let room = d.room in let p = a.1.0.ref_ptr in let τ = region_type room in let count = length d.blocks in
     let y : W.Ghost = ((κs, qs, bounds, a, (word d.base room ∷ [], (vptr p.0 p.1 ∷ [], tt))), tt) in
     qed 𝓛 (((‵ (flft κ q) ⊛ ‵ ftrue) ⊛ ‵ (owns (types_at f.ended.signature.params κs) a y.0.4)) ∷ ‵ ftrue ∷ []) ∵

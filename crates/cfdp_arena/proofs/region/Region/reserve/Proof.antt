@@ -26,7 +26,7 @@ use Rattle.cfdp_arena.specs.code.Ownership.{block_type}
 use Rattle.cfdp_arena.specs.contracts.region.Region as C
 use Rattle.cfdp_arena.specs.contracts.region.Region.reserve as f
 use Rattle.cfdp_arena.proofs.Heap.{region_type, region_size, Takes, at_takes, takes_goes, takes_gives, Answered, answers}
-use Rattle.cfdp_arena.proofs.Rows.{Fields, word, fields_made}
+use Rattle.cfdp_arena.proofs.RegionBlocks.{Fields, word, fields_made}
 use Rattle.cfdp_arena.proofs.region.Region.reserve.Statement.{statement}
 use Rattle.cfdp_arena.proofs.region.Region.reserve.Code as code
 

@@ -16,7 +16,7 @@ use denote.Triple.Walked.{Stays, stay_dropped, walk_of}
 use Rattle.core.proofs.alloc.Calls.{Goes-blank}
 use Rattle.std.proofs.raw_atomic.Walks.{proved_at, leaves}
 use Rattle.std.specs.Prelude.{IsNone}
-use Rattle.cfdp_c.proofs.Values.{slot_val, slot_told, slot_typed}
+use Rattle.cfdp_c.proofs.Values.{slot_val, slot_fields, slot_typed}
 use Rattle.cfdp_c.specs.contracts.receiver_slot.ReceiverSlot as slot
 use Rattle.cfdp_c.specs.contracts.receiver_slot.ReceiverSlot.discard as f
 use Rattle.cfdp_c.proofs.receiver_slot.ReceiverSlot.discard.Statement.{statement}
@@ -30,11 +30,11 @@ discard_spec 𝓤 𝓛 𝓜 𝓡 wired =
     (code.unfolded 𝓤 𝓛.H 𝓜 𝓡 wired) (λ z are.
     let s = z.0.3.0 in let Post : Val → SProp 𝓤 = (walk_of 𝓛 f.ended hs c).post z in let Run : List Val → SProp 𝓤 =
     λ ws. WpFn 𝓤 𝓛.H 𝓣.C 𝓣.Λ code.function ws Post in
-    let told = slot_told s.at z.0.4.0 are.0.0 in
+    let reported = slot_fields s.at z.0.4.0 are.0.0 in
     qed 𝓛 ((raw (alive 𝓛 f.ended.signature z.0.0 z.0.1) ⊛ ‵ (owns (types_at f.ended.signature.params z.0.0) z.0.3 z.0.4)) ∷ raw
     (fact 𝓤 (IsNone s.receiver)) ∷ []) ∵
     split ! $ keep ! (0 ∷ []) $
-    suffices ! (Run (slot_val s.at ∷ [])) (subst (λ (us : List Val). ent 𝓤 (Run (slot_val s.at ∷ [])) (Run us)) (sym (λ i. told i ++ [])) (id⊢ 𝓤 _)) $
+    suffices ! (Run (slot_val s.at ∷ [])) (subst (λ (us : List Val). ent 𝓤 (Run (slot_val s.at ∷ [])) (Run us)) (sym (λ i. reported i ++ [])) (id⊢ 𝓤 _)) $
     enter ! 𝓣.C 𝓣.Λ code.function (slot_val s.at ∷ []) Post $
     alloc_all ! (λ l. pass_all ! refl (slot_typed s.at, tt) $
     sets ! (of_opd ! (unit_lit !)) refl (tt, tt) $

@@ -31,7 +31,7 @@ use Rattle.cfdp_c.proofs.Boxes.{both, RawBox, raw_box_good, raw_box_in}
 use Rattle.cfdp_reception.specs.contracts.reception.Reception as T
 use Rattle.cfdp_c.specs.code.Ownership.{box_freeing}
 use Rattle.cfdp_c.specs.code.ReceiverOwnership.{receiver_owns}
-use Rattle.cfdp_c.proofs.Values.{slot_val, slot_told, slot_typed, content_of, content_is}
+use Rattle.cfdp_c.proofs.Values.{slot_val, slot_fields, slot_typed, content_of, content_is}
 use Rattle.cfdp_c.specs.contracts.receiver_slot.ReceiverSlot as slot
 use Rattle.cfdp_c.specs.contracts.receiver_slot.ReceiverSlot.into_raw_box as f
 use Rattle.cfdp_c.proofs.receiver_slot.ReceiverSlot.into_raw_box.Statement.{statement}
@@ -51,7 +51,7 @@ into_raw_box_spec 𝓤 𝓛 𝓜 𝓡 wired =
     ) f.Key.name code.function (code.unfolded 𝓤 𝓛.H 𝓜 𝓡 wired) (λ z are.
     let s = z.0.3.0 in let alloc = z.0.3.1.0 in let Post : Val → SProp 𝓤 = (walk_of 𝓛 f.ended hs c).post z in let Run : List Val → SProp 𝓤 =
     λ ws. WpFn 𝓤 𝓛.H 𝓣.C 𝓣.Λ code.function ws Post in
-    let told = slot_told s.at z.0.4.0 are.0.0 in
+    let reported = slot_fields s.at z.0.4.0 are.0.0 in
     qed 𝓛 ((raw (alive 𝓛 f.ended.signature z.0.0 z.0.1) ⊛ ‵ (owns (types_at f.ended.signature.params z.0.0) z.0.3 z.0.4)) ∷ raw
     (fact 𝓤 (IsSome s.receiver)) ∷ []) ∵
     move ! (1 ∷ []) $ heard ! (IsSome s.receiver) (λ has. let t = content_of s.receiver has in
@@ -62,7 +62,7 @@ into_raw_box_spec 𝓤 𝓛 𝓜 𝓡 wired =
     move ! (1 ∷ []) $ fsplit ! $ handle_tells handles ! alloc z.0.4.1.0 (λ h eh fits.
     -- [the handle; nothing; the block; the tokens]
     let x : (RawBox T.the_row G.the_row GL.the_row_laws ghosts).Denot = record { at = block_ptr b o; alloc = alloc; value = t } in
-    let ws : z.0.4.0 ++ (z.0.4.1.0 ++ []) ≡ slot_val (block_ptr b o) ∷ h ∷ [] = λ i. (told ∙ ap (λ (p : Ptr). slot_val p ∷ []) e) i ++ (eh i ++ []) in
+    let ws : z.0.4.0 ++ (z.0.4.1.0 ++ []) ≡ slot_val (block_ptr b o) ∷ h ∷ [] = λ i. (reported ∙ ap (λ (p : Ptr). slot_val p ∷ []) e) i ++ (eh i ++ []) in
     suffices ! (Run (slot_val (block_ptr b o) ∷ h ∷ [])) (subst (λ (us : List Val). ent 𝓤 (Run (slot_val (block_ptr b o) ∷ h ∷ [])) (Run us)) (sym ws)
     (id⊢ 𝓤 _)) $
     enter ! 𝓣.C 𝓣.Λ code.function (slot_val (block_ptr b o) ∷ h ∷ []) Post $

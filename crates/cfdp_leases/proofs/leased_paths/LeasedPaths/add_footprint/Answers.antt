@@ -12,16 +12,16 @@ use Rattle.cfdp_leases.proofs.leased_paths.LeasedPaths.add_footprint.Goals as go
 use Rattle.cfdp_actions.proofs.StagedLaws.{on_err}
 
 pub returns-in_err-add_all_new-clause-err : goal.returns-in_err-add_all_new-clause-err
-returns-in_err-add_all_new-clause-err c = λ holders rows free.
+returns-in_err-add_all_new-clause-err c = λ holders by_hash free.
     let fp = c.args.footprint.now in
     let xs = c.exclusive.result.now in
     on_err c.from_residual.result _
     (some_wider c.args.transaction (λ p. list_any (same_path p) xs) (set.contains (leased fp)) holders holders c.add_all_new.new.self
-    (c.in_err-add_all_new.ensures.err holders rows (λ p has. free p (sym (in_slice xs fp.exclusive p c.exclusive.ensures.paths) ∙ has))) (λ p. refl)
+    (c.in_err-add_all_new.ensures.err holders by_hash (λ p has. free p (sym (in_slice xs fp.exclusive p c.exclusive.ensures.paths) ∙ has))) (λ p. refl)
     (λ p none. (in_slice xs fp.exclusive p c.exclusive.ensures.paths ∙ (unleased fp p none).0, refl)))
 
 pub returns-clause-ok : goal.returns-clause-ok
-returns-clause-ok c = λ holders rows free.
+returns-clause-ok c = λ holders by_hash free.
     let fp = c.args.footprint.now in
     let xs = c.exclusive.result.now in
     let ys = c.shared.result.now in
@@ -32,10 +32,11 @@ returns-clause-ok c = λ holders rows free.
     (λ p. append_assoc (holders p) (when (list_any (same_path p) xs) first) (when (list_any (same_path p) ys) second)
     ∙ ap (λ more. holders p ++ more) (λ i. when (in_slice xs fp.exclusive p c.exclusive.ensures.paths i) first
     ++ when (in_slice ys fp.shared p c.shared.ensures.paths i) second)))
-    (c.add_all.ensures.ok _ (c.in_ok-add_all_new.ensures.ok holders rows (λ p has. free p (sym (in_slice xs fp.exclusive p c.exclusive.ensures.paths) ∙ has))))
+    (c.add_all.ensures.ok _ (c.in_ok-add_all_new.ensures.ok holders by_hash
+    (λ p has. free p (sym (in_slice xs fp.exclusive p c.exclusive.ensures.paths) ∙ has))))
 
 pub returns-clause-err : goal.returns-clause-err
-returns-clause-err c = λ holders rows free.
+returns-clause-err c = λ holders by_hash free.
     let fp = c.args.footprint.now in
     let xs = c.exclusive.result.now in
     let ys = c.shared.result.now in
@@ -49,4 +50,5 @@ returns-clause-err c = λ holders rows free.
       in_slice ys fp.shared p c.shared.ensures.paths ∙ (unleased fp p none).1,
       when_not (list_any (same_path p) xs) first (holders p) (in_slice xs fp.exclusive p c.exclusive.ensures.paths ∙ (unleased fp p none).0),
     )))
-    (c.add_all.ensures.err _ (c.in_ok-add_all_new.ensures.ok holders rows (λ p has. free p (sym (in_slice xs fp.exclusive p c.exclusive.ensures.paths) ∙ has))))
+    (c.add_all.ensures.err _ (c.in_ok-add_all_new.ensures.ok holders by_hash
+    (λ p has. free p (sym (in_slice xs fp.exclusive p c.exclusive.ensures.paths) ∙ has))))

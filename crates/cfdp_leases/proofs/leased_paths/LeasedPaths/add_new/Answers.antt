@@ -9,12 +9,12 @@ use Rattle.cfdp_leases.proofs.Held.{IsOf, free_none, holds_kept, other_changed, 
 use Rattle.cfdp_leases.proofs.leased_paths.LeasedPaths.add_new.Goals as goal
 use Rattle.cfdp_actions.proofs.StagedLaws.{on_err}
 
--- no room for a row
+-- no room for a record
 pub returns-in_err-slot-clause-err : goal.returns-in_err-slot-clause-err
 returns-in_err-slot-clause-err c = λ holders held.
     let old = c.args.self.now in
-    let new : LeasedPaths = record { rows = c.entry.follows.lender-at-none; others = old.others } in
-    let same : c.entry.follows.lender-at-none.entries ≡ old.rows.entries = search rules in
+    let new : LeasedPaths = record { by_hash = c.entry.follows.lender-at-none; others = old.others } in
+    let same : c.entry.follows.lender-at-none.entries ≡ old.by_hash.entries = search rules in
     on_err c.from_residual-in_err-slot.result _ (holds_kept old new holders held (λ h. cc same) (λ p. refl))
 
 pub returns-in_err-insert-in-Occupied-clause-err : goal.returns-in_err-insert-in-Occupied-clause-err
@@ -42,7 +42,7 @@ returns-in-Vacant-clause-ok c = λ holders held free.
     let h = c.args.holder in
     let old = c.args.self.now in
     let hash = c.hash-hash.result in
-    let absent : get nat_cmp old.rows hash ≡ None = search rules in
+    let absent : get nat_cmp old.by_hash hash ≡ None = search rules in
     under_changed old _ holders held k (λ p. holders p ++ when (same_path p k) h)
     (λ q other. when_not (same_path q k) h (holders q) other) hash c.hash-hash.ensures
     (Some (record { path = c.in_ok-path.path; holders = One h })) (λ q. search rules) (λ p. refl)

@@ -11,11 +11,11 @@ use Rattle.cfdp_actions.proofs.Order.{same_path-refl}
 pub returns-in-Some : goal.returns-in-Some
 returns-in-Some c = λ holders held.
     let k = c.args.path.now in
-    let row = c.in-Some.row.now in
+    let held_path = c.in-Some.held_path.now in
     let old = c.args.self.now in
-    let new : LeasedPaths = record { rows = c.remove.new.self; others = old.others } in
+    let new : LeasedPaths = record { by_hash = c.remove.new.self; others = old.others } in
     under_removed old new holders held k (λ p. emptied (same_path p k) (holders p)) (λ q other. ap (λ b. emptied b (holders q)) other)
-    c.hash-hash.result c.hash-hash.ensures row (sym c.in-Some.ensures.value) ((same_path-Decides row.path k).0 (sym c.eq.ensures ∙ c.if-eq.true))
+    c.hash-hash.result c.hash-hash.ensures held_path (sym c.in-Some.ensures.value) ((same_path-Decides held_path.path k).0 (sym c.eq.ensures ∙ c.if-eq.true))
     (λ p. refl) c.remove.ensures.updates.0
     (sym (ap (λ b. unless_none (emptied b (holders k))) (same_path-refl k)))
 
@@ -23,11 +23,11 @@ pub returns-in_default : goal.returns-in_default
 returns-in_default c = λ holders held.
     let k = c.args.path.now in
     let old = c.in_default.self in
-    let new : LeasedPaths = record { rows = old.rows; others = c.remove-in_default.new.self } in
+    let new : LeasedPaths = record { by_hash = old.by_hash; others = c.remove-in_default.new.self } in
     let before : IsOtherPath old k × Holds old holders = elim c.in_default.branch [
       | in_default-via-in-Some+else-eq w ↦
           subst (λ paths. IsOtherPath paths k × Holds paths holders) (sym w.self-is) (
-            other_apart c.args.self.now k c.hash-hash.result c.hash-hash.ensures w.in-Some.row.now (sym w.in-Some.ensures.value) (sym w.eq.ensures
+            other_apart c.args.self.now k c.hash-hash.result c.hash-hash.ensures w.in-Some.held_path.now (sym w.in-Some.ensures.value) (sym w.eq.ensures
                 ∙ w.if-eq.false),
             held,
           )

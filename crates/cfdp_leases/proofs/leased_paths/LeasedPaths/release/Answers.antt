@@ -14,13 +14,13 @@ use Rattle.cfdp_leases.proofs.Held.{holds_kept, holds_same, in_slice, left, empt
 use Rattle.cfdp_leases.proofs.leased_paths.LeasedPaths.release.Goals as goal
 
 pub returns : goal.returns
-returns c = λ holders rows own.
+returns c = λ holders by_hash own.
     let fp = c.args.footprint.now in
     let xs = c.exclusive.result.now in
     let ys = c.shared.result.now in
     let id = c.args.transaction in
     let after : Path → List Holder = λ p. if set.contains (leased fp) p then others id (holders p) else holders p in
-    holds_kept c.remove_all.new.self (record { rows = c.give_back.new.map; others = c.give_back-2.new.map }) after
+    holds_kept c.remove_all.new.self (record { by_hash = c.give_back.new.map; others = c.give_back-2.new.map }) after
     (holds_same c.remove_all.new.self
     (λ p. left id (list_any (same_path p) ys) (emptied (list_any (same_path p) xs) (holders p))) after
     (λ p. left_emptied id (list_any (same_path p) xs) (list_any (same_path p) ys) (holders p)
@@ -28,6 +28,6 @@ returns c = λ holders rows own.
     ∙ ap (λ b. left id b (holders p))
     ((λ i. in_slice xs fp.exclusive p c.exclusive.ensures.paths i || in_slice ys fp.shared p c.shared.ensures.paths i)
     ∙ sym (set.contains-union path_cmp_total fp.exclusive fp.shared p)))
-    (c.remove_all.ensures _ (c.drop_all.ensures holders rows)))
+    (c.remove_all.ensures _ (c.drop_all.ensures holders by_hash)))
     (λ h. ap (λ es. lookup (is_at (nat_cmp h)) es) c.give_back.ensures)
     (λ p. ap (λ es. lookup (is_at (path_cmp p)) es) c.give_back-2.ensures)

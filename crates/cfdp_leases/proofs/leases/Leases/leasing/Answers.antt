@@ -14,7 +14,7 @@ returns-in-Some c =
     let p = c.args.path.now in
     let gs = grants_of c.self.inside.footprints c.self.inside.live.items in
     let h = c.in-Some.holder in
-    let found = first_there (holders_at gs p) h (sym c.in-Some.is ∙ c.first.ensures (holders_at gs) c.self.invariant.rows) in
+    let found = first_there (holders_at gs p) h (sym c.in-Some.is ∙ c.first.ensures (holders_at gs) c.self.invariant.are_held) in
     c.count_before.ensures
     ∙ ap (prefix_len (λ l. not (is_same l.transaction h.transaction))) c.deref.ensures.value
     ∙ index-live c.self.inside.footprints c.self.inside.live.items h.transaction
@@ -28,5 +28,5 @@ returns-in-None c =
     let all : c.len.result ≡ length c.self.inside.live.items = omega (arith, c.len.ensures, c.self.inside.live.ok.0) in
     all
     ∙ length-live c.self.inside.footprints c.self.inside.live.items
-    ∙ nobody_leasing gs p (first_none (holders_at gs p) (sym c.in-None.is ∙ c.first.ensures (holders_at gs) c.self.invariant.rows))
+    ∙ nobody_leasing gs p (first_none (holders_at gs p) (sym c.in-None.is ∙ c.first.ensures (holders_at gs) c.self.invariant.are_held))
     ∙ ap (prefix_len (λ g. not (set.contains (leased g.1) p))) c.self.view_is

@@ -57,7 +57,7 @@ invariant_of-self-2 c =
     subst (λ ls. AreKept t ls c.release.new.self) (sym left)
     (kept_released s t live id found.0 c.remove-footprint.result c.self.inside.paths c.release.new.self c.self.invariant found.1
     has (subst (λ key. Updates s t key None) (sym found.2) c.remove-footprint.ensures.updates)
-    (c.release.ensures (holders_at (grants_of s live)) c.self.invariant.rows
+    (c.release.ensures (holders_at (grants_of s live)) c.self.invariant.are_held
     (λ p. own_only (grants_of s live) id (found.0.transaction, c.remove-footprint.result) p c.self.invariant.apart
     (grant_there s live id found.0 c.remove-footprint.result found.1 has))))
 

@@ -1,6 +1,6 @@
 use Rattle.std.proofs.Common.{◌≡◌, ◌+◌, ◌-◌, suc, inl, inr, arith, sym, ◌∙◌}
 use Rattle.cfdp_receiver.specs.State.{Work, Finish}
-use Rattle.cfdp_transactions.specs.Settling.{most_settled}
+use Rattle.cfdp_transactions.specs.MostSettled.{most_settled}
 use Rattle.cfdp_run.proofs.Loops.{settled_work, settled_finish, settled_none}
 use Rattle.cfdp_live.proofs.Making.{settles_next, settles_end}
 use Rattle.cfdp_live.proofs.live.Live.settle.Goals as goal

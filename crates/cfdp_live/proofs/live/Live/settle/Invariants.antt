@@ -1,5 +1,5 @@
 use Rattle.std.proofs.Common.{◌-◌}
-use Rattle.cfdp_transactions.specs.Settling.{most_settled}
+use Rattle.cfdp_transactions.specs.MostSettled.{most_settled}
 use Rattle.cfdp_run.specs.Playing.{settling}
 use Rattle.cfdp_live.proofs.Making.{LeftToMake}
 use Rattle.cfdp_live.proofs.live.Live.settle.Given as goal

@@ -1,14 +1,14 @@
 use Rattle.std.proofs.Common.{◌≡◌, true, length, nat_le, sym, ◌∙◌, ap, drop, arith, length-append}
 use Rattle.std.proofs.lemmas.Bool.{and_parts, leb-true}
 use Rattle.cfdp_paths.specs.Paths.{Path, names_of, joined, is_at_or_below}
-use Rattle.cfdp_paths.proofs.Separators.{behind, length-joined}
+use Rattle.cfdp_paths.proofs.Separators.{following, length-joined}
 use Rattle.cfdp_paths.proofs.paths.Path.may_stay.Goals as goal
 
 pub suits_front-requires : goal.suits_front-requires
 suits_front-requires c =
     let below : is_at_or_below (names_of c.self.inside.octets.items) (names_of c.from.inside.octets.items) ≡ true =
     rw (c.self.view_is, c.from.view_is) c.requires in
-    let long = ap length (behind c.self.inside.octets.items c.from.inside.octets.items below).0 in
+    let long = ap length (following c.self.inside.octets.items c.from.inside.octets.items below).0 in
     omega (
       arith,
       c.len.ensures,

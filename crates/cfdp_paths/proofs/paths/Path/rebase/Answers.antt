@@ -1,14 +1,14 @@
 use Rattle.std.proofs.Common.{◌≡◌, true, length, sym, ◌∙◌, ap, subst, ◌++◌, drop, arith, length-append}
 use Rattle.cfdp_paths.specs.Paths.{Path, names_of, joined, IsPath, is_at_or_below, rebased}
 use Rattle.cfdp_paths.proofs.Below.{IsPath-rebased, length-at_or_below, rebased_depth}
-use Rattle.cfdp_paths.proofs.Separators.{behind, length-joined, rebased-names_of}
+use Rattle.cfdp_paths.proofs.Separators.{following, length-joined, rebased-names_of}
 use Rattle.cfdp_paths.proofs.paths.Path.rebase.Goals as goal
 
 pub replace_front-requires-clause-within : goal.replace_front-requires-clause-within
 replace_front-requires-clause-within c =
     let below : is_at_or_below (names_of c.self.inside.octets.items) (names_of c.from.inside.octets.items) ≡ true =
     rw (c.self.view_is, c.from.view_is) c.requires.below in
-    let long = ap length (behind c.self.inside.octets.items c.from.inside.octets.items below).0 in
+    let long = ap length (following c.self.inside.octets.items c.from.inside.octets.items below).0 in
     omega (
       arith,
       c.len.ensures,

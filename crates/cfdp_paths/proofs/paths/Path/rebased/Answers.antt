@@ -1,7 +1,7 @@
 use Rattle.std.proofs.Common.{◌≡◌, true, length, ◌∙◌, ap, subst, ◌++◌, drop, arith, length-append}
 use Rattle.cfdp_paths.specs.Paths.{names_of, IsPath, is_at_or_below, rebased}
 use Rattle.cfdp_paths.proofs.Below.{IsPath-rebased, length-at_or_below, rebased_depth}
-use Rattle.cfdp_paths.proofs.Separators.{behind, rebased-names_of}
+use Rattle.cfdp_paths.proofs.Separators.{following, rebased-names_of}
 use Rattle.cfdp_paths.proofs.paths.Path.rebased.Goals as goal
 
 pub overflow_sub-depth : goal.overflow_sub-depth
@@ -14,7 +14,7 @@ pub split_at-requires : goal.split_at-requires
 split_at-requires c =
     let below : is_at_or_below (names_of c.self.inside.octets.items) (names_of c.from.inside.octets.items) ≡ true =
     rw (c.self.view_is, c.from.view_is) c.requires.below in
-    let long = ap length (behind c.self.inside.octets.items c.from.inside.octets.items below).0 in
+    let long = ap length (following c.self.inside.octets.items c.from.inside.octets.items below).0 in
     let same = ap length c.deref.ensures.value in
     let h = c.len.ensures in
     omega (arith, length-append c.from.inside.octets.items (drop (length c.from.inside.octets.items) c.self.inside.octets.items))

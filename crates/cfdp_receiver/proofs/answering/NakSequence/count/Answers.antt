@@ -1,6 +1,6 @@
 use Rattle.std.proofs.Common.{◌≡◌, ℕ, ◌+◌, ◌-◌, ◌/◌, List, length, sym, ap, ◌∙◌, arith}
 use Rattle.cfdp_directives.specs.Reading.{NakFields}
-use Rattle.cfdp_receiver.proofs.Written.{counted}
+use Rattle.cfdp_receiver.proofs.PdusByNumber.{counted}
 use Rattle.cfdp_receiver.proofs.answering.NakSequence.count.Goals as goal
 
 pub returns-clause-value : goal.returns-clause-value

@@ -1,9 +1,9 @@
 use Rattle.std.proofs.Common.{ℕ, refl, ap, ◌∙◌}
 use Rattle.cfdp_receiver.specs.State.{CancelAsked}
 use Rattle.cfdp_receiver.specs.code.StateMachine.{Turns, at_moment}
-use Rattle.cfdp_receiver.proofs.Calls.{moved}
-use Rattle.cfdp_receiver.proofs.Turned.{turned}
-use Rattle.cfdp_receiver.proofs.Whole.{whole_turn}
+use Rattle.cfdp_receiver.proofs.CallsAnswer.{moved}
+use Rattle.cfdp_receiver.proofs.LateTurns.{turned}
+use Rattle.cfdp_receiver.proofs.StaysWhole.{whole_turn}
 use Rattle.cfdp_receiver.proofs.receiver.Receiver.cancel.Goals as goal
 use Rattle.cfdp_receiver.proofs.receiver.Receiver.cancel.Goals.{After-cancel}
 

@@ -3,7 +3,7 @@ use Rattle.std.specs.Prelude.{IfOk, OnErr}
 use Rattle.cfdp_receiver.specs.State.{Finish}
 use Rattle.cfdp_receiver.specs.StateMachine.{StateMachineFields, AnswerParts}
 use Rattle.cfdp_receiver.specs.code.StateMachine.{IsWholeReceiver, Turns, at_moment}
-use Rattle.cfdp_receiver.proofs.Calls.{turned_where_ok, whole_where_ok}
+use Rattle.cfdp_receiver.proofs.CallsAnswer.{turned_where_ok, whole_where_ok}
 use Rattle.cfdp_receiver.proofs.receiver.Receiver.finish.Goals as goal
 
 pub finish-requires : goal.finish-requires

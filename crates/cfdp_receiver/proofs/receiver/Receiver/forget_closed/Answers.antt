@@ -2,9 +2,9 @@ use Rattle.std.proofs.Common.{sym, subst, ◌∙◌}
 use Rattle.cfdp_receiver.specs.State.{ForgetAsked}
 use Rattle.cfdp_receiver.specs.StateMachine.{StateMachineFields}
 use Rattle.cfdp_receiver.specs.code.StateMachine.{Turns, at_moment}
-use Rattle.cfdp_receiver.proofs.Calls.{at_no_moment}
-use Rattle.cfdp_receiver.proofs.Turned.{turned}
-use Rattle.cfdp_receiver.proofs.Whole.{whole_turn}
+use Rattle.cfdp_receiver.proofs.CallsAnswer.{at_no_moment}
+use Rattle.cfdp_receiver.proofs.LateTurns.{turned}
+use Rattle.cfdp_receiver.proofs.StaysWhole.{whole_turn}
 use Rattle.cfdp_receiver.proofs.receiver.Receiver.forget_closed.Goals as goal
 use Rattle.cfdp_receiver.proofs.receiver.Receiver.forget_closed.Goals.{After-forget}
 

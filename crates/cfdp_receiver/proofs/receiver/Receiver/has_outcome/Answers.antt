@@ -2,7 +2,7 @@ use Rattle.std.proofs.Common.{ap, ◌∙◌}
 use Rattle.std.specs.Prelude.{is_some}
 use Rattle.cfdp_receiver.specs.Due.{first_over}
 use Rattle.cfdp_receiver.specs.StateMachine.{StateMachineFields}
-use Rattle.cfdp_receiver.proofs.Calls.{some_there}
+use Rattle.cfdp_receiver.proofs.CallsAnswer.{some_there}
 use Rattle.cfdp_receiver.proofs.receiver.Receiver.has_outcome.Goals as goal
 
 pub returns : goal.returns

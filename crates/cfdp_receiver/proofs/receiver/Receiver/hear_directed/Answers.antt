@@ -2,7 +2,7 @@ use Rattle.std.specs.Prelude.{Ok}
 use Rattle.std.proofs.Common.{rules, ◌≡◌}
 use Rattle.cfdp_receiver.specs.State.{MetadataPdu, EofPdu, AckPdu, PromptPdu, OtherPdu}
 use Rattle.cfdp_receiver.specs.Heard.{input_at}
-use Rattle.cfdp_receiver.proofs.Calls.{heard_ok}
+use Rattle.cfdp_receiver.proofs.CallsAnswer.{heard_ok}
 use Rattle.cfdp_receiver.proofs.receiver.Receiver.hear_directed.Goals as goal
 
 pub returns-in-Eof-clause-ok : goal.returns-in-Eof-clause-ok

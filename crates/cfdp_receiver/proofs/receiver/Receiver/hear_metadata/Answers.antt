@@ -3,7 +3,7 @@ use Rattle.std.specs.Prelude.{IfOk, OnErr}
 use Rattle.cfdp_receiver.specs.State.{MetadataPdu}
 use Rattle.cfdp_receiver.specs.StateMachine.{StateMachineFields, AnswerParts}
 use Rattle.cfdp_receiver.specs.code.StateMachine.{IsWholeReceiver, Turns, at_moment}
-use Rattle.cfdp_receiver.proofs.Calls.{whole_where_ok}
+use Rattle.cfdp_receiver.proofs.CallsAnswer.{whole_where_ok}
 use Rattle.cfdp_receiver.proofs.receiver.Receiver.hear_metadata.Goals as goal
 
 pub invariant_of-self : goal.invariant_of-self

@@ -3,8 +3,8 @@ use Rattle.std.specs.Prelude.{map, slice_get, is_some}
 use Rattle.cfdp_transactions.specs.Entry.{name_of}
 use Rattle.cfdp_transactions.specs.World.{World}
 use Rattle.cfdp_receiver.specs.code.StateMachine.{IsWholeReceiver}
-use Rattle.cfdp_receiver.proofs.Calls.{none_named}
-use Rattle.cfdp_receiver.proofs.Whole.{whole_begin}
+use Rattle.cfdp_receiver.proofs.CallsAnswer.{none_named}
+use Rattle.cfdp_receiver.proofs.StaysWhole.{whole_begin}
 use Rattle.cfdp_receiver.proofs.receiver.Receiver.new.Goals as goal
 
 pub invariant_of-result : goal.invariant_of-result

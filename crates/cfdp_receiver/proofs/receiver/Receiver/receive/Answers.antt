@@ -3,7 +3,7 @@ use Rattle.std.specs.Prelude.{Ok}
 use Rattle.cfdp_receiver.specs.State.{DataPdu}
 use Rattle.cfdp_receiver.specs.Heard.{heard}
 use Rattle.cfdp_receiver.specs.StateMachine.{AnswerParts, answer_in}
-use Rattle.cfdp_receiver.proofs.Calls.{heard_ok}
+use Rattle.cfdp_receiver.proofs.CallsAnswer.{heard_ok}
 use Rattle.cfdp_receiver.proofs.receiver.Receiver.receive.Goals as goal
 
 pub returns-2-clause-ok : goal.returns-2-clause-ok

@@ -4,8 +4,8 @@ use Rattle.cfdp_transactions.specs.Sound.{Sound}
 use Rattle.cfdp_receiver.specs.declared.receiver.Receiver.TheInside.{Inside}
 use Rattle.cfdp_receiver.specs.StateMachine.{StateMachineFields}
 use Rattle.cfdp_receiver.specs.code.StateMachine.{IsWholeReceiver}
-use Rattle.cfdp_receiver.proofs.Knowing.{Laws}
-use Rattle.cfdp_receiver.proofs.Whole.{whole_after}
+use Rattle.cfdp_receiver.proofs.SessionsAreKnown.{Laws}
+use Rattle.cfdp_receiver.proofs.StaysWhole.{whole_after}
 use Rattle.cfdp_receiver.proofs.receiver.Receiver.stays_whole.Goals as goal
 
 pub returns : goal.returns

@@ -3,7 +3,7 @@ use Rattle.std.specs.Prelude.{slice_get}
 use Rattle.cfdp_receiver.specs.StateMachine.{StateMachineFields}
 use Rattle.cfdp_receiver.specs.Sent.{pdus_of}
 use Rattle.cfdp_receiver.specs.declared.receiver.Receiver.TheInside.{Inside}
-use Rattle.cfdp_receiver.proofs.Written.{sent_is, sent_rest, sent_within}
+use Rattle.cfdp_receiver.proofs.PdusByNumber.{sent_is, sent_rest, sent_within}
 use Rattle.cfdp_receiver.proofs.receiver.Receiver.write.Goals as goal
 
 pub returns-clause-ok : goal.returns-clause-ok

@@ -11,7 +11,7 @@ use Rattle.cfdp_receiver.specs.Due.{fault_at, handler_at}
 use Rattle.cfdp_receiver.specs.Handing.{where_known}
 use Rattle.cfdp_receiver.specs.StateMachine.{StateMachineFields}
 use Rattle.cfdp_receiver.specs.Turning as Turning
-use Rattle.cfdp_receiver.proofs.Giving.{with_lists, limit_turns, unmoved_waiting, unmoved_held, moved_abandoned, puts_abandoned, told_abandoned}
+use Rattle.cfdp_receiver.proofs.LimitsReached.{with_lists, limit_turns, unmoved_waiting, unmoved_held, moved_abandoned, puts_abandoned, indicated_abandoned}
 use Rattle.cfdp_receiver.proofs.state_machine.StateMachine.abandons.Goals as goal
 use Rattle.cfdp_receiver.proofs.state_machine.StateMachine.abandons.Goals.{in-Waiting, in_default}
 
@@ -29,7 +29,8 @@ returns c =
     let e = c.session.ensures in
     let k = c.args.condition in
     let ack = s.header.acknowledged in
-    let told = told_abandoned N s c.name-id.result c.with_indication.result c.said.result k c.name-id.ensures c.said.ensures c.with_indication.ensures in
+    let indicated = indicated_abandoned N s c.name-id.result c.with_indication.result c.said.result k c.name-id.ensures c.said.ensures
+    c.with_indication.ensures in
     elim c.match-at.branch [
       | in-Waiting w ↦
           let shut : N ≡ with_lists M R.world (without_session R.sessions (session_id s)) (with_name R.closed (session_id s)) =
@@ -41,13 +42,13 @@ returns c =
                 (with_name R.closed (session_id s))
                 (c.requires.due s e) (sym is ∙ c.requires.at s e) (c.requires.condition s e ∙ ap (fault_at ack) is)
                 (ap (handler_at R.mib ack) (sym is) ∙ c.requires.handler s e)
-                shut (unmoved_waiting R.world s Abandon (sym is ∙ c.requires.at s e)) refl refl told
+                shut (unmoved_waiting R.world s Abandon (sym is ∙ c.requires.at s e)) refl refl indicated
             | inr is ↦
                 limit_turns M N c.with_indication.result s At_held k Abandon R.world (without_session R.sessions (session_id s))
                 (with_name R.closed (session_id s))
                 (c.requires.due s e) (sym is ∙ c.requires.at s e) (c.requires.condition s e ∙ ap (fault_at ack) is)
                 (ap (handler_at R.mib ack) (sym is) ∙ c.requires.handler s e)
-                shut (unmoved_held R.world s Abandon (sym is ∙ c.requires.at s e)) refl refl told
+                shut (unmoved_held R.world s Abandon (sym is ∙ c.requires.at s e)) refl refl indicated
           ]
       | in_default w ↦
           let at = c.args.at in
@@ -66,5 +67,5 @@ returns c =
           (moved_abandoned R.world s at)
           (put ∙ sym (ap (λ (p : Turning.Parts). p.sessions) parts))
           (sym (ap (λ (p : Turning.Parts). p.closed) parts))
-          (told ∙ sym (ap (λ (p : Turning.Parts). p.answer) parts))
+          (indicated ∙ sym (ap (λ (p : Turning.Parts). p.answer) parts))
     ]

@@ -4,7 +4,7 @@ use Rattle.std.specs.Option.{option_map}
 use Rattle.cfdp_transactions.specs.Entry.{reach}
 use Rattle.cfdp_transactions.specs.World.{entry_of}
 use Rattle.cfdp_receiver.specs.Turning.{gaps_after}
-use Rattle.cfdp_receiver.proofs.Small.{low_fits, missing_fit, reach_fits}
+use Rattle.cfdp_receiver.proofs.OffsetsFit.{low_fits, missing_fit, reach_fits}
 use Rattle.cfdp_receiver.proofs.state_machine.StateMachine.asks_at_once.Goals as goal
 
 pub sequence-requires-clause-low : goal.sequence-requires-clause-low

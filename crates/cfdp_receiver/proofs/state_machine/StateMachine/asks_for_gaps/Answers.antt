@@ -4,7 +4,7 @@ use Rattle.std.specs.Option.{option_map}
 use Rattle.cfdp_transactions.specs.Entry.{reach}
 use Rattle.cfdp_transactions.specs.World.{entry_of}
 use Rattle.cfdp_receiver.specs.Turning.{gaps_after}
-use Rattle.cfdp_receiver.proofs.Small.{missing_fit, reach_fits}
+use Rattle.cfdp_receiver.proofs.OffsetsFit.{missing_fit, reach_fits}
 use Rattle.cfdp_receiver.proofs.state_machine.StateMachine.asks_for_gaps.Goals as goal
 
 pub sequence-requires-clause-high : goal.sequence-requires-clause-high

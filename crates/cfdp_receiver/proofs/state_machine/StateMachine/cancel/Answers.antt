@@ -6,7 +6,7 @@ use Rattle.cfdp_transactions.specs.Next.{next}
 use Rattle.cfdp_receiver.specs.State.{CancelAsked}
 use Rattle.cfdp_receiver.specs.StateMachine.{StateMachineFields}
 use Rattle.cfdp_receiver.specs.code.StateMachine.{Turns, in_world}
-use Rattle.cfdp_receiver.proofs.Asked.{IsIdle, cancel_held, cancel_known, cancel_idle}
+use Rattle.cfdp_receiver.proofs.CancelAsked.{IsIdle, cancel_held, cancel_known, cancel_idle}
 use Rattle.cfdp_receiver.proofs.state_machine.StateMachine.cancel.Goals as goal
 
 pub returns-in-Known : goal.returns-in-Known
@@ -17,8 +17,8 @@ returns-in-Known c =
     ap (λ (N : StateMachineFields). found N.state.sessions c.args.id) (sym c.self.view_is) ∙ c.in-Some.ensures.some
     ∙ ap (λ (N : StateMachineFields). slice_get N.state.sessions c.in-Some.index) c.self.view_is ∙ c.session.ensures in
     let stage = ap (λ (x : SessionFields). x.stage) (sym c.behind-self.view_is) ∙ c.in-Known.is in
-    let told = ap (λ (N : StateMachineFields). next N.state.world (Cancel c.args.id)) (sym c.self.view_is) ∙ c.cancel-reply.ensures in
-    let turned = cancel_known M c.cancel-reply.new.self c.cancel-reply.result c.replied.result c.args.id s here stage told c.replied.ensures in
+    let indicated = ap (λ (N : StateMachineFields). next N.state.world (Cancel c.args.id)) (sym c.self.view_is) ∙ c.cancel-reply.ensures in
+    let turned = cancel_known M c.cancel-reply.new.self c.cancel-reply.result c.replied.result c.args.id s here stage indicated c.replied.ensures in
     subst (λ (N : StateMachineFields). Turns M N c.replied.result (CancelAsked M.state.now c.args.id))
     (ap (in_world c.cancel-reply.new.self) (sym c.self.view_is)) turned
 

@@ -13,7 +13,7 @@ use Rattle.cfdp_receiver.specs.Due.{fault_at, handler_at}
 use Rattle.cfdp_receiver.specs.Handing.{makes_checks, where_known}
 use Rattle.cfdp_receiver.specs.StateMachine.{StateMachineFields}
 use Rattle.cfdp_receiver.specs.Turning as Turning
-use Rattle.cfdp_receiver.proofs.Giving.{fault_small, limit_turns, unmoved_held, moved_cancelled, moved_checked, no_checks, acknowledged_none, awaits, puts_cancelled, told_word}
+use Rattle.cfdp_receiver.proofs.LimitsReached.{fault_small, limit_turns, unmoved_held, moved_cancelled, moved_checked, no_checks, acknowledged_none, awaits, puts_cancelled, indicated_word}
 use Rattle.cfdp_receiver.proofs.state_machine.StateMachine.cancels.Goals as goal
 use Rattle.cfdp_receiver.proofs.state_machine.StateMachine.cancels.Goals.{in-Held, in-Awaiting, in_default, in_default-via-in-Awaiting+else-not-session, in_default-via-in_default}
 
@@ -51,14 +51,14 @@ returns c =
     let ack = s.header.acknowledged in
     let new : SessionFields = record s { cause = Some k } in
     let mode = ap (λ (t : SessionFields). t.header.acknowledged) (sym c.session.view_is) in
-    let told = told_word N s c.name-id.result c.said-2.result words.Faulted c.name-id.ensures c.said-2.ensures in
+    let indicated = indicated_word N s c.name-id.result c.said-2.result words.Faulted c.name-id.ensures c.said-2.ensures in
     elim c.match-at.branch [
       | in-Held w ↦
           let is = w.in-Held.is in
           limit_turns M N c.said-2.result s At_held k Cancel R.world (replaced R.sessions (Turning.over_here R s k)) R.closed
           (c.requires.due s e) (sym is ∙ c.requires.at s e) (c.requires.condition s e ∙ ap (fault_at ack) is)
           (ap (handler_at R.mib ack) (sym is) ∙ c.requires.handler s e)
-          (w.self-is ∙ w.ends_here.ensures s e) (unmoved_held R.world s Cancel (sym is ∙ c.requires.at s e)) refl refl told
+          (w.self-is ∙ w.ends_here.ensures s e) (unmoved_held R.world s Cancel (sym is ∙ c.requires.at s e)) refl refl indicated
       | in-Awaiting w ↦
           let is = w.in-Awaiting.is in
           let made = w.in-Awaiting.field-0 in
@@ -77,7 +77,7 @@ returns c =
           (ap (handler_at R.mib ack) (sym is) ∙ c.requires.handler s e)
           (w.self-is ∙ ap (λ (m : StateMachineFields). record m { state = record m.state { world = V; sessions = X } }) c.self.view_is)
           (checked ∙ moved_checked R.world s made (mode ∙ w.if-not-session.true) (sym is ∙ c.requires.at s e))
-          put refl told
+          put refl indicated
       | in_default w ↦
           let V = run R.world (where_known s.stage (CancelCame (session_id s) ∷ [])) in
           let X = w.set_cause-in_default.new.self in
@@ -99,5 +99,5 @@ returns c =
           (moved_cancelled R.world s at which.0)
           (put ∙ sym (ap (λ (p : Turning.Parts). p.sessions) parts))
           (sym (ap (λ (p : Turning.Parts). p.closed) parts))
-          (told ∙ sym (ap (λ (p : Turning.Parts). p.answer) parts))
+          (indicated ∙ sym (ap (λ (p : Turning.Parts). p.answer) parts))
     ]

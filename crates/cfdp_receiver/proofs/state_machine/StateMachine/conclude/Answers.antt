@@ -13,7 +13,7 @@ use Rattle.cfdp_receiver.specs.declared.answer.Word.TheVariants as words
 use Rattle.cfdp_receiver.specs.StateMachine.{StateMachineFields, AnswerParts}
 use Rattle.cfdp_receiver.specs.code.StateMachine.{Concludes}
 use Rattle.cfdp_receiver.specs.Turning.{waits_for_ack}
-use Rattle.cfdp_receiver.proofs.Asked.{with_sessions}
+use Rattle.cfdp_receiver.proofs.CancelAsked.{with_sessions}
 use Rattle.cfdp_receiver.proofs.Concluding.{ended_and_sent, closed_with, concludes_waiting, concludes_closed}
 use Rattle.cfdp_receiver.proofs.state_machine.StateMachine.conclude.Goals as goal
 
@@ -26,10 +26,10 @@ returns-then-session-2 c outcome sent conclusion octets session at =
     let a = c.with_indication-then-session-2.result in
     let field = ap (λ (x : SessionFields). x.is_abandoned) (sym c.session.view_is) ∙ c.if-session.false in
     let acked = ap (λ (x : SessionFields). x.header.acknowledged) (sym c.session.view_is) ∙ c.if-session-2.true in
-    let told = TransactionFinished id c.args.conclusion ∷ [] in
+    let indicated = TransactionFinished id c.args.conclusion ∷ [] in
     let said =
     c.with_indication-then-session-2.ensures
-    ∙ ap (λ (b : AnswerParts). record b { indications = told })
+    ∙ ap (λ (b : AnswerParts). record b { indications = indicated })
     (c.with_finished.ensures ∙ ap (λ (b : AnswerParts). record b { finished = id ∷ [] }) c.said-then-session-2.ensures)
     ∙ ap (λ (n : TransactionId). ended_and_sent n c.args.conclusion words.Finished) c.name-id.ensures
     ∙ ap (λ (k : Conclusion). ended_and_sent (session_id s) k words.Finished) conclusion in
@@ -63,10 +63,10 @@ returns c outcome sent conclusion octets session at =
     let a = c.with_indication-2.result in
     let field = ap (λ (x : SessionFields). x.is_abandoned) (sym c.session.view_is) ∙ c.if-session.false in
     let acked = ap (λ (x : SessionFields). x.header.acknowledged) (sym c.session.view_is) ∙ c.if-session-2.false in
-    let told = TransactionFinished id c.args.conclusion ∷ [] in
+    let indicated = TransactionFinished id c.args.conclusion ∷ [] in
     let said =
     c.with_indication-2.ensures
-    ∙ ap (λ (b : AnswerParts). record b { indications = told })
+    ∙ ap (λ (b : AnswerParts). record b { indications = indicated })
     (c.with_finished-2.ensures ∙ ap (λ (b : AnswerParts). record b { finished = id ∷ [] }) c.said-2.ensures)
     ∙ ap (λ (n : TransactionId). ended_and_sent n c.args.conclusion words.Closed) c.name-id.ensures
     ∙ ap (λ (k : Conclusion). ended_and_sent (session_id s) k words.Closed) conclusion in

@@ -4,7 +4,7 @@ use Rattle.std.proofs.lemmas.Option.{slice_get_read}
 use Rattle.cfdp_sessions.specs.Sessions.{SessionFields}
 use Rattle.cfdp_receiver.specs.State.{State}
 use Rattle.cfdp_receiver.specs.StateMachine.{StateMachineFields, has_come}
-use Rattle.cfdp_receiver.proofs.Moments.{any_more}
+use Rattle.cfdp_receiver.proofs.DueTimers.{any_more}
 use Rattle.cfdp_receiver.proofs.state_machine.StateMachine.deadline.Goals as goal
 
 pub loop-session-preserved : goal.loop-session-preserved

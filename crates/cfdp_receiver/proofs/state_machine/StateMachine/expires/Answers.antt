@@ -9,9 +9,9 @@ use Rattle.cfdp_receiver.specs.Due.{IsSet}
 use Rattle.cfdp_receiver.specs.StateMachine.{StateMachineFields}
 use Rattle.cfdp_receiver.specs.code.StateMachine.{all_naks}
 use Rattle.cfdp_receiver.specs.Turning as Turning
-use Rattle.cfdp_receiver.proofs.Giving.{with_lists}
-use Rattle.cfdp_receiver.proofs.Limits.{stage_due}
-use Rattle.cfdp_receiver.proofs.Moments.{began_before}
+use Rattle.cfdp_receiver.proofs.LimitsReached.{with_lists}
+use Rattle.cfdp_receiver.proofs.FinishedSentAtMost.{stage_due}
+use Rattle.cfdp_receiver.proofs.DueTimers.{began_before}
 use Rattle.cfdp_receiver.proofs.Repeating.{replaced_length, asks_same, again_in, again_session, again_turns, says_finished, says_naks}
 use Rattle.cfdp_receiver.proofs.state_machine.StateMachine.expires.Goals as goal
 

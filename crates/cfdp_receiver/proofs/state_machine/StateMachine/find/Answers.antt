@@ -1,7 +1,7 @@
 use Rattle.std.proofs.Common.{rules, ◌≡◌}
 use Rattle.std.specs.Prelude.{slice_get, IfSome}
 use Rattle.cfdp_sessions.specs.Sessions.{found}
-use Rattle.cfdp_receiver.proofs.Kept.{named}
+use Rattle.cfdp_receiver.proofs.SameSessionPut.{named}
 use Rattle.cfdp_receiver.proofs.state_machine.StateMachine.find.Goals as goal
 
 pub returns-clause-named : goal.returns-clause-named

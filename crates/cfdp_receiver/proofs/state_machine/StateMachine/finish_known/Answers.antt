@@ -10,7 +10,7 @@ use Rattle.cfdp_transactions.specs.Writable.{IsWritable, finished_octets}
 use Rattle.cfdp_receiver.specs.StateMachine.{StateMachineFields}
 use Rattle.cfdp_receiver.specs.code.StateMachine.{Concludes, at_moment, in_world}
 use Rattle.cfdp_receiver.specs.Turning.{conclusion_of}
-use Rattle.cfdp_receiver.proofs.Concluding.{caused_is, caused_outcome, finish_taken, follows_told, known_outcome}
+use Rattle.cfdp_receiver.proofs.Concluding.{caused_is, caused_outcome, finish_taken, follows_indicated, known_outcome}
 use Rattle.cfdp_receiver.proofs.Endings.{caused_writable, finished_short}
 use Rattle.cfdp_receiver.proofs.state_machine.StateMachine.finish_known.Goals as goal
 use Rattle.cfdp_receiver.proofs.state_machine.StateMachine.finish_known.Goals.{After-unwrap_or-outcome-inside}
@@ -68,10 +68,10 @@ returns c =
     let is_made =
     sym c.in-Some.is ∙ c.in_ok-outcome.ensures.outcome ∙ ap (λ (n : TransactionId). outcome_in c.self.inside.entity n) c.name-id.ensures
     ∙ ap (λ (X : StateMachineFields). outcome_in X.state.world (session_id s)) v in
-    let told =
+    let indicated =
     ap (λ (X : StateMachineFields). next X.state.world (Take (session_id s))) (sym v)
     ∙ ap (λ (n : TransactionId). next c.self.inside.entity (Take n)) (sym c.name-id.ensures)
-    ∙ follows_told c.self.inside.entity (Take c.name-id.result) c.hand_out.result V c.hand_out.ensures.follows c.in_default-hand_out.not-Memory in
+    ∙ follows_indicated c.self.inside.entity (Take c.name-id.result) c.hand_out.result V c.hand_out.ensures.follows c.in_default-hand_out.not-Memory in
     let at =
     ap (λ (X : StateMachineFields). slice_get X.state.sessions c.args.index) c.later.ensures ∙ ap
     (λ (X : StateMachineFields). slice_get X.state.sessions c.args.index) v
@@ -82,7 +82,7 @@ returns c =
     let later = c.later.ensures ∙ ap (λ (X : StateMachineFields). at_moment c.args.now (in_world V X)) v in
     record {
       ok = finish_taken M N a c.args.now s made V c.hand_out.result (c.requires.over ∙ c.session-session.ensures) (c.requires.stage s c.session-session.ensures)
-          is_made told
+          is_made indicated
           (subst (λ (X : StateMachineFields). Concludes X N a s (caused_outcome s made)) later done);
       unchanged = tt;
     }

@@ -4,7 +4,7 @@ use Rattle.cfdp_retransmission.specs.declared.timer.Expiry.TheVariants.{NotDue}
 use Rattle.cfdp_sessions.specs.Sessions.{SessionFields}
 use Rattle.cfdp_receiver.specs.Due.{Due, Stage_due, Alive_due, due_by, is_alive_due}
 use Rattle.cfdp_receiver.specs.StateMachine.{StateMachineFields}
-use Rattle.cfdp_receiver.proofs.Moments.{timer_here, none_here, none_at_all}
+use Rattle.cfdp_receiver.proofs.DueTimers.{timer_here, none_here, none_at_all}
 use Rattle.cfdp_receiver.proofs.state_machine.StateMachine.first_due.Goals as goal
 use Rattle.std.specs.Prelude.{Bool, true, false}
 

@@ -2,7 +2,7 @@ use Rattle.std.proofs.Common.{◌≡◌, false, sym, ap, ◌∙◌}
 use Rattle.cfdp_sessions.proofs.Indexes.{some_same}
 use Rattle.cfdp_receiver.specs.code.StateMachine.{awaited_of}
 use Rattle.cfdp_receiver.specs.Turning.{is_news}
-use Rattle.cfdp_receiver.proofs.Kept.{no_news}
+use Rattle.cfdp_receiver.proofs.SameSessionPut.{no_news}
 use Rattle.cfdp_receiver.proofs.state_machine.StateMachine.hear.Goals as goal
 
 pub returns-else-is_news : goal.returns-else-is_news

@@ -7,7 +7,7 @@ use Rattle.cfdp_transactions.specs.declared.event.Event.TheVariants.{Data as Dat
 use Rattle.cfdp_transactions.specs.Next.{next}
 use Rattle.cfdp_receiver.specs.declared.answer.Became.TheVariants.{Replied}
 use Rattle.cfdp_receiver.specs.code.StateMachine.{machine_heard, in_world, silent}
-use Rattle.cfdp_receiver.proofs.InOrder.{only_kept, told_of}
+use Rattle.cfdp_receiver.proofs.OnlyKeepsData.{only_kept, indications_of}
 use Rattle.cfdp_receiver.proofs.NoGap.{none_at_once}
 use Rattle.cfdp_receiver.proofs.state_machine.StateMachine.keeps.Goals as goal
 
@@ -24,7 +24,8 @@ returns c =
     let before : c.self.inside.entity ≡ W = search rules in
     let handed : next W (DataCame h p) ≡ (c.file_data-reply.new.self, c.file_data-reply.result) = search rules in
     let hears : c.restarts.new.self ≡ machine_heard W (in_world (next W (DataCame h p)).0 M) s = search rules in
-    let answers : c.replied.result ≡ record (silent (Replied (id_of h) (next W (DataCame h p)).1)) { indications = told_of (next W (DataCame h p)).1 h p } =
+    let answers : c.replied.result ≡ record (silent (Replied (id_of h) (next W (DataCame h p)).1))
+    { indications = indications_of (next W (DataCame h p)).1 h p } =
     search rules in
     only_kept M c.restarts.new.self c.replied.result h p s c.requires.ours found (c.requires.known s here) hears
     (none_at_once M.state s h p named (c.requires.known s here) (c.requires.receiving s here) c.requires.no_gap) answers

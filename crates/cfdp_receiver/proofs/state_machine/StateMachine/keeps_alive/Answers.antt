@@ -2,8 +2,8 @@ use Rattle.std.proofs.Common.{sym, subst}
 use Rattle.cfdp_status.specs.declared.transaction.TransactionId.{TransactionId}
 use Rattle.cfdp_transactions.specs.World.{entry_of}
 use Rattle.cfdp_receiver.specs.code.StateMachine.{IsTaking}
-use Rattle.cfdp_receiver.proofs.Limits.{alive_due}
-use Rattle.cfdp_receiver.proofs.Moments.{alive_is_taking}
+use Rattle.cfdp_receiver.proofs.FinishedSentAtMost.{alive_due}
+use Rattle.cfdp_receiver.proofs.DueTimers.{alive_is_taking}
 use Rattle.cfdp_receiver.proofs.state_machine.StateMachine.keeps_alive.Goals as goal
 
 pub with_keep_alive-requires-clause-sized : goal.with_keep_alive-requires-clause-sized

@@ -2,7 +2,7 @@ use Rattle.std.proofs.Common.{rules, ◌≡◌, ℕ, ◌<◌, ◌^◌, sym, subs
 use Rattle.cfdp_pdus.specs.Bits.{fss}
 use Rattle.cfdp_transactions.specs.World.{entry_of}
 use Rattle.cfdp_receiver.specs.Turning.{progress_at}
-use Rattle.cfdp_receiver.proofs.Small.{progress_fits}
+use Rattle.cfdp_receiver.proofs.OffsetsFit.{progress_fits}
 use Rattle.cfdp_receiver.proofs.state_machine.StateMachine.progress.Goals as goal
 
 pub returns-clause-sized : goal.returns-clause-sized

@@ -6,7 +6,7 @@ use Rattle.cfdp_directives.specs.Spelling.{IsSizedAck, ack_pdu}
 use Rattle.cfdp_directives.specs.declared.ack.Ack.{Ack}
 use Rattle.cfdp_receiver.specs.StateMachine.{AnswerParts}
 use Rattle.cfdp_receiver.specs.Sent.{IsNotWritten}
-use Rattle.cfdp_receiver.proofs.Written.{ack_short, put_enough, put_next}
+use Rattle.cfdp_receiver.proofs.PdusByNumber.{ack_short, put_enough, put_next}
 use Rattle.cfdp_receiver.proofs.state_machine.StateMachine.put.Goals as goal
 
 pub returns-clause-err : goal.returns-clause-err

@@ -4,7 +4,7 @@ use Rattle.cfdp_pdus.specs.Canonical.{IsHeader}
 use Rattle.cfdp_pdus.specs.declared.header.Header.{Header}
 use Rattle.cfdp_directives.specs.Spelling.{IsSizedKeepAlive, keep_alive_pdu}
 use Rattle.cfdp_directives.specs.declared.keep_alive.KeepAlive.{KeepAlive}
-use Rattle.cfdp_receiver.proofs.Written.{keep_alive_short, put_enough}
+use Rattle.cfdp_receiver.proofs.PdusByNumber.{keep_alive_short, put_enough}
 use Rattle.cfdp_receiver.proofs.state_machine.StateMachine.put_after_naks.Goals as goal
 
 pub returns-then-number-eq0-clause-enough : goal.returns-then-number-eq0-clause-enough

@@ -1,7 +1,7 @@
 use Rattle.std.proofs.Common.{rules, ◌≡◌, false}
 use Rattle.cfdp_receiver.specs.State.{at_of}
 use Rattle.cfdp_receiver.specs.Due.{is_receiving_at}
-use Rattle.cfdp_receiver.proofs.Kept.{not_roused}
+use Rattle.cfdp_receiver.proofs.SameSessionPut.{not_roused}
 use Rattle.cfdp_receiver.proofs.state_machine.StateMachine.rouse.Goals as goal
 
 pub returns-else-is_receiving : goal.returns-else-is_receiving

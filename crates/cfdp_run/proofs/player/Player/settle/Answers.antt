@@ -1,6 +1,6 @@
 use Rattle.std.proofs.Common.{◌≡◌, ◌+◌, ◌-◌, suc, inl, inr, arith, sym, ◌∙◌}
 use Rattle.cfdp_receiver.specs.State.{Work, Finish}
-use Rattle.cfdp_transactions.specs.Settling.{most_settled}
+use Rattle.cfdp_transactions.specs.MostSettled.{most_settled}
 use Rattle.cfdp_run.proofs.Loops.{settled_work, settled_finish, settled_none, settles_next, settles_end}
 use Rattle.cfdp_run.proofs.player.Player.settle.Goals as goal
 use Rattle.cfdp_run.proofs.player.Player.settle.Goals.{then-has_work+in_ok-work, else-has_work+then-has_outcome+in_ok-finish}

@@ -1,5 +1,5 @@
 use Rattle.std.proofs.Common.{◌-◌}
-use Rattle.cfdp_transactions.specs.Settling.{most_settled}
+use Rattle.cfdp_transactions.specs.MostSettled.{most_settled}
 use Rattle.cfdp_run.specs.Playing.{settling}
 use Rattle.cfdp_run.proofs.Loops.{Left}
 use Rattle.cfdp_run.proofs.player.Player.settle.Given as goal

@@ -6,7 +6,7 @@ said : {E : Type 0} {P Q : Bool → Type 0} (r : Result Bool E) → ((done : Boo
 said (Ok done) f p = f done p
 said (Err e) f p = tt
 
-pub returns-clause-told : goal.returns-clause-told
-returns-clause-told c =
-    said c.install.result (λ done told. tells_sparse_install c.args.self.now.view c.install.new.self c.args.path.now c.args.bound done told)
-    c.install.ensures.told
+pub returns-clause-stated : goal.returns-clause-stated
+returns-clause-stated c =
+    said c.install.result (λ done stated. tells_sparse_install c.args.self.now.view c.install.new.self c.args.path.now c.args.bound done stated)
+    c.install.ensures.stated

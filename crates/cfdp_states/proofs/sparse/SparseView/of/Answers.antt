@@ -11,8 +11,8 @@ use Rattle.cfdp_states.proofs.SparseSteps.{all_shown}
 use Rattle.cfdp_states.proofs.SparseSurveys.{sparse_view}
 use Rattle.cfdp_states.proofs.sparse.SparseView.of.Goals as goal
 
-pub returns-clause-told : goal.returns-clause-told
-returns-clause-told g c =
+pub returns-clause-stated : goal.returns-clause-stated
+returns-clause-stated g c =
     let F = (g.S.Filestore.state c.args.store.now).filestore in
     let G = alone (only c.args.footprint.now F) [] in
     let requests = c.args.requests.now in

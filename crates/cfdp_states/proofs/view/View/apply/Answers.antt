@@ -9,8 +9,8 @@ returns-in_err-status-clause-thrifty c =
     c.args.request.now
     c.self.view_is c.in_err-status.ensures.1 c.in_err-status.ensures.2)
 
-pub returns-clause-told : goal.returns-clause-told
-returns-clause-told c =
+pub returns-clause-stated : goal.returns-clause-stated
+returns-clause-stated c =
     tells_next c.args.self.now c.self.inside.protected.now c.self.inside.extents c.perform.new.extents c.self.inside.base c.self.inside.need c.self.inside.steps
     c.raise_need-self-inside.result c.add_steps-self-inside.result c.args.request.now c.in_ok-status.status c.step_bound-bound.result c.blocks-2.result
     c.self.view_is c.in_ok-status.ensures c.step_bound-bound.ensures.value c.blocks-2.ensures.value

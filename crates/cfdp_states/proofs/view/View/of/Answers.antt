@@ -6,8 +6,8 @@ use Rattle.cfdp_states.specs.Views.{Sketch, only, IsViewOf}
 use Rattle.cfdp_states.proofs.Surveyed.{view_of}
 use Rattle.cfdp_states.proofs.view.View.of.Goals as goal
 
-pub returns-clause-told : goal.returns-clause-told
-returns-clause-told g c =
+pub returns-clause-stated : goal.returns-clause-stated
+returns-clause-stated g c =
     let F = (g.S.Filestore.state c.args.store.now).filestore in
     let G = alone (only c.args.footprint.now F) [] in
     let m = c.in_ok-extents.extents in

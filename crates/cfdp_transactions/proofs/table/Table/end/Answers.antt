@@ -1,5 +1,5 @@
 use Rattle.std.proofs.Common.{◌≡◌, ◌∙◌, refl}
-use Rattle.cfdp_transactions.proofs.KeptTable.TableUnderNames.{set_named, rows-set}
+use Rattle.cfdp_transactions.proofs.KeptTable.TableUnderNames.{set_named, table_entries-set}
 use Rattle.cfdp_transactions.proofs.table.Table.end.Goals as goal
 
 pub invariant_of-self : goal.invariant_of-self
@@ -14,4 +14,4 @@ returns c = λ r at.
     let value = rw c.unwrap.ensures at c.get_index_mut.ensures.value in
     let there = rw (← c.self.view_is) at at in
     let same : c.unwrap.result.now ≡ r = cc in
-    rows-set c.self.inside.entries.entries c.args.index c.end.new.self ∙ rw (c.self.view_is, c.end.ensures, same) refl
+    table_entries-set c.self.inside.entries.entries c.args.index c.end.new.self ∙ rw (c.self.view_is, c.end.ensures, same) refl

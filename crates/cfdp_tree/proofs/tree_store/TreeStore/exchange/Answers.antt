@@ -30,12 +30,12 @@ invariant_of-self c =
     record {
       store = exchange_store _ _ _ c.self.invariant.store _ c.self.view_is b c.args.path.now file.node file.path c.requires.file
           c.from-index.result (omega (arith, c.from-index.ensures, c.requires.slot)) c.index.result.now c.index.ensures later
-          (octets_of (nodes_in later) b) set.nodes set.row set.name set.whole set.runs set.free set.capacity
+          (octets_of (nodes_in later) b) set.nodes set.fields set.name set.whole set.runs set.free set.capacity
           after (held.contents ∙ file.contents) (slot_starts later after (held.block ∙ ap (λ (x : Contents). x.run.first) (sym held.contents)) held.index
           (held.blank ∙ ap (λ (x : Contents). x.size) (sym held.contents)) held.gap);
       ordered = ordered_written (nodes_in c.self.inside.arena) c.self.invariant.store.kept.tree b file.node
           (kind_there _ _ _ c.self.invariant.store _ c.self.view_is b c.args.path.now file.node file.path c.requires.file) _ _
-          (octets_of _ b) c.index.result.now.contents refl set.nodes set.row set.name set.whole c.self.inside.orders c.self.invariant.ordered;
+          (octets_of _ b) c.index.result.now.contents refl set.nodes set.fields set.name set.whole c.self.inside.orders c.self.invariant.ordered;
     }
 
 pub returns-clause-exchanged : goal.returns-clause-exchanged
@@ -45,7 +45,7 @@ returns-clause-exchanged c =
     let F = c.args.self.now.filestore in let path = c.args.path.now in
     exchange_seen _ _ _ c.self.invariant.store _ c.self.view_is b path file.node file.path c.requires.file
     c.from-index.result (omega (arith, c.from-index.ensures, c.requires.slot)) c.index.result.now c.index.ensures later
-    (octets_of (nodes_in later) b) set.nodes set.row set.name set.whole set.runs set.free set.capacity
+    (octets_of (nodes_in later) b) set.nodes set.fields set.name set.whole set.runs set.free set.capacity
     after (held.contents ∙ file.contents) (slot_starts later after (held.block ∙ ap (λ (x : Contents). x.run.first) (sym held.contents)) held.index (held.blank
     ∙ ap (λ (x : Contents). x.size) (sym held.contents)) held.gap)
     ∙ ap (λ k. with_changes c.args.self.now (Stages k (file_octets_at F path) ∷ Becomes path (Some (File (staged_in F k))) ∷ [])) c.from-index.ensures

@@ -19,7 +19,7 @@ enter-requires-clause-tree c =
     tree_made _ _ _ c.self.invariant.store _ c.self.view_is c.args.path.now c.depth-depth.ensures.within _
     (omega (arith, c.depth-depth.ensures.depth, c.depth-depth.ensures.within.some)) c.requires.parent
     c.lookup.result found.node found.path found.none c.name-name.result.now c.name-name.ensures.name
-    c.requires.absent c.create_node-node.new.arena c.create_node-node.result c.args.kind made.fresh made.within made.nodes made.row made.home made.name
+    c.requires.absent c.create_node-node.new.arena c.create_node-node.result c.args.kind made.fresh made.within made.nodes made.fields made.home made.name
     made.whole
 
 pub enter-requires-clause-ordered : goal.enter-requires-clause-ordered
@@ -35,7 +35,7 @@ insert-requires-clause-tree c =
     tree_made _ _ _ c.self.invariant.store _ c.self.view_is c.args.path.now c.depth-depth.ensures.within _
     (omega (arith, c.depth-depth.ensures.depth, c.depth-depth.ensures.within.some)) c.requires.parent
     c.lookup.result found.node found.path found.none c.name-name.result.now c.name-name.ensures.name
-    c.requires.absent c.create_node-node.new.arena c.create_node-node.result c.args.kind made.fresh made.within made.nodes made.row made.home made.name
+    c.requires.absent c.create_node-node.new.arena c.create_node-node.result c.args.kind made.fresh made.within made.nodes made.fields made.home made.name
     made.whole
 
 pub insert-requires-clause-index : goal.insert-requires-clause-index
@@ -45,7 +45,7 @@ insert-requires-clause-index c =
     (index_made _ _ _ c.self.invariant.store _ c.self.view_is c.args.path.now c.depth-depth.ensures.within _
     (omega (arith, c.depth-depth.ensures.depth, c.depth-depth.ensures.within.some)) c.requires.parent
     c.lookup.result found.node found.path found.none c.name-name.result.now c.name-name.ensures.name
-    c.requires.absent c.create_node-node.new.arena c.create_node-node.result c.args.kind made.fresh made.within made.nodes made.row made.home made.name
+    c.requires.absent c.create_node-node.new.arena c.create_node-node.result c.args.kind made.fresh made.within made.nodes made.fields made.home made.name
     made.whole)
 
 pub invariant_of-self : goal.invariant_of-self
@@ -58,7 +58,7 @@ invariant_of-self c =
           (make_store _ _ _ c.self.invariant.store _ c.self.view_is c.args.path.now c.depth-depth.ensures.within _
           (omega (arith, c.depth-depth.ensures.depth, c.depth-depth.ensures.within.some)) c.requires.parent
           c.lookup.result found.node found.path found.none c.name-name.result.now c.name-name.ensures.name
-          c.requires.absent c.create_node-node.new.arena c.create_node-node.result c.args.kind made.fresh made.within made.nodes made.row made.home made.name
+          c.requires.absent c.create_node-node.new.arena c.create_node-node.result c.args.kind made.fresh made.within made.nodes made.fields made.home made.name
           made.whole
           later linked.links c.insert.new.heads linked.index (runs_then c.self.inside.arena c.create_node-node.new.arena later made.runs linked.runs)
           (linked.size ∙ made.capacity) (ap (λ n. n + 1) linked.free ∙ made.taken));
@@ -75,7 +75,7 @@ returns c =
     make_view _ _ _ c.self.invariant.store _ c.self.view_is c.args.path.now c.depth-depth.ensures.within _
     (omega (arith, c.depth-depth.ensures.depth, c.depth-depth.ensures.within.some)) c.requires.parent
     c.lookup.result found.node found.path found.none c.name-name.result.now c.name-name.ensures.name
-    c.requires.absent c.create_node-node.new.arena c.create_node-node.result c.args.kind made.fresh made.within made.nodes made.row made.home made.name
+    c.requires.absent c.create_node-node.new.arena c.create_node-node.result c.args.kind made.fresh made.within made.nodes made.fields made.home made.name
     made.whole
     later linked.links c.insert.new.heads linked.index (runs_then c.self.inside.arena c.create_node-node.new.arena later made.runs linked.runs) (linked.size
     ∙ made.capacity) (ap (λ n. n + 1) linked.free ∙ made.taken)

@@ -17,8 +17,8 @@ returns-in_err-node-clause-none c =
     subst (λ r. IfNone r (IsLast F c.args.after)) (sym c.from_residual.ensures)
     (none_last arena (nodes_in arena) F (shows _ _ _ c.self.invariant.store _ c.self.view_is) c.args.after c.in_err-node.ensures.none)
 
-pub tell-told-requires : goal.tell-told-requires
-tell-told-requires c =
+pub found_at-found-requires : goal.found_at-found-requires
+found_at-found-requires c =
     let sound = node_sound _ _ _ c.self.invariant.store _ c.self.view_is c.in_ok-node.node c.in_ok-node.ensures.first.follows.node in
     record { node = sound.node; filled = sound.filled; small = sound.small }
 
@@ -35,7 +35,7 @@ returns-clause-next c =
       is_next = first_next arena nodes F shown c.args.after b first;
       good = good;
       spelled = c.write_path-start.ensures.text;
-      kind = c.tell-told.ensures.kind;
-      size = c.tell-told.ensures.size;
-      checksum = c.tell-told.ensures.checksum;
+      kind = c.found_at-found.ensures.kind;
+      size = c.found_at-found.ensures.size;
+      checksum = c.found_at-found.ensures.checksum;
     }

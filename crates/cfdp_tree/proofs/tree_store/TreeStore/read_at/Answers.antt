@@ -6,7 +6,7 @@ use Rattle.cfdp_actions.specs.Filestore.{octets_in}
 use Rattle.cfdp_tree.specs.declared.contents.Contents.{Contents}
 use Rattle.cfdp_tree.specs.code.NodeFields.{node_fields_of}
 use Rattle.cfdp_tree.specs.code.Contents.{IsFilled, contents_in}
-use Rattle.cfdp_tree.specs.code.Kept.{contents_told}
+use Rattle.cfdp_tree.specs.code.Kept.{contents_of_fields}
 use Rattle.cfdp_tree.specs.code.Ways.{HasWays}
 use Rattle.cfdp_tree.specs.Found.{beginning, fitting, octets_read, with_octets}
 use Rattle.cfdp_tree.proofs.OfRuns.ContentsLaws.{length-contents}
@@ -62,7 +62,8 @@ get-requires-clause-ways c =
 
 pub returns-in-File-clause-count : goal.returns-in-File-clause-count
 returns-in-File-clause-count c =
-    let found = c.in_ok-node.ensures in let arena = c.self.inside.arena in let contents = contents_told kind.File (node_fields_of c.bytes-block.result.now) in
+    let found = c.in_ok-node.ensures in let arena = c.self.inside.arena in let contents = contents_of_fields kind.File
+    (node_fields_of c.bytes-block.result.now) in
     let there = file_there _ _ _ c.self.invariant.store _ c.self.view_is c.in_ok-node.node c.args.names c.bytes-block.result.now found.node found.path
     c.bytes-block.ensures.octets c.in-File.ensures in
     let held = file_held _ _ _ c.self.invariant.store _ c.self.view_is c.in_ok-node.node c.args.names c.bytes-block.result.now found.node found.path
@@ -74,7 +75,8 @@ returns-in-File-clause-count c =
 
 pub returns-in-File-clause-octets : goal.returns-in-File-clause-octets
 returns-in-File-clause-octets c =
-    let found = c.in_ok-node.ensures in let arena = c.self.inside.arena in let contents = contents_told kind.File (node_fields_of c.bytes-block.result.now) in
+    let found = c.in_ok-node.ensures in let arena = c.self.inside.arena in let contents = contents_of_fields kind.File
+    (node_fields_of c.bytes-block.result.now) in
     let there = file_there _ _ _ c.self.invariant.store _ c.self.view_is c.in_ok-node.node c.args.names c.bytes-block.result.now found.node found.path
     c.bytes-block.ensures.octets c.in-File.ensures in
     let held = file_held _ _ _ c.self.invariant.store _ c.self.view_is c.in_ok-node.node c.args.names c.bytes-block.result.now found.node found.path

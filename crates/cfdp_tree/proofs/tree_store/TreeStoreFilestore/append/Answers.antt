@@ -105,14 +105,15 @@ invariant_of-self c =
           (found_store _ _ _ c.self.invariant.store _ c.self.view_is c.args.first.now c.requires.first c.find_file-file.result file.node file.path file.contents
           c.append-contents.new.arena c.set_contents.new.arena c.append-contents.result
           (octets_of (nodes_in c.set_contents.new.arena) c.find_file-file.result.node)
-          after.nodes after.capacity after.spares after.filled (taken _ _ _ _ _ after.taken after.size) set.nodes set.row set.name set.whole set.runs set.free
+          after.nodes after.capacity after.spares after.filled (taken _ _ _ _ _ after.taken after.size) set.nodes set.fields set.name set.whole set.runs
+          set.free
           set.capacity _ after.octets
           c.append-contents.new.ways after.ways
           (subst (λ ws. KeepsWays c.self.inside.arena c.append-contents.new.arena ws c.append-contents.new.ways c.find_file-file.result.contents.run)
           c.deref_mut.ensures.value after.other_ways));
       ordered = ordered_written (nodes_in c.self.inside.arena) c.self.invariant.store.kept.tree c.find_file-file.result.node file.node
           (kind_there _ _ _ c.self.invariant.store _ c.self.view_is c.find_file-file.result.node c.args.first.now file.node file.path c.requires.first) _ _
-          (octets_of _ c.find_file-file.result.node) c.append-contents.result after.nodes set.nodes set.row set.name set.whole c.self.inside.orders
+          (octets_of _ c.find_file-file.result.node) c.append-contents.result after.nodes set.nodes set.fields set.name set.whole c.self.inside.orders
           c.self.invariant.ordered;
     }
 
@@ -141,6 +142,6 @@ returns-clause-appended c =
     source.path source.contents in
     found_changes _ _ _ c.self.invariant.store _ c.self.view_is c.args.first.now c.requires.first c.find_file-file.result file.node file.path file.contents
     c.append-contents.new.arena c.set_contents.new.arena c.append-contents.result (octets_of (nodes_in c.set_contents.new.arena) c.find_file-file.result.node)
-    after.nodes after.capacity after.spares after.filled (taken _ _ _ _ _ after.taken after.size) set.nodes set.row set.name set.whole set.runs set.free
+    after.nodes after.capacity after.spares after.filled (taken _ _ _ _ _ after.taken after.size) set.nodes set.fields set.name set.whole set.runs set.free
     set.capacity
     (file_octets_at F c.args.first.now ++ file_octets_at F c.args.second.now) (after.octets ∙ (λ k. sym first k ++ sym second k))

@@ -6,7 +6,7 @@ use Rattle.cfdp_order.specs.Orders.{IsOrder}
 use Rattle.cfdp_tree.specs.code.Nodes.{nodes_in}
 use Rattle.cfdp_tree.specs.code.Tree.{IsNode, path_of_node}
 use Rattle.cfdp_tree.specs.code.Orders.{in_order}
-use Rattle.cfdp_tree.specs.code.Walk.{walks, walk_from, most_names_in, StandAt}
+use Rattle.cfdp_tree.specs.code.Walk.{walks, walk_from, most_names_in, AreAtDepth}
 use Rattle.cfdp_tree.specs.code.NodesBelow.{AreNodesBelow}
 use Rattle.cfdp_tree.proofs.OfStore.SeenLaws.{shows, seen_none}
 use Rattle.cfdp_tree.proofs.OfWalks.WalkLaws.{directory_deep, one_deeper}
@@ -34,7 +34,7 @@ pub deepest_in-below-requires-clause-deep : goal.deepest_in-below-requires-claus
 deepest_in-below-requires-clause-deep c =
     let nodes = nodes_in c.self.inside.arena in let orders = c.self.inside.orders in let b = c.unwrap-node.result in let path = c.args.path.now in
     let way = subst (λ r. IfSome r (λ b. path_of_node nodes b ≡ path)) c.unwrap-node.ensures c.find_path.ensures.path in
-    subst (λ (o : Order). StandAt nodes (c.depth-depth.result + 1) (trees.nodes orders.links.items o)) (sym c.of-entries.ensures)
+    subst (λ (o : Order). AreAtDepth nodes (c.depth-depth.result + 1) (trees.nodes orders.links.items o)) (sym c.of-entries.ensures)
     (directory_deep nodes c.self.invariant.store.kept.tree orders c.self.invariant.ordered (Some b) c.depth-depth.result (ap length way
     ∙ sym c.depth-depth.ensures.depth))
 

@@ -1,15 +1,13 @@
-use Rattle.std.proofs.Common.{◌≡◌, ℕ, ◌+◌, ◌==◌, true, not, true≢false, max, List, [], ◌∷◌, length, Some, refl, sym, ap, ◌∙◌, subst}
-use Rattle.cfdp_arena.specs.Arena.{Blocks}
-use Rattle.cfdp_paths.specs.Paths.{Path}
+use Rattle.std.proofs.Common.{◌+◌, max, length, Some, sym, ap, ◌∙◌, subst}
 use Rattle.std.proofs.Math.Nat.{zero-max}
-use Rattle.cfdp_actions.proofs.StoreLaws.{some_more}
+use Rattle.std.specs.Prelude.{AllPairs}
 use Rattle.cfdp_order.specs.declared.links.Order.{Order}
 use Rattle.cfdp_order.specs.Orders as trees
 use Rattle.cfdp_order.specs.Orders.{IsOrder}
 use Rattle.cfdp_tree.specs.code.Beside.{entries_beside}
 use Rattle.cfdp_tree.specs.code.Nodes.{nodes_in}
-use Rattle.cfdp_tree.specs.code.Orders.{in_order}
-use Rattle.cfdp_tree.specs.code.Walk.{walks_at, most_names_in, StandAt}
+use Rattle.cfdp_tree.specs.code.Orders.{in_order, Rises}
+use Rattle.cfdp_tree.specs.code.Walk.{walks_at, most_names_in, AreAtDepth}
 use Rattle.cfdp_tree.proofs.OfStore.SeenLaws.{shows}
 use Rattle.cfdp_tree.proofs.OfWalks.WalkLaws.{directory_deep}
 use Rattle.cfdp_tree.proofs.OfWalks.BesideLaws.{longest_is, absent_longest}
@@ -20,51 +18,22 @@ deepest_beside-requires-clause-order c =
     let orders = c.self.inside.orders in
     subst (λ (o : Order). IsOrder orders.links.items o) (sym c.of-entries.ensures) (c.self.invariant.ordered.order (Some c.in-Some.node))
 
+pub deepest_beside-requires-clause-rising : goal.deepest_beside-requires-clause-rising
+deepest_beside-requires-clause-rising c =
+    let nodes = nodes_in c.self.inside.arena in let orders = c.self.inside.orders in
+    subst (λ (o : Order). AllPairs (Rises nodes) (trees.nodes orders.links.items o)) (sym c.of-entries.ensures)
+    (c.self.invariant.ordered.rising (Some c.in-Some.node))
+
 pub deepest_beside-requires-clause-deep : goal.deepest_beside-requires-clause-deep
 deepest_beside-requires-clause-deep c =
     let nodes = nodes_in c.self.inside.arena in let orders = c.self.inside.orders in let path = c.args.path.now in
-    subst (λ p. StandAt nodes (length p + 1) (trees.nodes orders.links.items c.of-entries.result)) (sym c.new-left_out.ensures.directory)
-    (subst (λ (o : Order). StandAt nodes (length path + 1) (trees.nodes orders.links.items o)) (sym c.of-entries.ensures)
+    subst (λ p. AreAtDepth nodes (length p + 1) (trees.nodes orders.links.items c.of-entries.result)) (sym c.new-left_out.ensures.directory)
+    (subst (λ (o : Order). AreAtDepth nodes (length path + 1) (trees.nodes orders.links.items o)) (sym c.of-entries.ensures)
     (directory_deep nodes c.self.invariant.store.kept.tree orders c.self.invariant.ordered (Some c.in-Some.node) (length path)
     (ap length c.in-Some.ensures.path)))
 
-pub deepest_in-requires-clause-order : goal.deepest_in-requires-clause-order
-deepest_in-requires-clause-order c =
-    let orders = c.self.inside.orders in
-    subst (λ (o : Order). IsOrder orders.links.items o) (sym c.of-entries.ensures) (c.self.invariant.ordered.order (Some c.in-Some.node))
-
-pub deepest_in-requires-clause-deep : goal.deepest_in-requires-clause-deep
-deepest_in-requires-clause-deep c =
-    let nodes = nodes_in c.self.inside.arena in let orders = c.self.inside.orders in let path = c.args.path.now in
-    subst (λ n. StandAt nodes (n + 1) (trees.nodes orders.links.items c.of-entries.result)) (sym c.depth.ensures.depth)
-    (subst (λ (o : Order). StandAt nodes (length path + 1) (trees.nodes orders.links.items o)) (sym c.of-entries.ensures)
-    (directory_deep nodes c.self.invariant.store.kept.tree orders c.self.invariant.ordered (Some c.in-Some.node) (length path)
-    (ap length c.in-Some.ensures.path)))
-
-no_others : (xs : List Path) → (length xs == 0) ≡ true → xs ≡ []
-no_others [] e = refl
-no_others (x ∷ xs) e = absurd (true≢false (sym (some_more (length xs)) ∙ ap not e))
-
-all_entries : (path : Path) (nodes : Blocks) (list : List ℕ) → entries_beside path [] nodes list ≡ list
-all_entries path nodes [] = refl
-all_entries path nodes (b ∷ list) = ap (λ (rest : List ℕ). b ∷ rest) (all_entries path nodes list)
-
-pub returns-then-is_empty-clause-value : goal.returns-then-is_empty-clause-value
-returns-then-is_empty-clause-value c =
-    let arena = c.self.inside.arena in let nodes = nodes_in arena in let b = c.in-Some.node in let orders = c.self.inside.orders in let tree =
-    c.self.invariant.store.kept.tree in let path = c.args.path.now in let others = c.args.others.now in
-    let seen = shows _ _ _ c.self.invariant.store _ c.self.view_is in let found = c.in-Some.ensures in
-    let longest = λ (xs : List ℕ). most_names_in nodes (walks_at orders (length path + 1) xs) in
-    let none : others ≡ [] = no_others others (sym c.is_empty.ensures ∙ c.if-is_empty.true) in
-    c.deepest_in.ensures.value
-    ∙ ap (λ n. most_names_in nodes (walks_at orders (n + 1) (trees.nodes orders.links.items c.of-entries.result))) c.depth.ensures.depth
-    ∙ ap (λ (o : Order). longest (trees.nodes orders.links.items o)) c.of-entries.ensures
-    ∙ ap longest (sym (all_entries path nodes (in_order orders (Some b))))
-    ∙ ap (λ (ps : List Path). longest (entries_beside path ps nodes (in_order orders (Some b)))) (sym none)
-    ∙ longest_is nodes tree arena c.args.self.now.filestore seen path others b found.node found.path orders c.self.invariant.ordered
-
-pub returns-else-is_empty-clause-value : goal.returns-else-is_empty-clause-value
-returns-else-is_empty-clause-value c =
+pub returns-in-Some-clause-value : goal.returns-in-Some-clause-value
+returns-in-Some-clause-value c =
     let arena = c.self.inside.arena in let nodes = nodes_in arena in let b = c.in-Some.node in let orders = c.self.inside.orders in let tree =
     c.self.invariant.store.kept.tree in let path = c.args.path.now in let others = c.args.others.now in
     let seen = shows _ _ _ c.self.invariant.store _ c.self.view_is in let found = c.in-Some.ensures in

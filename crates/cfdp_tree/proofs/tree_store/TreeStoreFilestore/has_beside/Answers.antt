@@ -1,11 +1,13 @@
 use Rattle.std.proofs.Common.{◌+◌, length, Some, sym, ap, ◌∙◌, subst}
 use Rattle.std.specs.List.{list_any}
+use Rattle.std.specs.Prelude.{AllPairs}
 use Rattle.cfdp_order.specs.declared.links.Order.{Order}
 use Rattle.cfdp_order.specs.Orders as trees
 use Rattle.cfdp_order.specs.Orders.{IsOrder}
 use Rattle.cfdp_tree.specs.code.Beside.{is_entry_beside}
 use Rattle.cfdp_tree.specs.code.Nodes.{nodes_in}
-use Rattle.cfdp_tree.specs.code.Walk.{StandAt}
+use Rattle.cfdp_tree.specs.code.Orders.{Rises}
+use Rattle.cfdp_tree.specs.code.Walk.{AreAtDepth}
 use Rattle.cfdp_tree.proofs.OfStore.SeenLaws.{shows}
 use Rattle.cfdp_tree.proofs.OfWalks.WalkLaws.{directory_deep}
 use Rattle.cfdp_tree.proofs.OfWalks.BesideLaws.{any_is, absent_any}
@@ -16,11 +18,17 @@ any_beside-requires-clause-order c =
     let orders = c.self.inside.orders in
     subst (λ (o : Order). IsOrder orders.links.items o) (sym c.of-entries.ensures) (c.self.invariant.ordered.order (Some c.in-Some.node))
 
+pub any_beside-requires-clause-rising : goal.any_beside-requires-clause-rising
+any_beside-requires-clause-rising c =
+    let nodes = nodes_in c.self.inside.arena in let orders = c.self.inside.orders in
+    subst (λ (o : Order). AllPairs (Rises nodes) (trees.nodes orders.links.items o)) (sym c.of-entries.ensures)
+    (c.self.invariant.ordered.rising (Some c.in-Some.node))
+
 pub any_beside-requires-clause-deep : goal.any_beside-requires-clause-deep
 any_beside-requires-clause-deep c =
     let nodes = nodes_in c.self.inside.arena in let orders = c.self.inside.orders in let path = c.args.path.now in
-    subst (λ p. StandAt nodes (length p + 1) (trees.nodes orders.links.items c.of-entries.result)) (sym c.new-left_out.ensures.directory)
-    (subst (λ (o : Order). StandAt nodes (length path + 1) (trees.nodes orders.links.items o)) (sym c.of-entries.ensures)
+    subst (λ p. AreAtDepth nodes (length p + 1) (trees.nodes orders.links.items c.of-entries.result)) (sym c.new-left_out.ensures.directory)
+    (subst (λ (o : Order). AreAtDepth nodes (length path + 1) (trees.nodes orders.links.items o)) (sym c.of-entries.ensures)
     (directory_deep nodes c.self.invariant.store.kept.tree orders c.self.invariant.ordered (Some c.in-Some.node) (length path)
     (ap length c.in-Some.ensures.path)))
 

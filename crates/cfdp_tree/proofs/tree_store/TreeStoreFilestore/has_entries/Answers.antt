@@ -8,9 +8,9 @@ use Rattle.cfdp_tree.proofs.OfNodes.BelowLaws.{order_some, order_none, absent_no
 use Rattle.cfdp_tree.proofs.tree_store.TreeStoreFilestore.has_entries.Goals as goal
 
 -- a test whether there is nothing
-told : (empty : Bool) (h k : ℕ) (some : Bool) → IsTrue empty ↔ (h ≡ 0) → h ≡ k → (0 < k → some ≡ true) → (k ≡ 0 → some ≡ false) → not empty ≡ some
-told true h k some test same filled none = sym (none (sym same ∙ test.0 (λ i. true)))
-told false h k some test same filled none = elim (cases_eq h 0) [
+described : (empty : Bool) (h k : ℕ) (some : Bool) → IsTrue empty ↔ (h ≡ 0) → h ≡ k → (0 < k → some ≡ true) → (k ≡ 0 → some ≡ false) → not empty ≡ some
+described true h k some test same filled none = sym (none (sym same ∙ test.0 (λ i. true)))
+described false h k some test same filled none = elim (cases_eq h 0) [
   | inl e ↦ absurd (differ (test.1 e))
   | inr other ↦ sym (filled (omega (arith, other, same)))
 ]
@@ -23,7 +23,7 @@ returns-in-Some c =
     let arena = c.self.inside.arena in let nodes = nodes_in arena in let b = c.in-Some.node in let orders = c.self.inside.orders in let tree =
     c.self.invariant.store.kept.tree in
     let seen = shows _ _ _ c.self.invariant.store _ c.self.view_is in let found = c.in-Some.ensures in
-    told c.is_empty.result c.of.result.height _ _ c.is_empty.ensures (ap (λ (o : Order). o.height) c.of.ensures)
+    described c.is_empty.result c.of.result.height _ _ c.is_empty.ensures (ap (λ (o : Order). o.height) c.of.ensures)
     (order_some nodes tree arena c.args.self.now.filestore seen b c.args.path.now found.node found.path orders c.self.invariant.ordered)
     (order_none nodes tree arena c.args.self.now.filestore seen b c.args.path.now found.node found.path orders c.self.invariant.ordered)
 

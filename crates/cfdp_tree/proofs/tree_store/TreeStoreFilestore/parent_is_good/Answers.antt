@@ -1,9 +1,9 @@
 use Rattle.std.proofs.Common.{arith, sym, ap, ◌∙◌, take, not, ◌-◌}
 use Rattle.cfdp_actions.specs.Filestore.{is_directory}
 use Rattle.cfdp_actions.specs.Store.{is_file_kind}
-use Rattle.cfdp_tree.specs.code.NodeFields.{node_fields_of, kind_told}
+use Rattle.cfdp_tree.specs.code.NodeFields.{node_fields_of, kind_of_octet}
 use Rattle.cfdp_tree.specs.code.Kept.{file_of}
-use Rattle.cfdp_tree.proofs.OfStore.SeenLaws.{seen_block, seen_none, seen_parent, told_directory}
+use Rattle.cfdp_tree.proofs.OfStore.SeenLaws.{seen_block, seen_none, seen_parent, node_is_directory}
 use Rattle.cfdp_tree.proofs.tree_store.TreeStoreFilestore.parent_is_good.Goals as goal
 
 pub returns-in-Some : goal.returns-in-Some
@@ -12,7 +12,7 @@ returns-in-Some c =
     let there = seen_block _ _ _ c.self.invariant.store _ c.self.view_is c.in-Some.node
     (take depth path) block c.in-Some.ensures.node c.in-Some.ensures.path c.bytes.ensures.octets in
     ap not (c.is_file.ensures ∙ ap is_file_kind c.kind_of.ensures)
-    ∙ sym (told_directory arena (kind_told (node_fields_of block).kind) (file_of block))
+    ∙ sym (node_is_directory arena (kind_of_octet (node_fields_of block).kind) (file_of block))
     ∙ sym (ap is_directory there)
     ∙ sym (seen_parent c.args.self.now.filestore path depth (omega (arith, c.depth-depth.ensures.depth)) (omega arith))
 

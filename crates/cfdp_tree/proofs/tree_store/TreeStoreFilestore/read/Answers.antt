@@ -6,7 +6,7 @@ use Rattle.cfdp_tree.specs.code.NodeFields.{node_fields_of}
 use Rattle.cfdp_tree.specs.code.Nodes.{nodes_in}
 use Rattle.cfdp_tree.specs.code.Tree.{IsNode, path_of_node}
 use Rattle.cfdp_tree.specs.code.Contents.{IsFilled, contents_in}
-use Rattle.cfdp_tree.specs.code.Kept.{contents_told}
+use Rattle.cfdp_tree.specs.code.Kept.{contents_of_fields}
 use Rattle.cfdp_tree.specs.code.Ways.{HasWays}
 use Rattle.cfdp_tree.proofs.OfRuns.ContentsLaws.{length-contents}
 use Rattle.cfdp_tree.proofs.OfStore.SeenLaws.{seen_there, seen_file, file_ways, file_small}
@@ -22,7 +22,7 @@ contents_of-file-requires c =
     let way = subst (λ r. IfSome r (λ b. path_of_node (nodes_in arena) b ≡ path)) c.unwrap-node.ensures c.find_path.ensures.path in
     let file = seen_file _ _ _ c.self.invariant.store _ c.self.view_is c.unwrap-node.result path block node way c.bytes.ensures.octets c.requires.file in
     let small = file_small _ _ _ c.self.invariant.store _ c.self.view_is path in
-    omega (arith, length-contents arena (contents_told kind.File (node_fields_of block)) file.1, ap (λ (xs : List ℕ). length xs) file.0, small)
+    omega (arith, length-contents arena (contents_of_fields kind.File (node_fields_of block)) file.1, ap (λ (xs : List ℕ). length xs) file.0, small)
 
 -- the file's octets, by the contents that were read from its block
 pub overflow_cast-at : goal.overflow_cast-at
@@ -51,7 +51,7 @@ get-requires-clause-range c =
     let node = subst (λ r. IfSome r (λ b. IsNode (nodes_in arena) b)) c.unwrap-node.ensures c.find_path.ensures.node in
     let way = subst (λ r. IfSome r (λ b. path_of_node (nodes_in arena) b ≡ path)) c.unwrap-node.ensures c.find_path.ensures.path in
     let file = seen_file _ _ _ c.self.invariant.store _ c.self.view_is c.unwrap-node.result path block node way c.bytes.ensures.octets c.requires.file in
-    let contents = contents_told kind.File (node_fields_of block) in
+    let contents = contents_of_fields kind.File (node_fields_of block) in
     let size = ap (λ (x : Contents). x.size) c.contents_of-file.ensures in
     omega (arith, length-contents arena contents file.1, ap (λ (xs : List ℕ). length xs) file.0, c.requires.range, size)
 

@@ -82,7 +82,7 @@ enter-requires-clause-tree c =
     (omega (arith, c.depth-depth.ensures.depth, c.depth-depth.ensures.within.some)) c.requires.parent
     c.lookup.result c.lookup.ensures.node c.lookup.ensures.path c.lookup.ensures.none c.name-new_name.result.now c.name-new_name.ensures.name c.requires.apart
     c.remove.new.arena (alike_two _ _ _ c.self.invariant.store _ c.self.view_is p b node way arena refl c.remove.new.arena c.remove.ensures.links)
-    c.rename_node.new.arena _ c.rename_node.ensures.nodes c.rename_node.ensures.row c.rename_node.ensures.home c.rename_node.ensures.name
+    c.rename_node.new.arena _ c.rename_node.ensures.nodes c.rename_node.ensures.fields c.rename_node.ensures.home c.rename_node.ensures.name
     c.rename_node.ensures.whole c.requires.absent c.requires.depth
 
 pub enter-requires-clause-ordered : goal.enter-requires-clause-ordered
@@ -106,7 +106,7 @@ insert-requires-clause-tree c =
     (omega (arith, c.depth-depth.ensures.depth, c.depth-depth.ensures.within.some)) c.requires.parent
     c.lookup.result c.lookup.ensures.node c.lookup.ensures.path c.lookup.ensures.none c.name-new_name.result.now c.name-new_name.ensures.name c.requires.apart
     c.remove.new.arena (alike_two _ _ _ c.self.invariant.store _ c.self.view_is p b node way arena refl c.remove.new.arena c.remove.ensures.links)
-    c.rename_node.new.arena _ c.rename_node.ensures.nodes c.rename_node.ensures.row c.rename_node.ensures.home c.rename_node.ensures.name
+    c.rename_node.new.arena _ c.rename_node.ensures.nodes c.rename_node.ensures.fields c.rename_node.ensures.home c.rename_node.ensures.name
     c.rename_node.ensures.whole c.requires.absent c.requires.depth
 
 pub insert-requires-clause-entry : goal.insert-requires-clause-entry
@@ -118,7 +118,7 @@ insert-requires-clause-entry c =
     (omega (arith, c.depth-depth.ensures.depth, c.depth-depth.ensures.within.some)) c.requires.parent
     c.lookup.result c.lookup.ensures.node c.lookup.ensures.path c.lookup.ensures.none c.name-new_name.result.now c.name-new_name.ensures.name c.requires.apart
     c.remove.new.arena (alike_two _ _ _ c.self.invariant.store _ c.self.view_is p b node way arena refl c.remove.new.arena c.remove.ensures.links)
-    c.rename_node.new.arena _ c.rename_node.ensures.nodes c.rename_node.ensures.row c.rename_node.ensures.home c.rename_node.ensures.name
+    c.rename_node.new.arena _ c.rename_node.ensures.nodes c.rename_node.ensures.fields c.rename_node.ensures.home c.rename_node.ensures.name
     c.rename_node.ensures.whole c.requires.absent c.requires.depth
 
 pub insert-requires-clause-index : goal.insert-requires-clause-index
@@ -132,7 +132,7 @@ insert-requires-clause-index c =
     (omega (arith, c.depth-depth.ensures.depth, c.depth-depth.ensures.within.some)) c.requires.parent
     c.lookup.result c.lookup.ensures.node c.lookup.ensures.path c.lookup.ensures.none c.name-new_name.result.now c.name-new_name.ensures.name c.requires.apart
     c.remove.new.arena (alike_two _ _ _ c.self.invariant.store _ c.self.view_is p b node way arena refl c.remove.new.arena c.remove.ensures.links)
-    c.rename_node.new.arena _ c.rename_node.ensures.nodes c.rename_node.ensures.row c.rename_node.ensures.home c.rename_node.ensures.name
+    c.rename_node.new.arena _ c.rename_node.ensures.nodes c.rename_node.ensures.fields c.rename_node.ensures.home c.rename_node.ensures.name
     c.rename_node.ensures.whole c.requires.absent c.requires.depth c.remove.new.heads c.remove.ensures.index)
 
 pub invariant_of-self : goal.invariant_of-self
@@ -153,7 +153,7 @@ invariant_of-self c =
           c.lookup.result c.lookup.ensures.node c.lookup.ensures.path c.lookup.ensures.none c.name-new_name.result.now c.name-new_name.ensures.name
           c.requires.apart
           c.remove.new.arena (alike_two _ _ _ c.self.invariant.store _ c.self.view_is p b node way arena refl c.remove.new.arena c.remove.ensures.links)
-          c.rename_node.new.arena _ c.rename_node.ensures.nodes c.rename_node.ensures.row c.rename_node.ensures.home c.rename_node.ensures.name
+          c.rename_node.new.arena _ c.rename_node.ensures.nodes c.rename_node.ensures.fields c.rename_node.ensures.home c.rename_node.ensures.name
           c.rename_node.ensures.whole c.requires.absent c.requires.depth
           later alike runs c.insert.new.heads c.insert.ensures.index long free);
       ordered = ordered_kept (nodes_in three) (nodes_in later) c.enter.new.self None (nodes_long three later c.insert.ensures.size)
@@ -174,6 +174,6 @@ returns-clause-moved c =
     (omega (arith, c.depth-depth.ensures.depth, c.depth-depth.ensures.within.some)) c.requires.parent
     c.lookup.result c.lookup.ensures.node c.lookup.ensures.path c.lookup.ensures.none c.name-new_name.result.now c.name-new_name.ensures.name c.requires.apart
     c.remove.new.arena (alike_two _ _ _ c.self.invariant.store _ c.self.view_is p b node way arena refl c.remove.new.arena c.remove.ensures.links)
-    c.rename_node.new.arena _ c.rename_node.ensures.nodes c.rename_node.ensures.row c.rename_node.ensures.home c.rename_node.ensures.name
+    c.rename_node.new.arena _ c.rename_node.ensures.nodes c.rename_node.ensures.fields c.rename_node.ensures.home c.rename_node.ensures.name
     c.rename_node.ensures.whole c.requires.absent c.requires.depth
     later alike runs c.insert.new.heads c.insert.ensures.index long free

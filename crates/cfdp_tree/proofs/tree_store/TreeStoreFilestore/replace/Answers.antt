@@ -117,14 +117,15 @@ invariant_of-self c =
       store = subst (λ ws. IsStore c.set_contents.new.arena ws c.self.inside.heads.items c.self.inside.slots.items) (sym ways)
           (found_store _ _ _ c.self.invariant.store _ c.self.view_is c.args.first.now c.requires.first c.find_file-file.result file.node file.path file.contents
           c.replace.new.arena c.set_contents.new.arena c.replace.new.self (octets_of (nodes_in c.set_contents.new.arena) c.find_file-file.result.node)
-          after.nodes after.capacity after.spares after.filled (taken _ _ _ _ _ after.taken after.size) set.nodes set.row set.name set.whole set.runs set.free
+          after.nodes after.capacity after.spares after.filled (taken _ _ _ _ _ after.taken after.size) set.nodes set.fields set.name set.whole set.runs
+          set.free
           set.capacity _ after.octets
           c.replace.new.ways after.ways
           (subst (λ ws. KeepsWays c.self.inside.arena c.replace.new.arena ws c.replace.new.ways c.find_file-file.result.contents.run) c.deref_mut.ensures.value
           after.other_ways));
       ordered = ordered_written (nodes_in c.self.inside.arena) c.self.invariant.store.kept.tree c.find_file-file.result.node file.node
           (kind_there _ _ _ c.self.invariant.store _ c.self.view_is c.find_file-file.result.node c.args.first.now file.node file.path c.requires.first) _ _
-          (octets_of _ c.find_file-file.result.node) c.replace.new.self after.nodes set.nodes set.row set.name set.whole c.self.inside.orders
+          (octets_of _ c.find_file-file.result.node) c.replace.new.self after.nodes set.nodes set.fields set.name set.whole c.self.inside.orders
           c.self.invariant.ordered;
     }
 
@@ -155,7 +156,7 @@ returns-clause-replaced c =
     (eqb-false c.find_file-file.result.node c.find_file-source.result.node (sym c.eq.ensures ∙ c.if-eq.false)) in
     found_changes _ _ _ c.self.invariant.store _ c.self.view_is c.args.first.now c.requires.first c.find_file-file.result file.node file.path file.contents
     c.replace.new.arena c.set_contents.new.arena c.replace.new.self (octets_of (nodes_in c.set_contents.new.arena) c.find_file-file.result.node)
-    after.nodes after.capacity after.spares after.filled (taken _ _ _ _ _ after.taken after.size) set.nodes set.row set.name set.whole set.runs set.free
+    after.nodes after.capacity after.spares after.filled (taken _ _ _ _ _ after.taken after.size) set.nodes set.fields set.name set.whole set.runs set.free
     set.capacity
     (file_octets_at F c.args.second.now) (after.octets ∙ sym second)
     ∙ sym (ap (λ same. with_changes c.args.self.now (if same then [] else Becomes c.args.first.now (Some (File (file_octets_at F c.args.second.now))) ∷ []))

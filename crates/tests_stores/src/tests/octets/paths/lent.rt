@@ -116,5 +116,5 @@ fn longest_is_lent(alloc: Global) -> Result<bool, Memory> {
 
 #[test]
 fn the_longest_is_lent(rt: HostRuntime) {
-    assert!(rt; longest_is_lent(rt.alloc()) == Ok(true));
+    assert!(rt; longest_is_lent(rt.alloc()) == Ok(true), "the longest path");
 }

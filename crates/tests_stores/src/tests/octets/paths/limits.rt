@@ -48,7 +48,7 @@ fn longest_is_read(alloc: Global) -> Result<bool, Memory> {
 
 #[test]
 fn it_is_read(rt: HostRuntime) {
-    assert!(rt; longest_is_read(rt.alloc()) == Ok(true));
+    assert!(rt; longest_is_read(rt.alloc()) == Ok(true), "the longest path");
 }
 
 /// Whether it is moved to another longest path.
@@ -60,5 +60,5 @@ fn longest_moves(alloc: Global) -> Result<bool, Memory> {
 
 #[test]
 fn it_moves(rt: HostRuntime) {
-    assert!(rt; longest_moves(rt.alloc()) == Ok(true));
+    assert!(rt; longest_moves(rt.alloc()) == Ok(true), "the longest path");
 }

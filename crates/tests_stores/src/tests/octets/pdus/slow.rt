@@ -119,11 +119,11 @@ fn split_fields(alloc: Global, octets: &[u8]) -> Result<Fields<'_>, AllocError> 
     let mut whole = Vec::new(alloc);
     let mut rest = octets;
     for _ in 0..octets.len() {
-        let Some((kind, value, behind)) = tlv(rest) else {
+        let Some((kind, value, following)) = tlv(rest) else {
             break;
         };
         whole.push((kind, value))?;
-        rest = behind;
+        rest = following;
     }
     Ok(Fields {
         whole,

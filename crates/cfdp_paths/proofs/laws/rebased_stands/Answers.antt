@@ -1,5 +1,0 @@
-use Rattle.cfdp_paths.proofs.Below.{rebased-append}
-use Rattle.cfdp_paths.proofs.laws.rebased_stands.Goals as goal
-
-pub returns : goal.returns
-returns c = rebased-append

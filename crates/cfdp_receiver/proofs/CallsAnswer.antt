@@ -1,0 +1,76 @@
+-- What the calls of a receiver do.
+use Rattle.std.specs.Prelude.{slice_get, max, map, is_some, IfSome, IfNone, IfOk, OnErr, Result, Ok, Err}
+use Rattle.std.proofs.Common.{◌≡◌, ℕ, zero, suc, ◌≤◌, ◌<◌, List, [], ◌∷◌, length, true, false, Option, Some, None, refl, sym, ap, subst, ◌∙◌, arith}
+use Rattle.cfdp_sessions.specs.Sessions.{SessionFields}
+use Rattle.cfdp_transactions.specs.Entry.{Entry, name_of}
+use Rattle.cfdp_transactions.specs.World.{World}
+use Rattle.cfdp_transactions.specs.declared.reply.Reply.{Reply}
+use Rattle.cfdp_receiver.specs.State.{State, Input, now_of}
+use Rattle.cfdp_receiver.specs.Handing.{events_of}
+use Rattle.cfdp_receiver.specs.declared.reading.Dropped.{Dropped}
+use Rattle.cfdp_receiver.specs.StateMachine.{StateMachineFields, AnswerParts, answer_in}
+use Rattle.cfdp_receiver.specs.code.StateMachine.{IsWholeReceiver, Turns, at_moment}
+use Rattle.cfdp_receiver.specs.Turning as Turning
+use Rattle.cfdp_receiver.proofs.LateTurns.{turned, turns_by}
+use Rattle.cfdp_receiver.proofs.StaysWhole.{whole_turn}
+
+-- ---- the moment
+
+-- an input as it is said to the machine, once the moment was handed in, and as it came
+pub moved : (M L N : StateMachineFields) (a : AnswerParts) (now : ℕ) (i : ℕ → Input) → ((R : State) (x y : ℕ) → events_of R (i x) ≡ events_of R (i y)) →
+    ((R : State) (V : World) (rs : List Reply) (x y : ℕ) → Turning.parts_of R V rs (i x) ≡ Turning.parts_of R V rs (i y)) →
+    L ≡ at_moment now M → Turns L N a (i L.state.now) → Turns (at_moment now M) N a (i now)
+moved M L N a now i events parts later t =
+    let K = at_moment now M in
+    let s = subst (λ (X : StateMachineFields). Turns X N a (i X.state.now)) later t in
+    turns_by K N a (i now) (events_of K.state (i K.state.now)) (λ (V : World) (rs : List Reply). Turning.parts_of K.state V rs (i K.state.now))
+    (events K.state now K.state.now) (λ (V : World) (rs : List Reply). parts K.state V rs now K.state.now) s.world s.mib s.now s.sessions s.closed s.answer
+
+max_zero : (n : ℕ) → max n 0 ≡ n
+max_zero n = omega arith
+
+-- an input without a moment
+pub at_no_moment : (M : StateMachineFields) → at_moment 0 M ≡ M
+at_no_moment M = ap (λ (n : ℕ). record M { state = record M.state { now = n } }) (max_zero M.state.now)
+
+-- ---- calls that may be out of memory
+
+pub turned_where_ok : {E : Type 0} (M N : StateMachineFields) (i : Input) (result : Result AnswerParts E) → IfOk result
+    (λ a. Turns (at_moment (now_of i) M) N a i) →
+    IfOk result (λ a. Turning.turn M.state i ≡ (N.state, answer_in N a))
+turned_where_ok M N i (Ok a) t = turned M N a i t
+turned_where_ok M N i (Err why) t = tt
+
+pub whole_where_ok : {E : Type 0} (M N : StateMachineFields) (i : Input) (result : Result AnswerParts E) → IsWholeReceiver M.state → IsWholeReceiver
+    (Turning.after_input M.state i) →
+    IfOk result (λ a. Turns (at_moment (now_of i) M) N a i) → OnErr result (N ≡ M) → IsWholeReceiver N.state
+whole_where_ok M N i (Ok a) before after t same = whole_turn M N a i after t
+whole_where_ok M N i (Err why) before after t same = subst (λ (X : StateMachineFields). IsWholeReceiver X.state) (sym same) before
+
+-- ---- what is asked
+
+some_at : (ss : List SessionFields) (index : ℕ) → index < length ss → is_some (slice_get ss index) ≡ true
+some_at [] index here = absurd (omega arith)
+some_at (s ∷ ss) zero here = refl
+some_at (s ∷ ss) (suc index) here = some_at ss index (omega arith)
+
+pub some_there : (found : Option ℕ) (ss : List SessionFields) (first : Option SessionFields) → IfSome found (λ index. first ≡ slice_get ss index) →
+    IfSome found (λ index. index < length ss) → IfNone found (first ≡ None) → is_some found ≡ is_some first
+some_there None ss first some here none = sym (ap is_some none)
+some_there (Some index) ss first some here none = sym (ap is_some some ∙ some_at ss index here)
+
+pub none_named : (es : List Entry) → is_some (slice_get (map name_of es) 0) ≡ false → es ≡ []
+none_named [] none = refl
+none_named (e ∷ es) none = absurd cc
+
+pub some_named : (es : List Entry) → is_some (slice_get (map name_of es) 0) ≡ true → 1 ≤ length es
+some_named [] some = absurd cc
+some_named (e ∷ es) some = omega arith
+
+-- ---- octets that come
+
+pub heard_ok : {E : Type 0} (read : Result Input Dropped) (M N : StateMachineFields) (i : Input) (result : Result AnswerParts E) → read ≡ Ok i →
+    IfOk result (λ a. Turning.turn M.state i ≡ (N.state, answer_in N a)) →
+    IfOk result (λ a. (x : Input) × (read ≡ Ok x) × (Turning.turn M.state x ≡ (N.state, answer_in N a)))
+heard_ok read M N i (Ok a) is t = (i, is, t)
+heard_ok read M N i (Err why) is t = tt
