@@ -2,6 +2,7 @@
 
 use crate::end::End;
 use crate::input::unread;
+use crate::pieces::PIECE;
 use crate::show::print;
 use cfdp_disturb::{Copies, Draw, Link, is_pdu_line};
 use cfdp_lines::{INPUT_LIMIT, LINE_LIMIT};
@@ -22,9 +23,6 @@ pub struct Odds {
 
 /// The stream of PCG32 from which is drawn.
 const STREAM: u64 = 54;
-
-/// How many octets are read at once, and held back at most before they are written, a line apart.
-const PIECE: usize = 65_536;
 
 /// How the program ends where this line of a script with a name, counted from 1, is too long.
 fn too_long(alloc: Global, name: &str, number: u64) -> End {

@@ -3,6 +3,7 @@
 use crate::elapsed::{Elapsed, ProgressReport};
 use crate::end::End;
 use crate::path_text::push_path;
+use crate::pieces::PIECE;
 use cfdp_actions::{Entry, Filestore, Kind};
 use cfdp_entity::Entity;
 use cfdp_paths::Path;
@@ -11,9 +12,6 @@ use std::fs;
 use std::io::{ErrorKind, Write};
 use std::rt::{Clock, Files};
 use std::time::Instant;
-
-/// How many octets are written at once.
-const PIECE: usize = 65_536;
 
 /// Where a path is in a folder, as listings print it. No name of it is empty, `.` or `..`, so no path leads out of the
 /// folder.

@@ -11,8 +11,8 @@ use std::thread;
 use std::thread::Threads;
 use std::time::Duration;
 
-/// How many octets a piece has at most. A datagram has no more, so it is read whole.
-const PIECE: usize = 65_536;
+/// How many octets are read or written at once. A datagram has no more, so it is read whole.
+pub const PIECE: usize = 65_536;
 
 /// How many pieces are read before they are taken.
 const AHEAD: usize = 16;

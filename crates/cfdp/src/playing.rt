@@ -3,6 +3,7 @@
 use crate::elapsed::Elapsed;
 use crate::end::End;
 use crate::named::Named;
+use crate::pieces::PIECE;
 use cfdp_lines::{INPUT_LIMIT, NEWLINE};
 use cfdp_run::{ScriptStop, push_wrong};
 use cfdp_run_script::{RunScript, ScriptSession};
@@ -12,9 +13,6 @@ use std::alloc::{AllocError, Global};
 use std::io::Read;
 use std::rt::{Clock, Files};
 use std::time::Instant;
-
-/// How many octets of a script are read at once.
-const PIECE: usize = 65_536;
 
 /// What became of octets of a script.
 #[derive(Clone, Copy)]
