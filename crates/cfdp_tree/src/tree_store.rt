@@ -36,7 +36,7 @@ use std::marker::Model;
 /// in which the entries of each directory and of the root are in order of their names (`cfdp_order`). And 64 slots:
 /// each has the size, the checksum, the first and the last block of a staged list, where it was last written, and what
 /// of it was never written. [`TreeStore::new`] takes the memory of all of these, and none of them grows after
-/// it. `listing` and `existing` take memory for what they return, and no other call takes any.
+/// it. `listing` and `existing` take memory for what they return. All other calls take none.
 ///
 /// Cost: a call looks each name of its paths up by the directory and the name, in expected constant time whatever else
 /// the directory has. Where strangers chose many names of one hash, a look-up compares at most 31 names. `kind`,
