@@ -32,24 +32,29 @@
  * Metadata PDU takes at most 5200000 octets. The most that we know of is 1380061.
  * After the last cfdp_take nothing is kept but what cfdp_new took. examples/c/memory.c counts it.
  *
- * THE LONGEST CALLS that we know on a full filestore of 65536 blocks, in millions of instructions. docs/C.md has the
- * longest case of each call.
- *   cfdp_receive, Metadata:   46  (64 renames of and in two directories that hold the same 124 chains of directories)
- *   cfdp_receive, Metadata:  6.4  (64 renames of long paths, beside 63 such lists)
- *   cfdp_receive, Metadata:  3.5  (63 files beside 30000 directories with a file each, and a rename of the directory
+ * THE LONGEST CALLS that we know on a full filestore of 65536 blocks, in millions of instructions, rounded up.
+ * docs/C.md has the longest case of each call.
+ *   cfdp_receive, Metadata:   46  (64 renames of and in two directories that hold the same 124 chains of
+ *                                 directories)
+ *   cfdp_receive, Metadata:   35  (the same with 100 chains, whose names a sender chose; 12 more renames move one of
+ *                                 the two)
+ *   cfdp_receive, Metadata:   33  (the same with 84 chains; 20 more renames move one of the two)
+ *   cfdp_receive, Metadata:   11  (64 renames of long paths with names of one hash, beside 63 such lists)
+ *   cfdp_receive, Metadata:  8.1  (64 renames of long paths in falling path order, beside 63 such lists)
+ *   cfdp_receive, Metadata:  3.6  (63 files beside 30000 directories with a file each, and a rename of the directory
  *                                 that has them)
- *   cfdp_receive, Metadata:  2.9  (64 renames of a directory of 65000 entries)
- *   cfdp_receive, Metadata:  2.6  (a file for each of six directories, each in the one before it, and a rename of the
- *                                 first; 60000 files are in the last one)
- *   cfdp_receive, File Data: 3.0  (the end of a file of 7.8 MB of which nothing came)
+ *   cfdp_receive, Metadata:  3.0  (64 renames of a directory of 65000 entries)
+ *   cfdp_receive, Metadata:  2.6  (a file for each of six directories, each in the one before it, and a rename of
+ *                                 the first; 60000 files are in the last one)
+ *   cfdp_receive, File Data: 3.1  (the end of a file of 7.8 MB of which nothing came)
  *   cfdp_free:                27  (64 lists of 64 renames of long paths are live)
  *   cfdp_step:                11  (an append of 3.9 MB)
- *   cfdp_put:                8.1  (a file of 7.8 MB)
- *   cfdp_read:               2.7  (a file of 7.8 MB)
- *   cfdp_cancel:             1.6  (a list of 64 renames of long paths, beside 63 such lists; as much for each other
+ *   cfdp_put:                8.2  (a file of 7.8 MB)
+ *   cfdp_read:               2.8  (a file of 7.8 MB)
+ *   cfdp_cancel:             1.7  (a list of 64 renames of long paths, beside 63 such lists; as much for each other
  *                                 call by which such a list ends)
- *   cfdp_new:                1.6
- *   cfdp_reply_text:        0.23  (the longest Finished PDU)
+ *   cfdp_new:                1.6  (65536 blocks)
+ *   cfdp_reply_text:        0.24  (the longest Finished PDU)
  *   any other call: less than 0.1
  *
  * NAMES begin with cfdp_ or CFDP_, and those of an enumeration say which one. Other CFDP packages use some of the

@@ -17,9 +17,10 @@
  *
  * THE LONGEST CALLS are those of the engine for the same event (cfdp.h): cfdp_receiver_receive is as long as
  * cfdp_receive, cfdp_receiver_work as cfdp_step, cfdp_receiver_cancel as cfdp_cancel, cfdp_receiver_read as cfdp_read,
- * and cfdp_receiver_free as cfdp_free. What a receiver adds is less than 10000 instructions, beside 63 other
- * transactions too, but for a Finished PDU of 64 renames of long paths: cfdp_receiver_finish takes 240000 then, and
- * cfdp_receiver_write 250000 with a CRC. docs/C.md has the longest case of each. */
+ * and cfdp_receiver_expire as cfdp_cancel where a timer has reached its limit. What a receiver adds is less than 10000
+ * instructions, beside 63 other transactions too, except for transactions of 64 renames of long paths:
+ * cfdp_receiver_finish takes up to 242000 for one, cfdp_receiver_write up to 251000 for its Finished PDU with a CRC,
+ * and cfdp_receiver_free up to 27000000 where 64 of them are live. docs/C.md has the longest case of each. */
 #ifndef CFDP_RECEIVER_H
 #define CFDP_RECEIVER_H
 
@@ -157,7 +158,7 @@ enum cfdp_answer cfdp_receiver_receive(struct cfdp_receiver *receiver, uint64_t 
 
 /* Time has passed: the first timer that is due is served. Returns CFDP_ANSWER_DONE with the report, whose `became`
  * is CFDP_BECAME_NOTHING if none is due; or CFDP_ANSWER_NO_ENGINE. Cost: at most one pass over the 64 transactions,
- * and that of its event. */
+ * and that of its event: at a limit that of cfdp_cancel. */
 enum cfdp_answer cfdp_receiver_expire(struct cfdp_receiver *receiver, uint64_t now, struct cfdp_report *report);
 
 /* The next item of the first transaction that has one is performed (filestore procedures): its file is installed, or

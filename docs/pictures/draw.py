@@ -91,7 +91,7 @@ def read_crates():
 
 
 def direct(crates):
-    """The same without what follows: a crate below one that is named too is left out."""
+    """The crates without what follows from the rest: a crate below another that is named too is left out."""
     @lru_cache(None)
     def below(crate):
         return frozenset(crates[crate]).union(*(below(low) for low in crates[crate]))
@@ -167,7 +167,7 @@ def from_left(wanted, row, sizes, low):
 
 
 def from_right(wanted, row, sizes, high):
-    """The same from the right."""
+    """Positions for a row, as `from_left` finds them, but from the right end of the row."""
     mirrored = from_left({one: -wanted[one] for one in row}, row[::-1], sizes, -high)
     return {one: -position for one, position in mirrored.items()}
 

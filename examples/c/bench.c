@@ -610,6 +610,7 @@ static void check_taken(uint32_t requests) {
 }
 
 #include "bench_lists.h"
+#include "bench_chosen.h"
 #include "bench_receiver.h"
 
 /* ---- the workloads */
@@ -665,6 +666,10 @@ static const struct workload workloads[] = {
     {"inside-admitted", 70, 30000, 65000, RANDOM, prepare_inside, admit, check_nothing},
     {"nested-walk", 70, 30000, 60000, RISING, prepare_nested_walk, admit, check_nothing},
     {"subdirectories", 70, 15000, 30000, RISING, prepare_subdirectories, admit, check_nothing},
+    {"look-up-chosen", 70, 6764, 6764, RISING, prepare_way, look_up_way, check_way},
+    {"next-chosen", 70, 6764, 6764, RISING, prepare_next_chosen, next_after_way, check_after_way},
+    {"read-chosen", 70, 6764, 6764, RISING, prepare_read_chosen, read_way, check_far},
+    {"step-chosen", 70, 6764, 6764, RISING, prepare_step_chosen, step_list, check_step_chosen},
     {"move-step", 70, 30000, 65000, RANDOM, prepare_move_step, step_list, check_moved},
     {"move-deeper", 70, 30000, 65000, RANDOM, prepare_deeper, step_list, check_deeper},
     /* the size: blocks of the filestore */
@@ -681,15 +686,21 @@ static const struct workload workloads[] = {
     {"read-whole", 30, 7800, MOST_PIECES, RISING, deliver, read_whole, check_all},
     /* the size: requests of a list */
     {"take", 1, LIST, LIST, RISING, prepare_take, take_list, check_taken},
+    {"take-long", 1, LIST, LIST, RISING, prepare_long_take, take_list, check_nothing},
     {"reply-text", 1, LIST, LIST, RISING, prepare_text, write_text, check_text},
     /* the size: other transactions with a list as long as the one that is admitted */
     {"long-list", 1, LIVE, LIVE, RISING, prepare_long, admit, check_nothing},
+    {"long-list-falling", 1, LIVE, LIVE, FALLING, prepare_long, admit, check_nothing},
+    {"long-list-one-hash", 1, LIVE, LIVE, ONE_HASH, prepare_long, admit, check_nothing},
     {"last-step", 1, LIVE, LIVE, RISING, prepare_last_step, step_list, check_done},
     {"cancel-list", 1, LIVE, LIVE, RISING, prepare_live, cancel_list, check_nothing},
+    {"asks", 1, LIVE, LIVE, RISING, prepare_asks, ask, check_asks},
     {"free-live", 1, LIVE, LIVE, RISING, prepare_live, free_engine, check_gone},
     /* the size: requests of a list */
     {"nested-directories", 1, LIST, LIST, RISING, prepare_nest, admit, check_nothing},
     {"swapped-chains", 4, LIST, LIST, RISING, prepare_chains, admit, check_nothing},
+    {"moved-chains", 4, LIST, LIST, RISING, prepare_moved_chains, admit, check_nothing},
+    {"chosen-chains", 4, LIST, LIST, RISING, prepare_chosen_chains, admit, check_nothing},
     /* the size: other directories in each of six */
     {"other-directories", 4, LIST, LIST, RISING, prepare_other_directories, admit, check_nothing},
     /* the size: other transactions of a receiver */
@@ -703,6 +714,7 @@ static const struct workload workloads[] = {
     {"receiver-finish", 1, LIVE, LIVE, RISING, prepare_finish, finish, check_receiver},
     {"receiver-write", 1, LIVE, LIVE, RISING, prepare_write, write_one, check_receiver},
     {"receiver-cancel", 1, LIVE, LIVE, RISING, prepare_receiver_cancel, cancel_heard, check_receiver},
+    {"receiver-expire-limit", 1, LIVE, LIVE, RISING, prepare_receiver_cancel, expire_at_limit, check_receiver},
     {"receiver-forget", 1, LIVE, LIVE, RISING, prepare_write, forget, check_receiver},
     {"receiver-free", 1, LIVE, LIVE, RISING, prepare_receiver_cancel, free_receiver, check_gone},
     /* the size: blocks of the filestore */

@@ -24,6 +24,8 @@ enum {
     LIST = 64,          /* requests of a list */
     OTHERS = 60,        /* files that take their blocks in turn */
     LIVE = 63,          /* other transactions, each with a list */
+    RANGES = 32,        /* pieces of a file that came, each between two gaps */
+    GAPPED = (2 * RANGES + 1) * SMALL_PIECE, /* octets of that file */
     BESIDE = 32,        /* requests of the list that is admitted beside them */
     LOOK_UPS = 1000
 };
@@ -250,7 +252,7 @@ static void make_engine(uint32_t blocks) {
  * 0. */
 #define ONE_HASH_TAIL "\x15\x7c\x4a\x7f\xb9\x79\x37\x9e"
 
-enum { LONGEST_PATH = 2 + 8 + 8 };
+enum { ONE_HASH_OCTETS = 8, LONGEST_PATH = 2 + 8 + ONE_HASH_OCTETS };
 
 /* The path of an entry: a directory of one letter, and a number of six digits, or of eight and a tail. So the order of
  * paths is that of the numbers. */

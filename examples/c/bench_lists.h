@@ -15,6 +15,7 @@ static void spell_long(struct cfdp_path *path, char which, uint32_t number, uint
         int begun = sprintf(octets + path->length, "%c%02u%02u", which, (unsigned)number, (unsigned)request);
         memset(octets + path->length + begun, 'x', LONG_NAME - (size_t)begun);
         path->length += LONG_NAME;
+        if (arrangement == ONE_HASH) memcpy(octets + path->length - ONE_HASH_OCTETS, ONE_HASH_TAIL, ONE_HASH_OCTETS);
     }
 }
 
@@ -44,8 +45,9 @@ static void make_long_paths(uint32_t others) {
 /* The Metadata PDU of a list that renames 64 files, each into another directory. */
 static void make_long_list(uint32_t number) {
     make_metadata(number, 0, "");
-    for (uint32_t request = 0; request < LIST; request++) {
+    for (uint32_t i = 0; i < LIST; i++) {
         struct cfdp_path from, to;
+        uint32_t request = arrangement == FALLING ? LIST - 1 - i : i;
         spell_long(&from, 'a', number, request);
         spell_long(&to, 'b', number, request);
         from.octets[from.length] = 0;
@@ -54,13 +56,17 @@ static void make_long_list(uint32_t number) {
     }
 }
 
-/* Such lists of other transactions, and one more. */
-static void prepare_long(uint32_t others) {
-    make_long_paths(others);
+static void admit_long_lists(uint32_t others) {
     for (uint32_t i = 0; i < others; i++) {
         make_long_list(FIRST_OTHER + i);
         receive(CFDP_ADMITTED);
     }
+}
+
+/* Such lists of other transactions, and one more. */
+static void prepare_long(uint32_t others) {
+    make_long_paths(others);
+    admit_long_lists(others);
     make_long_list(LIST_NUMBER);
 }
 
@@ -259,12 +265,119 @@ static void prepare_subdirectories(uint32_t count) {
     add_request(RENAME, "d", "e");
 }
 
+/* Octets of the paths of a request whose response is the longest: the path of a file in a directory with the longest
+ * name, and what it is renamed to there. */
+enum { LONG_FROM = 126, LONG_TO = 125 };
+
+static void spell_renamed(char text[TEXT], char which, uint32_t request) {
+    size_t octets = which == 'a' ? LONG_FROM : LONG_TO;
+    memset(text, 'x', octets);
+    text[TOP_NAME] = '/';
+    text[octets] = 0;
+    text[octets - 1] = which;
+    for (int i = 2; i <= 3; i++, request /= 10) text[octets - (size_t)i] = (char)('0' + request % 10);
+}
+
+/* A list of this many renames with such paths is performed, and its outcome can be taken. */
+static void prepare_long_take(uint32_t requests) {
+    char from[TEXT], to[TEXT];
+    make_engine(BLOCKS);
+    spell_renamed(from, 'a', 0);
+    from[TOP_NAME] = 0;
+    put_text(from, CFDP_ENTRY_DIRECTORY);
+    for (uint32_t request = 0; request < requests; request++) {
+        spell_renamed(from, 'a', request);
+        put_text(from, CFDP_ENTRY_FILE);
+    }
+    make_metadata(LIST_NUMBER, 0, "");
+    for (uint32_t request = 0; request < requests; request++) {
+        spell_renamed(from, 'a', request);
+        spell_renamed(to, 'b', request);
+        add_request(RENAME, from, to);
+    }
+    receive(CFDP_ADMITTED);
+    make_eof(LIST_NUMBER, 0, 0);
+    receive(CFDP_COMPLETE);
+    for (uint32_t request = 0; request < requests; request++) step(LIST_NUMBER, CFDP_PERFORMED);
+}
+
+/* What the calls that change nothing answered of the last transaction, and the longest names of a Metadata PDU. */
+enum { LONGEST_NAME = 255, MADE_ASKS = 16 };
+static struct cfdp_reply outcome;
+static enum cfdp_answer asked[MADE_ASKS];
+static uint8_t asked_names[2][LONGEST_NAME + 1];
+static struct cfdp_gap asked_gap;
+
+/* Other transactions, and one more with a file, of which each second piece came, from its second one on. */
+static void prepare_asks(uint32_t others) {
+    char name[LONGEST_NAME + 1];
+    memset(name, 'x', LONGEST_NAME);
+    make_long_paths(others);
+    name[TOP_NAME] = 0;
+    put_text(name, CFDP_ENTRY_DIRECTORY);
+    name[TOP_NAME] = '/';
+    name[2 * TOP_NAME + 1] = 0;
+    put_text(name, CFDP_ENTRY_DIRECTORY);
+    name[2 * TOP_NAME + 1] = '/';
+    name[LONGEST_NAME] = 0;
+    admit_long_lists(others);
+    make_metadata(FILE_NUMBER, GAPPED, name);
+    receive(CFDP_ADMITTED);
+    for (uint32_t i = 0; i < RANGES; i++) {
+        make_data(FILE_NUMBER, (2 * i + 1) * SMALL_PIECE, SMALL_PIECE);
+        receive(CFDP_STORED);
+    }
+    make_eof(FILE_NUMBER, checksum_of(GAPPED), GAPPED);
+    receive(CFDP_WAITING);
+}
+
+/* Each call that only tells something of a transaction, or writes a fixed line, and a check below its limit. */
+static uint32_t ask(uint32_t others) {
+    static uint8_t text[32];
+    struct cfdp_transaction transaction;
+    struct cfdp_phase phase;
+    struct cfdp_grant grant;
+    struct cfdp_blocks blocks;
+    struct cfdp_metadata metadata;
+    uint64_t offset;
+    uint32_t steps;
+    int64_t spent;
+    size_t count;
+    enum cfdp_answer *answer = asked;
+    *answer++ = cfdp_next_runnable(&engine, &transaction);
+    *answer++ = cfdp_next_outcome(&engine, &transaction);
+    *answer++ = cfdp_transaction_at(&engine, others, &transaction);
+    *answer++ = cfdp_phase(&engine, 1, FILE_NUMBER, &phase);
+    *answer++ = cfdp_grant(&engine, 1, FILE_NUMBER, &grant);
+    *answer++ = cfdp_blocks_spent(&engine, 1, FILE_NUMBER, &spent);
+    *answer++ = cfdp_steps_spent(&engine, 1, FILE_NUMBER, &steps);
+    *answer++ = cfdp_blocks(&engine, &blocks);
+    *answer++ = cfdp_gap(&engine, 1, FILE_NUMBER, RANGES, &asked_gap);
+    *answer++ = cfdp_progress(&engine, 1, FILE_NUMBER, &offset);
+    *answer++ = cfdp_reach(&engine, 1, FILE_NUMBER, &offset);
+    *answer++ = cfdp_metadata(&engine, 1, FILE_NUMBER, &metadata);
+    *answer++ = cfdp_source_name(&engine, 1, FILE_NUMBER, asked_names[0], sizeof asked_names[0], &count);
+    *answer++ = cfdp_destination_name(&engine, 1, FILE_NUMBER, asked_names[1], sizeof asked_names[1], &count);
+    *answer++ = cfdp_answer_text(CFDP_ANSWER_CRC_NOT_SUPPORTED, text, sizeof text, &count);
+    *answer++ = cfdp_check(&engine, 1, FILE_NUMBER, &outcome);
+    return MADE_ASKS;
+}
+
+/* No item can be performed, and no outcome be taken. The last gap is before the end of the file. */
+static void check_asks(uint32_t others) {
+    (void)others;
+    for (int i = 0; i < MADE_ASKS; i++)
+        if (asked[i] != (i < 2 ? CFDP_ANSWER_NOTHING : CFDP_ANSWER_DONE)) fail("another answer");
+    if (asked_gap.start != GAPPED - SMALL_PIECE || asked_gap.end != GAPPED) fail("another gap");
+    if (memcmp(asked_names[0], asked_names[1], sizeof asked_names[0]) != 0) fail("another name");
+    note(asked_gap.start);
+}
+
 /* Octets of the longest header, of the name of a request that makes the longest response, and of the longest line. */
 enum { WIDE_HEADER = 28, WIDE_NAME = 252, LONGEST_LINE = 33028 };
 
 /* The outcome of a list of transaction WIDE/WIDE, whose numbers have the most digits, and its line. */
 static const uint64_t WIDE = UINT64_MAX;
-static struct cfdp_reply outcome;
 static uint8_t finished[16488], line[LONGEST_LINE];
 static size_t finished_length, line_length;
 

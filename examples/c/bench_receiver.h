@@ -7,10 +7,8 @@
 #include "bench.h"
 
 enum {
-    RANGES = 32,                                /* pieces that came, each between two gaps */
-    GAPPED = (2 * RANGES + 1) * SMALL_PIECE,    /* octets of the file that they are of */
-    INTERVAL = 1000,                            /* of each timer */
-    LEAST_NAK = 72                              /* so that the gaps need the most NAK PDUs */
+    INTERVAL = 1000, /* of each timer */
+    LEAST_NAK = 72   /* so that the gaps need the most NAK PDUs */
 };
 
 static struct cfdp_receiver receiver = CFDP_RECEIVER_EMPTY;
@@ -169,6 +167,13 @@ static void prepare_receiver_cancel(uint32_t others) {
 static uint32_t cancel_heard(uint32_t others) {
     (void)others;
     note_report(cfdp_receiver_cancel(&receiver, 0, 1, LIST_NUMBER, &report), CFDP_BECAME_REPLIED);
+    return 1;
+}
+
+/* The others and this list waited too long for their EOF PDUs: the fault of the first one cancels it. */
+static uint32_t expire_at_limit(uint32_t others) {
+    (void)others;
+    note_report(cfdp_receiver_expire(&receiver, 2 * INTERVAL, &report), CFDP_BECAME_FAULTED);
     return 1;
 }
 

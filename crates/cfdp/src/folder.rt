@@ -3,7 +3,7 @@
 use crate::end::End;
 use crate::input;
 use crate::path_text::push_path;
-use cfdp_actions::Filestore;
+use cfdp_actions::{Filestore, PAYLOAD_OCTETS};
 use cfdp_entity::Entity;
 use cfdp_paths::{Path, PathFault};
 use cfdp_plans::read_path;
@@ -12,9 +12,6 @@ use std::alloc::{AllocError, Global};
 use std::fs;
 use std::io::{Error, ErrorKind};
 use std::rt::Files;
-
-/// How many octets of a file a block has.
-const PAYLOAD_OCTETS: u64 = 120;
 
 /// The most directories that a filestore has, and the folder itself.
 const MOST_DIRECTORIES: usize = 65_537;

@@ -14,8 +14,9 @@ use Rattle.cfdp_status.specs.declared.action.Action.TheVariants as action
 use Rattle.cfdp_status.specs.declared.action.Action.{Action}
 use Rattle.cfdp_paths.specs.Paths.{Path, same_path, is_at_or_below}
 use Rattle.cfdp_paths.proofs.Comparing.{same_path-Decides}
+use Rattle.cfdp_paths.specs.PathMaps.{is_too_deep}
 use Rattle.cfdp_actions.specs.Filestore.{Node, Directory, File, Filestore, node_at, octets_in, file_octets_at, is_directory, is_file, blocks_of, weight, Change, Becomes, has_entries, parent_is_good, tree_at}
-use Rattle.cfdp_actions.specs.Actions.{Request, CreateFile, DeleteFile, RenameFile, AppendFile, ReplaceFile, CreateDirectory, RemoveDirectory, DenyFile, DenyDirectory, action_in, Perform, Performed, Outcome, bars, denied as denied_outcome, within, act, succeeded, ticks, refused, succeeds, create, delete_file, is_tree_too_deep, vacating, arriving, rename, append, replace, remove_directory, deny_file, deny_directory, table}
+use Rattle.cfdp_actions.specs.Actions.{Request, CreateFile, DeleteFile, RenameFile, AppendFile, ReplaceFile, CreateDirectory, RemoveDirectory, DenyFile, DenyDirectory, action_in, Perform, Performed, Outcome, bars, denied as denied_outcome, within, act, succeeded, ticks, refused, succeeds, create, delete_file, vacating, arriving, rename, append, replace, remove_directory, deny_file, deny_directory, table}
 
 abbrev pub Allowed : Filestore → Request → Type 0
 Allowed F request = IsTrue (succeeded (table F request).answer)
@@ -141,7 +142,7 @@ pub record Moves (F : Filestore) (p q : Path) (o : Outcome) : Type 0 where
   pub absent : node_at F q ≡ None
   pub parent : parent_is_good F q ≡ true
   pub apart : is_at_or_below q p ≡ false
-  pub depth : is_tree_too_deep p q (tree_at F p) ≡ false
+  pub depth : is_too_deep p q (tree_at F p) ≡ false
   pub row : IsRow action.RenameFile o (vacating (tree_at F p) ++ arriving p q (tree_at F p)) 0 0 0
 
 shallow : (changes : List Change) (deep : Bool) (o : Outcome) → o ≡ (if deep then refused (NotAllowed action.RenameFile)
@@ -150,7 +151,7 @@ shallow changes true o e h = absurd (false≢true (subst (λ (o : Outcome). IsTr
 shallow changes false o e h = (refl, subst (λ o. IsRow action.RenameFile o changes 0 0 0) (sym e) (succeeded_row _ _ _ _ _ _ refl))
 
 tree_moved : (p q : Path) (a b : Option Node) (good below : Bool) (es : List (Path × Node)) → IsTrue (succeeded (rename p q a b good below es).answer) →
-    (is_some a ≡ true) × (b ≡ None) × (good ≡ true) × (below ≡ false) × (is_tree_too_deep p q es ≡ false)
+    (is_some a ≡ true) × (b ≡ None) × (good ≡ true) × (below ≡ false) × (is_too_deep p q es ≡ false)
     × IsRow action.RenameFile (rename p q a b good below es) (vacating es ++ arriving p q es) 0 0 0
 unfolding rename
 tree_moved p q None b good below es h = absurd (false≢true h)
@@ -158,7 +159,7 @@ tree_moved p q (Some node) (Some other) good below es h = absurd (false≢true h
 tree_moved p q (Some node) None false below es h = absurd (false≢true h)
 tree_moved p q (Some node) None true true es h = absurd (false≢true h)
 tree_moved p q (Some node) None true false es h =
-    let facts = shallow (vacating es ++ arriving p q es) (is_tree_too_deep p q es) _ refl h in
+    let facts = shallow (vacating es ++ arriving p q es) (is_too_deep p q es) _ refl h in
     (refl, refl, refl, refl, facts.0, facts.1)
 
 pub moved : (F : Filestore) (request : Request) (p q : Path) → Allowed F request → request ≡ RenameFile p q → Moves F p q (table F request)

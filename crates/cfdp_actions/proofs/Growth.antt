@@ -5,7 +5,7 @@ use Rattle.cfdp_paths.specs.Paths.{Path}
 use Rattle.cfdp_status.specs.declared.action.Action.{Action}
 use Rattle.cfdp_actions.specs.Filestore.{Node, Directory, File, Filestore, node_at, staged_in, blocks_of, weight, blocks, Becomes, Stages, changed, after}
 use Rattle.cfdp_actions.specs.Actions.{Outcome, create, delete_file, append, replace, remove_directory, deny_file, deny_directory, install}
-pub use Rattle.cfdp_actions.proofs.RowLaws.{blocks_of-mono as blocks_of-le}
+use Rattle.cfdp_actions.proofs.RowLaws.{blocks_of-mono}
 use Rattle.cfdp_actions.proofs.Weights.{blocks-becomes, blocks-stages}
 
 abbrev pub Grows : Filestore → Outcome → Type 0
@@ -66,7 +66,7 @@ append-grows F p (Some (File xs)) (Some (File ys)) e =
     let g : blocks (changed F (Becomes p (Some (File (xs ++ ys))))) + (1 + blocks_of (length xs)) ≡ blocks F + (1 + blocks_of (length (xs ++ ys))) =
     grows_one F p (Some (File (xs ++ ys))) (Some (File xs)) e in
     let l : blocks_of (length (xs ++ ys)) ≡ blocks_of (length xs + length ys) = ap blocks_of (length-append xs ys) in
-    let more : blocks_of (length xs) ≤ blocks_of (length xs + length ys) = blocks_of-le _ _ (omega arith) in
+    let more : blocks_of (length xs) ≤ blocks_of (length xs + length ys) = blocks_of-mono _ _ (omega arith) in
     omega arith
 
 pub replace-grows : (F : Filestore) (p : Path) (same : Bool) (a b : Option Node) → node_at F p ≡ a → Grows F (replace p same a b)

@@ -14,3 +14,4 @@ pub mod Weights
 pub mod Growth
 pub mod Prefixes
 pub mod Moves
+pub mod Truths

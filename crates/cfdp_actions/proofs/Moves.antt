@@ -5,23 +5,25 @@
 --     node_at-vacated, node_at-arriving
 --     moved_there, moved_apart        path by path
 --     rename-grows                    the blocks stay
+--     staged-vacated, staged-moved    the staged lists stay
 use Rattle.std.proofs.Common.{◌≡◌, ◌≢◌, refl, sym, ◌∙◌, ap, subst, Bool, true, false, cond, not, T, IsTrue, IsSome, is_some, Option, Some, None, ℕ, zero, suc, ◌+◌, ◌≤◌, List, [], ◌∷◌, ◌++◌, length, arith, true≢false, le_refl, if◌then◌else◌}
 use Rattle.std.specs.List.{AllByRecursion}
 use Rattle.std.proofs.lemmas.Bool.{and_parts}
-use Rattle.std.specs.FinMap.{entries, entries_sorted, get-entries, retain_keys, get-retain_keys}
+use Rattle.std.specs.FinMap.{entries, entries_sorted, get-entries, retain_keys}
 use Rattle.std.specs.FinMap.Entries.{is_sorted, find, where_key}
 use Rattle.cfdp_paths.specs.Paths.{Path, path_cmp, same_path, is_at_or_below, parent, rebased}
 use Rattle.cfdp_actions.specs.Filestore.{Node, Filestore, node_at, weight, weights, blocks, Change, Becomes, changed, after, is_directory, is_good, is_root, parent_is_good, IsRooted, tree_at}
 use Rattle.cfdp_status.specs.declared.action.Action.TheVariants as action
 use Rattle.cfdp_status.specs.declared.status.Status.TheVariants.{NotAllowed}
-use Rattle.cfdp_actions.specs.Actions.{refused, succeeds, vacating, arriving, is_tree_too_deep, rename}
-use Rattle.cfdp_actions.proofs.Order.{same_path-true, same_path-refl, node_at-becomes, node_at-becomes_apart}
+use Rattle.cfdp_actions.specs.Actions.{refused, succeeds, vacating, arriving, rename}
+use Rattle.cfdp_actions.proofs.Order.{same_path-true, same_path-refl, node_at-becomes, node_at-becomes_apart, get_kept}
 use Rattle.cfdp_actions.proofs.Weights.{entries-retain_keys, sorted_rest, find_later}
 use Rattle.cfdp_actions.proofs.Prefixes.{rebased-below, rebased_back, same_rebased, length-parent}
 use Rattle.cfdp_actions.proofs.Growth.{Grows, grows_one}
-use Rattle.cfdp_actions.proofs.Order.{paths_total}
 use Rattle.cfdp_paths.proofs.Below.{parent_of_below}
 use Rattle.cfdp_paths.proofs.InOrder.{path_antisym}
+use Rattle.cfdp_paths.proofs.Comparing.{path_cmp-total}
+use Rattle.cfdp_paths.specs.PathMaps.{is_too_deep}
 
 not_none : {A : Type 0} (x : A) → Some x ≢ None
 not_none x e = true≢false (ap is_some e)
@@ -79,14 +81,13 @@ kept_pass p (e ∷ es) =
     ] refl
 
 pub tree_at-all : (F : Filestore) (p : Path) → AllBelow p (tree_at F p)
-tree_at-all F p = subst (AllBelow p) (sym (entries-retain_keys paths_total path_antisym F.nodes (λ q. is_at_or_below q p))) (kept_pass p (entries F.nodes))
+tree_at-all F p = subst (AllBelow p) (sym (entries-retain_keys path_cmp-total path_antisym F.nodes (λ q. is_at_or_below q p))) (kept_pass p (entries F.nodes))
 
 pub tree_at-sorted : (F : Filestore) (p : Path) → T (is_sorted path_cmp (tree_at F p))
 tree_at-sorted F p = entries_sorted (retain_keys F.nodes (λ q. is_at_or_below q p))
 
 pub find-tree_at : (F : Filestore) (p x : Path) → find path_cmp x (tree_at F p) ≡ cond (is_at_or_below x p) (node_at F x) None
-find-tree_at F p x = sym (get-entries (retain_keys F.nodes (λ q. is_at_or_below q p)) x)
-    ∙ get-retain_keys F.nodes (λ q. is_at_or_below q p) x (λ y e. ap (λ z. is_at_or_below z p) (sym (path_antisym x y e)))
+find-tree_at F p x = sym (get-entries (retain_keys F.nodes (λ q. is_at_or_below q p)) x) ∙ get_kept F (λ q. is_at_or_below q p) x
 
 -- ---- vacated
 
@@ -279,7 +280,7 @@ rename-grows F p q (Some node) (Some other) good below rooted e g = refl
 rename-grows F p q (Some node) None false below rooted e g = refl
 rename-grows F p q (Some node) None true true rooted e g = refl
 rename-grows F p q (Some node) None true false rooted e g =
-    elim (is_tree_too_deep p q (tree_at F p)) as (λ deep. Grows F (if deep then refused (NotAllowed action.RenameFile)
+    elim (is_too_deep p q (tree_at F p)) as (λ deep. Grows F (if deep then refused (NotAllowed action.RenameFile)
     else succeeds action.RenameFile (vacating (tree_at F p) ++ arriving p q (tree_at F p)) 0 0 0)) [
       | true ↦ refl
       | false ↦ ap (λ n. n + 0) (blocks-moved F p q rooted (has_name q g) e)
@@ -288,3 +289,17 @@ rename-grows F p q (Some node) None true false rooted e g =
     has_name : (q : Path) → parent_is_good F q ≡ true → q ≢ []
     has_name [] g e = true≢false (sym g)
     has_name (n ∷ q) g e = true≢false (ap is_root (sym e))
+
+-- ---- the staged lists stay
+
+staged-vacated : (F : Filestore) (es : List (Path × Node)) → (after F (vacating es)).staged ≡ F.staged
+staged-vacated F [] = refl
+staged-vacated F (e ∷ es) = staged-vacated (changed F (Becomes e.0 None)) es
+
+staged-arriving : (p q : Path) (F : Filestore) (es : List (Path × Node)) → (after F (arriving p q es)).staged ≡ F.staged
+staged-arriving p q F [] = refl
+staged-arriving p q F (e ∷ es) = staged-arriving p q (changed F (Becomes (rebased p q e.0) (Some e.1))) es
+
+pub staged-moved : (F : Filestore) (p q : Path) → (moved F p q).staged ≡ F.staged
+staged-moved F p q = ap (λ (G : Filestore). G.staged) (after-append F (vacating (tree_at F p)) (arriving p q (tree_at F p)))
+    ∙ staged-arriving p q (after F (vacating (tree_at F p))) (tree_at F p) ∙ staged-vacated F (tree_at F p)

@@ -1,17 +1,14 @@
 -- The order of paths, and what is at a path after one change.
---     paths_total                               the order is total
 --     same_path-refl, same_path-true, ..        the test of two paths
 --     node_at-becomes                           after one change of a path
-use Rattle.std.proofs.Common.{◌≡◌, refl, sym, ◌∙◌, ap, subst, true, false, cond, Option, Some, None, Ordering, Less, Equal, Greater, is_eq, true≢false}
-use Rattle.std.specs.Cmp.{IsTotalOrder, eq_by_cmp_equiv}
-use Rattle.std.specs.Cmp.Lexicographic.{lists_total, nat_list_cmp_total}
-use Rattle.std.specs.FinMap.{get-insert, get-remove}
+--     get_kept                                  at the paths that pass a test
+use Rattle.std.proofs.Common.{◌≡◌, refl, sym, ◌∙◌, ap, subst, Bool, true, false, cond, Option, Some, None, Ordering, Less, Equal, Greater, is_eq, true≢false}
+use Rattle.std.specs.Cmp.{eq_by_cmp_equiv}
+use Rattle.std.specs.FinMap.{get, get-insert, get-remove, retain_keys, get-retain_keys}
 use Rattle.cfdp_paths.specs.Paths.{Path, path_cmp, same_path}
 use Rattle.cfdp_actions.specs.Filestore.{Node, Filestore, node_at, Becomes, changed}
 use Rattle.cfdp_paths.proofs.InOrder.{path_antisym}
-
-pub paths_total : IsTotalOrder path_cmp
-paths_total = lists_total nat_list_cmp_total
+use Rattle.cfdp_paths.proofs.Comparing.{path_cmp-total}
 
 pub tied : (r : Ordering) → is_eq r ≡ true → r ≡ Equal
 tied Less e = absurd (true≢false (sym e))
@@ -22,10 +19,10 @@ pub same_path-true : (p q : Path) → same_path p q ≡ true → p ≡ q
 same_path-true p q e = path_antisym p q (tied (path_cmp p q) e)
 
 pub same_path-refl : (p : Path) → same_path p p ≡ true
-same_path-refl p = (eq_by_cmp_equiv paths_total).refl p
+same_path-refl p = (eq_by_cmp_equiv path_cmp-total).refl p
 
 pub same_path-symm : (p q : Path) → same_path p q ≡ same_path q p
-same_path-symm p q = (eq_by_cmp_equiv paths_total).symm p q
+same_path-symm p q = (eq_by_cmp_equiv path_cmp-total).symm p q
 
 pub same_path-is : (p q : Path) → p ≡ q → same_path p q ≡ true
 same_path-is p q e = subst (λ x. same_path p x ≡ true) e (same_path-refl p)
@@ -33,8 +30,8 @@ same_path-is p q e = subst (λ x. same_path p x ≡ true) e (same_path-refl p)
 -- after one change of p, at q
 pub node_at-becomes : (F : Filestore) (p : Path) (node : Option Node) (q : Path) → node_at (changed F (Becomes p node)) q
     ≡ cond (same_path q p) node (node_at F q)
-node_at-becomes F p None q = get-remove paths_total F.nodes p q
-node_at-becomes F p (Some n) q = get-insert paths_total F.nodes p n q
+node_at-becomes F p None q = get-remove path_cmp-total F.nodes p q
+node_at-becomes F p (Some n) q = get-insert path_cmp-total F.nodes p n q
 
 pub node_at-becomes_here : (F : Filestore) (p : Path) (node : Option Node) → node_at (changed F (Becomes p node)) p ≡ node
 node_at-becomes_here F p node = node_at-becomes F p node p ∙ ap (λ b. cond b node (node_at F p)) (same_path-refl p)
@@ -42,3 +39,7 @@ node_at-becomes_here F p node = node_at-becomes F p node p ∙ ap (λ b. cond b 
 pub node_at-becomes_apart : (F : Filestore) (p : Path) (node : Option Node) (q : Path) → same_path q p ≡ false → node_at (changed F (Becomes p node)) q
     ≡ node_at F q
 node_at-becomes_apart F p node q e = node_at-becomes F p node q ∙ ap (λ b. cond b node (node_at F q)) e
+
+-- what is at the paths that pass a test
+pub get_kept : (F : Filestore) (test : Path → Bool) (q : Path) → get (retain_keys F.nodes test) q ≡ cond (test q) (node_at F q) None
+get_kept F test q = get-retain_keys F.nodes test q (λ x e. ap test (sym (path_antisym q x e)))

@@ -10,8 +10,9 @@ use Rattle.cfdp_status.specs.declared.action.Action.TheVariants as action
 use Rattle.cfdp_status.specs.declared.status.Status.{Status}
 use Rattle.cfdp_status.specs.declared.status.Status.TheVariants.{NotAllowed, DeleteAbsent, RenameOldAbsent, RenameNewPresent, AppendFirstAbsent, AppendSecondAbsent, ReplaceFirstAbsent, ReplaceSecondAbsent, RemoveAbsent}
 use Rattle.cfdp_paths.specs.Paths.{Path, same_path, is_at_or_below}
+use Rattle.cfdp_paths.specs.PathMaps.{is_too_deep}
 use Rattle.cfdp_actions.specs.Filestore.{Node, Directory, File, Filestore, node_at, Becomes, has_entries, parent_is_good, tree_at}
-use Rattle.cfdp_actions.specs.Actions.{CreateFile, DeleteFile, RenameFile, AppendFile, ReplaceFile, CreateDirectory, RemoveDirectory, DenyFile, DenyDirectory, refused, succeeds, create, delete_file, is_tree_too_deep, vacating, arriving, rename, append, replace, remove_directory, deny_file, deny_directory, table}
+use Rattle.cfdp_actions.specs.Actions.{CreateFile, DeleteFile, RenameFile, AppendFile, ReplaceFile, CreateDirectory, RemoveDirectory, DenyFile, DenyDirectory, refused, succeeds, create, delete_file, vacating, arriving, rename, append, replace, remove_directory, deny_file, deny_directory, table}
 use Rattle.cfdp_actions.specs.Store.{kind_in, kind_at}
 use Rattle.cfdp_actions.specs.Refusals.{Refuses}
 use Rattle.cfdp_actions.specs.code.Refusals.{file_refusal, directory_refusal, joint_refusal}
@@ -152,7 +153,7 @@ rename_inside p q (Some node) None false below es h k g = refl
 rename_inside p q (Some node) None true true es h k g = refl
 rename_inside p q (Some node) None true false es h k g = cc
 
-rename_deep : (p q : Path) (a b : Option Node) (good below : Bool) (es : List (Path × Node)) → is_some a ≡ true → b ≡ None → is_tree_too_deep p q es ≡ true →
+rename_deep : (p q : Path) (a b : Option Node) (good below : Bool) (es : List (Path × Node)) → is_some a ≡ true → b ≡ None → is_too_deep p q es ≡ true →
     rename p q a b good below es ≡ refused (NotAllowed action.RenameFile)
 unfolding rename
 rename_deep p q None b good below es h k g = cc
@@ -163,7 +164,7 @@ rename_deep p q (Some node) None true false es h k g = ap (λ deep. if deep then
     else succeeds action.RenameFile (vacating es ++ arriving p q es) 0 0 0) g
 
 rename_moved : (p q : Path) (a b : Option Node) (good below : Bool) (es : List (Path × Node)) → is_some a ≡ true → b ≡ None → good ≡ true → below ≡ false →
-    is_tree_too_deep p q es ≡ false → rename p q a b good below es ≡ succeeds action.RenameFile (vacating es ++ arriving p q es) 0 0 0
+    is_too_deep p q es ≡ false → rename p q a b good below es ≡ succeeds action.RenameFile (vacating es ++ arriving p q es) 0 0 0
 unfolding rename
 rename_moved p q None b good below es h k g l d = cc
 rename_moved p q (Some node) (Some other) good below es h k g l d = cc
@@ -187,13 +188,13 @@ pub rename_into_itself : (F : Filestore) (p q : Path) → is_some (node_at F p) 
 unfolding table
 rename_into_itself F p q h k g = rename_inside p q (node_at F p) (node_at F q) (parent_is_good F q) (is_at_or_below q p) (tree_at F p) h k g
 
-pub rename_too_deep : (F : Filestore) (p q : Path) → is_some (node_at F p) ≡ true → node_at F q ≡ None → is_tree_too_deep p q (tree_at F p) ≡ true →
+pub rename_too_deep : (F : Filestore) (p q : Path) → is_some (node_at F p) ≡ true → node_at F q ≡ None → is_too_deep p q (tree_at F p) ≡ true →
     table F (RenameFile p q) ≡ refused (NotAllowed action.RenameFile)
 unfolding table
 rename_too_deep F p q h k g = rename_deep p q (node_at F p) (node_at F q) (parent_is_good F q) (is_at_or_below q p) (tree_at F p) h k g
 
 pub rename_of_tree : (F : Filestore) (p q : Path) → is_some (node_at F p) ≡ true → node_at F q ≡ None → parent_is_good F q ≡ true → is_at_or_below q p ≡ false →
-    is_tree_too_deep p q (tree_at F p) ≡ false →
+    is_too_deep p q (tree_at F p) ≡ false →
     table F (RenameFile p q) ≡ succeeds action.RenameFile (vacating (tree_at F p) ++ arriving p q (tree_at F p)) 0 0 0
 unfolding table
 rename_of_tree F p q h k g l d = rename_moved p q (node_at F p) (node_at F q) (parent_is_good F q) (is_at_or_below q p) (tree_at F p) h k g l d

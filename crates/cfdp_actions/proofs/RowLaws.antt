@@ -1,15 +1,17 @@
 -- What the answers of a store say of what exists, and how blocks and depths are counted.
 --     there_by, absent_by, there_unless, nothing_by    what a test of the answer of `kind` says of the node
---     blocks_of-small, blocks_of-twice, blocks_of-mono, blocks_of_both, blocks_of_one    the blocks of one size, and of two together
+--     blocks_of-small, blocks_of-twice, blocks_of-fits, blocks_of-mono, blocks_of_both, blocks_of_one    the blocks of one size, and of two together
 --     sum_is, too_deep          what `is_too_deep` adds up, and that it says whether a tree would be too deep
-use Rattle.std.proofs.Common.{◌≡◌, ℕ, ◌+◌, ◌-◌, ◌≤◌, Bool, true, false, List, [], ◌∷◌, ◌++◌, Option, Some, None, is_some, not, length, drop, max, nat_lt, ◌||◌, length-append, length-drop, refl, sym, ap, ◌∙◌, arith}
+use Rattle.std.proofs.Common.{◌≡◌, ℕ, ◌+◌, ◌-◌, ◌*◌, ◌≤◌, Bool, true, false, cond, List, [], ◌∷◌, ◌++◌, Option, Some, None, is_some, not, length, drop, max, nat_lt, ◌||◌, length-append, length-drop, refl, sym, ap, ◌∙◌, arith, true≢false}
 use Rattle.std.proofs.lemmas.Bool.{false≢true}
 use Rattle.std.proofs.lemmas.Bool.Decides.{nat_tests}
-use Rattle.cfdp_paths.specs.Paths.{Path}
+use Rattle.std.specs.FinMap.Entries.{find}
+use Rattle.cfdp_paths.specs.Paths.{Path, path_cmp, same_path}
+use Rattle.cfdp_paths.specs.PathMaps.{is_too_deep}
 use Rattle.cfdp_actions.specs.Filestore.{Node, blocks_of, deepest_of}
-use Rattle.cfdp_actions.specs.Actions.{is_tree_too_deep}
 use Rattle.cfdp_actions.specs.Store.{kind_in}
 use Rattle.cfdp_actions.specs.declared.kind.Kind.{Kind}
+use Rattle.cfdp_actions.proofs.Order.{same_path-true}
 
 -- ---- kinds
 
@@ -40,6 +42,11 @@ pub blocks_of-twice : (n : ℕ) → n ≤ 15728640 → blocks_of n ≤ 131072
 unfolding blocks_of
 blocks_of-twice n h = omega arith
 
+-- octets fit into their blocks
+pub blocks_of-fits : (n : ℕ) → n ≤ 120 * blocks_of n
+unfolding blocks_of
+blocks_of-fits n = omega arith
+
 -- more octets take no fewer blocks
 pub blocks_of-mono : (n m : ℕ) → n ≤ m → blocks_of n ≤ blocks_of m
 unfolding blocks_of
@@ -66,8 +73,20 @@ pub sum_is : (to from deepest far b x y : ℕ) → to ≡ x → deepest ≡ far 
 sum_is to from deepest far b x y e f g h = omega arith
 
 -- whether a tree would be too deep, by its longest path
-pub too_deep : (p q : Path) (es : List (Path × Node)) → length q ≤ 8 → is_tree_too_deep p q es ≡ nat_lt 8 (length q + (deepest_of es - length p))
+pub too_deep : (p q : Path) (es : List (Path × Node)) → length q ≤ 8 → is_too_deep p q es ≡ nat_lt 8 (length q + (deepest_of es - length p))
 too_deep p q [] h = grind (arith, nat_tests)
 too_deep p q (e ∷ es) h =
-    ap (λ n. nat_lt 8 n || is_tree_too_deep p q es) (length-rebased p q e.0) ∙ ap (λ b. nat_lt 8 (length q + (length e.0 - length p)) || b) (too_deep p q es h)
+    ap (λ n. nat_lt 8 n || is_too_deep p q es) (length-rebased p q e.0) ∙ ap (λ b. nat_lt 8 (length q + (length e.0 - length p)) || b) (too_deep p q es h)
     ∙ sym (deeper (length q) (length e.0) (deepest_of es) (length p))
+
+pub max_three : (a b c : ℕ) → max a (max b c) ≡ max (max a b) c
+max_three a b c = omega arith
+
+-- no entry has more names than the deepest
+pub deepest-most : (es : List (Path × Node)) (x : Path) → is_some (find path_cmp x es) ≡ true → length x ≤ deepest_of es
+deepest-most [] x h = absurd (true≢false (sym h))
+deepest-most (e ∷ es) x h =
+    elim (same_path x e.0) as (λ b. same_path x e.0 ≡ b → is_some (cond b (Some e.1) (find path_cmp x es)) ≡ true → length x ≤ deepest_of (e ∷ es)) [
+      | true ↦ λ same h. let long : length x ≡ length e.0 = ap length (same_path-true x e.0 same) in omega (arith, long)
+      | false ↦ λ other h. let rest = deepest-most es x h in omega (arith, rest)
+    ] refl h

@@ -17,7 +17,7 @@ use Rattle.cfdp_paths.specs.Paths.{Path, path_cmp, same_path, is_at_or_below, is
 use Rattle.cfdp_paths.specs.PathMaps as maps
 use Rattle.cfdp_paths.proofs.Comparing.{same_path-Decides, path_cmp-total}
 use Rattle.cfdp_paths.proofs.InOrder.{put-less, put-equal, put-greater, find-less, find-equal, find-greater, below_before, not_in}
-use Rattle.cfdp_actions.specs.Actions.{is_tree_too_deep}
+use Rattle.cfdp_paths.specs.PathMaps.{is_too_deep}
 use Rattle.cfdp_actions.specs.Filestore.{Node, Directory, File, octets_in, is_file, is_directory}
 use Rattle.cfdp_actions.specs.Store.{kind_of, kind_in}
 use Rattle.cfdp_actions.specs.code.Listed.{Entries, content_node, shown_entries, entry_found}
@@ -108,7 +108,7 @@ found_some k es x h = found_is k es ∙ sym (ap (option_map content_node) h)
 pub found_none : (k : Path) (es : Entries) → None ≡ find path_cmp k es → entry_found es k ≡ None
 found_none k es h = found_is k es ∙ sym (ap (option_map content_node) h)
 
-pub shown_deep : (p q : Path) (es : Entries) → maps.is_too_deep p q es ≡ is_tree_too_deep p q (shown_entries es)
+pub shown_deep : (p q : Path) (es : Entries) → maps.is_too_deep p q es ≡ is_too_deep p q (shown_entries es)
 shown_deep p q [] = refl
 shown_deep p q (e ∷ es) = ap (λ b. nat_lt 8 (length (rebased p q e.0)) || b) (shown_deep p q es)
 

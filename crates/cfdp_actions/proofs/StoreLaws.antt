@@ -35,6 +35,7 @@ use Rattle.cfdp_actions.proofs.BlocksLaws.{blocks_of-bound, lists_blocks}
 use Rattle.cfdp_actions.proofs.WeighedLaws.{weights-put, weights-without, weights-relocated-le, weights-relocated}
 use Rattle.cfdp_actions.proofs.Moves.{after-append}
 use Rattle.cfdp_actions.proofs.Order.{same_path-symm}
+use Rattle.cfdp_actions.proofs.Growth.{blocks_of-zero}
 
 -- a test answers alike at paths that tie
 pub alike : (test : Path → Bool) (q x : Path) → path_cmp q x ≡ Equal → test x ≡ test q
@@ -159,12 +160,8 @@ octets-weight None = omega arith
 octets-weight (Some Directory) = omega arith
 octets-weight (Some (File octets)) = omega arith
 
-pub no_blocks : blocks_of 0 ≡ 0
-unfolding blocks_of
-no_blocks = refl
-
 pub lists-each : (xs : List (List ℕ)) (i : ℕ) → blocks_of (length (get_or xs i [])) ≤ sum_by (λ octets. blocks_of (length octets)) xs
-lists-each [] i = omega (arith, no_blocks)
+lists-each [] i = omega (arith, blocks_of-zero)
 lists-each (x ∷ xs) zero = omega (arith, sum_by-cons (λ octets. blocks_of (length octets)) x xs)
 lists-each (x ∷ xs) (suc i) = omega (arith, sum_by-cons (λ octets. blocks_of (length octets)) x xs, lists-each xs i)
 
@@ -376,7 +373,7 @@ empty_nodes = finite.empty_of_len (nodes_of []) (finite.len-entries (nodes_of []
 pub empty_lists : (staged : List (Vec ℕ Global)) (n : ℕ) → vector_octets staged ≡ replicate n [] → lists_blocks staged ≡ 0
 empty_lists staged n e =
     ap (λ (lists : List (List ℕ)). sum_by (λ (list : List ℕ). blocks_of (length list)) lists) e
-    ∙ sum_by-replicate (λ (list : List ℕ). blocks_of (length list)) n [] ∙ ap (λ k. n * k) no_blocks ∙ mul-zero n
+    ∙ sum_by-replicate (λ (list : List ℕ). blocks_of (length list)) n [] ∙ ap (λ k. n * k) blocks_of-zero ∙ mul-zero n
 
 file-weight : (o : Option Node) → is_file o ≡ true → weight o ≡ 1 + blocks_of (length (octets_in o))
 file-weight None h = cc
@@ -493,7 +490,7 @@ module _ (es : Entries) (staged : List (Vec ℕ Global)) (used capacity : ℕ) (
     unfolding left
     emptied_kept =
         staged_kept es staged used capacity kept staged' slot [] emptied left slots within
-        (omega (arith, no_blocks, list_small es staged used capacity kept slot)) (omega (arith, kept.fits))
+        (omega (arith, blocks_of-zero, list_small es staged used capacity kept slot)) (omega (arith, kept.fits))
 
     pub installed_store : listed_store es' staged' capacity ≡ with_changes now (Stages slot [] ∷ Becomes p (Some (File octets)) ∷ [])
     installed_store =

@@ -11,8 +11,9 @@ use Rattle.std.specs.FinMap.{FinMap, IsAntisymmetric, entries, entries_sorted, g
 use Rattle.std.specs.FinMap.Entries.{by_order, below_all, is_sorted, is_sorted-where_key, find, find-where_key, put, where_key, same_entries}
 use Rattle.cfdp_paths.specs.Paths.{Path, path_cmp, same_path}
 use Rattle.cfdp_actions.specs.Filestore.{Node, Filestore, node_at, staged_in, blocks_of, weight, weights, blocks, Becomes, Stages, changed}
-use Rattle.cfdp_actions.proofs.Order.{paths_total, same_path-symm, same_path-true}
+use Rattle.cfdp_actions.proofs.Order.{same_path-symm, same_path-true}
 use Rattle.cfdp_paths.proofs.InOrder.{path_antisym}
+use Rattle.cfdp_paths.proofs.Comparing.{path_cmp-total}
 
 first : (a b : Bool) → T (a && b) → T a
 first true b p = tt
@@ -54,7 +55,7 @@ module _ {X : Type 0} where
   pub below_less : (x y : Path) (es : List (Path × X)) → path_cmp x y ≡ Less → T (below_all path_cmp y es) → T (below_all path_cmp x es)
   below_less x y [] p h = tt
   below_less x y (e ∷ es) p h =
-      let here : path_cmp x e.0 ≡ Less = paths_total.trans x y e.0 p (lesser _ (first _ _ h)) in
+      let here : path_cmp x e.0 ≡ Less = path_cmp-total.trans x y e.0 p (lesser _ (first _ _ h)) in
       let rest = below_less x y es p (second _ _ h) in
       subst (λ r. T (is_lt r && below_all path_cmp x es)) (sym here) rest
 
@@ -71,9 +72,10 @@ module _ {X : Type 0} where
 
   -- in a map
   pub entries-remove : (m : FinMap path_cmp X) (k : Path) → entries (remove m k) ≡ where_key path_cmp (λ x. not (eq_by_cmp path_cmp k x)) (entries m)
-  entries-remove m k = same_entries path_cmp paths_total path_antisym _ _ (entries_sorted (remove m k))
+  entries-remove m k = same_entries path_cmp path_cmp-total path_antisym _ _ (entries_sorted (remove m k))
       (is_sorted-where_key path_cmp _ (entries m) (entries_sorted m)) (λ q.
-      sym (get-entries (remove m k) q) ∙ get-remove paths_total m k q ∙ turned (eq_by_cmp path_cmp q k) (eq_by_cmp path_cmp k q) (same_path-symm q k) (get m q)
+      sym (get-entries (remove m k) q) ∙ get-remove path_cmp-total m k q
+      ∙ turned (eq_by_cmp path_cmp q k) (eq_by_cmp path_cmp k q) (same_path-symm q k) (get m q)
       ∙ ap (λ v. cond (not (eq_by_cmp path_cmp k q)) v None) (get-entries m q)
       ∙ sym (find-where_key path_cmp (λ x. not (eq_by_cmp path_cmp k x)) q (λ x e. ap (λ x. not (eq_by_cmp path_cmp k x)) (sym (path_antisym q x e)))
       (entries m)))
@@ -148,7 +150,7 @@ weights-becomes F p node = by_node node
         omega (arith, e, f, old, weights-totals (entries F.nodes))
     by_node (Some n) =
         let e : weights (entries (insert F.nodes p n)) ≡ totals block_count (put path_cmp p n (entries F.nodes)) = weights-totals _
-        ∙ ap (totals block_count) (entries-insert paths_total F.nodes p n) in
+        ∙ ap (totals block_count) (entries-insert path_cmp-total F.nodes p n) in
         let f = totals-put block_count p n (entries F.nodes) (entries_sorted F.nodes) in
         omega (arith, e, f, old, weights-totals (entries F.nodes))
 

@@ -11,7 +11,7 @@
 --     row prefixes F slot item  the row, being barred coming first
 --     within free item o        the row, where it fits into the free blocks
 --     act, act_item             what a request, or an item, does: the row within the free blocks
-use Rattle.std.specs.Prelude.{ℕ, ◌+◌, ◌-◌, Bool, true, false, if◌then◌else◌, nat_le, nat_lt, ◌||◌, ◌&&◌, is_some, List, [], ◌∷◌, ◌++◌, Option, Some, None, length, unwrap_or}
+use Rattle.std.specs.Prelude.{ℕ, ◌+◌, ◌-◌, Bool, true, false, if◌then◌else◌, nat_le, ◌||◌, ◌&&◌, is_some, List, [], ◌∷◌, ◌++◌, Option, Some, None, length, unwrap_or}
 use Rattle.std.specs.List.{list_any}
 use Rattle.cfdp_status.specs.declared.action.Action.{Action}
 use Rattle.cfdp_status.specs.declared.action.Action.TheVariants as action
@@ -19,6 +19,7 @@ use Rattle.cfdp_status.specs.declared.status.Status.{Status}
 use Rattle.cfdp_status.specs.declared.status.Status.TheVariants.{Successful, NotAllowed, DeleteAbsent, RenameOldAbsent, RenameNewPresent, AppendFirstAbsent, AppendSecondAbsent, ReplaceFirstAbsent, ReplaceSecondAbsent, RemoveAbsent}
 use Rattle.cfdp_status.specs.Codes.{is_successful}
 use Rattle.cfdp_paths.specs.Paths.{Path, same_path, is_at_or_below, rebased}
+use Rattle.cfdp_paths.specs.PathMaps.{is_too_deep}
 use Rattle.cfdp_actions.specs.Filestore.{Node, Directory, File, Filestore, node_at, staged_in, blocks_of, weight, Change, Becomes, Stages, has_entries, parent_is_good, tree_at}
 use Rattle.cfdp_actions.specs.declared.request.Request.{Request as CodeRequest}
 use Rattle.cfdp_actions.specs.declared.request.Request.TheVariants as request
@@ -152,11 +153,6 @@ delete_file p None = refused DeleteAbsent
 delete_file p (Some Directory) = refused (NotAllowed action.DeleteFile)
 delete_file p (Some (File octets)) = gone action.DeleteFile p (Some (File octets))
 
--- whether a path of the tree would have more than 8 names
-abbrev pub is_tree_too_deep : Path → Path → List (Path × Node) → Bool
-is_tree_too_deep p q [] = false
-is_tree_too_deep p q (e ∷ es) = nat_lt 8 (length (rebased p q e.0)) || is_tree_too_deep p q es
-
 -- nothing is at the tree's paths any more
 abbrev pub vacating : List (Path × Node) → List Change
 vacating [] = []
@@ -174,7 +170,7 @@ rename p q (Some node) (Some _) good below es = refused RenameNewPresent
 rename p q (Some node) None false below es = refused (NotAllowed action.RenameFile)
 rename p q (Some node) None true true es = refused (NotAllowed action.RenameFile)
 rename p q (Some node) None true false es =
-    if is_tree_too_deep p q es then refused (NotAllowed action.RenameFile)
+    if is_too_deep p q es then refused (NotAllowed action.RenameFile)
     else succeeds action.RenameFile (vacating es ++ arriving p q es) 0 0 0
 
 -- q's octets at the end of p

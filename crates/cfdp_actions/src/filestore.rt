@@ -3,8 +3,9 @@
 ghost use Rattle.std.specs.Prelude.{◌≡◌, ◌≢◌, ℕ, ◌+◌, ◌-◌, ◌*◌, ◌<◌, ◌≤◌, ◌==◌, Bool, true, false, not, if◌then◌else◌, IsTrue, IsFalse, IsSome, IsNone, IsOk, IfOk, OnOk, OnErr, Option, Some, None, List, [], ◌∷◌, ◌++◌, length, map, slice_range, is_none};
 ghost use Rattle.cfdp_checksum.specs.Checksum.{checksum};
 ghost use Rattle.cfdp_paths.specs.Paths.{same_path, is_at_or_below};
+ghost use Rattle.cfdp_paths.specs.PathMaps.{is_too_deep};
 ghost use Rattle.cfdp_actions.specs.Filestore.{Node, File, Directory, node_at, staged_in, blocks_of, weight, blocks, Becomes, Stages, has_entries, is_directory, is_file, octets_in, file_octets_at, parent_is_good, tree_at, deepest_of, has_beside, deepest_beside};
-ghost use Rattle.cfdp_actions.specs.Actions.{is_tree_too_deep, vacating, arriving};
+ghost use Rattle.cfdp_actions.specs.Actions.{vacating, arriving};
 ghost use Rattle.cfdp_actions.specs.Store.{Store, free_blocks, with_changes, kind_at, extended, overwritten, listing_of, existing_nodes_at};
 
 use crate::{Entry, ExistingNode, Kind};
@@ -72,7 +73,8 @@ pub trait Filestore: Drop {
         ensures value { result ≡ deepest_beside (state self.now).filestore path.now others.now }
         ensures within { result ≤ 8 };
 
-    /// How many octets are staged in the slot: 0 where none are, and at most 7,864,320.
+    /// How many octets are staged in the slot: 0 where none are, and at most 7,864,320. It also says that there are
+    /// 64 slots: a caller that holds any store learns here that the slot is one of them.
     fn staged_size(&self, slot: u8) -> u64
         requires { slot < 64 }
         ensures value { result ≡ length (staged_in (state self.now).filestore slot) }
@@ -149,7 +151,7 @@ pub trait Filestore: Drop {
         requires absent { node_at (state self.old).filestore to.now ≡ None }
         requires parent { IsTrue (parent_is_good (state self.old).filestore to.now) }
         requires apart { is_at_or_below to.now from.now ≡ false }
-        requires depth { is_tree_too_deep from.now to.now (tree_at (state self.old).filestore from.now) ≡ false }
+        requires depth { is_too_deep from.now to.now (tree_at (state self.old).filestore from.now) ≡ false }
         ensures ticks { IfOk result (λ ticks. ticks ≡ 0) }
         ensures moved { OnOk result (let tree = tree_at (state self.old).filestore from.now in
             state self.new ≡ with_changes (state self.old) (vacating tree ++ arriving from.now to.now tree)) }

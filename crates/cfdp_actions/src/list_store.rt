@@ -143,6 +143,7 @@ impl Filestore for ListStore {
     }
 
     fn takes_no_memory(&self) -> bool {
+        // Read for the contract alone: it brings what is always true of the store.
         let _entries = &self.entries;
         false
     }

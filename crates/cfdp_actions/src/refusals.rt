@@ -2,8 +2,9 @@
 
 ghost use Rattle.std.specs.Prelude.{◌≡◌, Bool, false, IsTrue, IsSome, IfNone};
 ghost use Rattle.cfdp_paths.specs.Paths.{Path};
+ghost use Rattle.cfdp_paths.specs.PathMaps.{is_too_deep};
 ghost use Rattle.cfdp_actions.specs.Filestore.{Node, Filestore, node_at, has_entries, parent_is_good, tree_at};
-ghost use Rattle.cfdp_actions.specs.Actions.{is_tree_too_deep, create, table, RenameFile};
+ghost use Rattle.cfdp_actions.specs.Actions.{create, table, RenameFile};
 ghost use Rattle.cfdp_actions.specs.Store.{kind_at};
 ghost use Rattle.cfdp_actions.specs.Refusals.{Refuses};
 ghost use Rattle.cfdp_actions.specs.code.Refusals.{file_refusal, directory_refusal, joint_refusal};
@@ -39,7 +40,7 @@ pub trait Kinds {
     fn is_too_deep(&self, from: &Path, to: &Path) -> bool
         requires { (F : Filestore) → tells self.now F → IsSome (node_at F from.now) }
         ensures value { result ≡ deep self.now from.now to.now }
-        ensures stated { (F : Filestore) → tells self.now F → result ≡ is_tree_too_deep from.now to.now
+        ensures stated { (F : Filestore) → tells self.now F → result ≡ is_too_deep from.now to.now
             (tree_at F from.now) };
 }
 
@@ -47,7 +48,7 @@ pub trait Kinds {
 /// protected and room has no limit; `None` where its row is successful.
 ///
 /// Cost: for each name a `kind`, for a new one a `parent_is_good`, for a directory that is to go a `has_entries`, and
-/// for a move that nothing else refuses an `is_tree_too_deep`.
+/// for a move that nothing else refuses an `is_too_deep`.
 pub fn refusal<K: Kinds>(kinds: &K, request: &Request) -> Option<Status>
     ensures stated { (F : Filestore) → K.tells kinds.now F → Refuses (table F request.now) result }
     ensures shallow { (p q : Path) → request.now ≡ RenameFile p q → IfNone result (K.deep kinds.now p q ≡ false) }
@@ -166,7 +167,7 @@ fn joining<K: Kinds>(
 impl<S: crate::Filestore> Kinds for S {
     ghost tells = { λ store F. F ≡ (S.state store).filestore };
 
-    ghost deep = { λ store p q. is_tree_too_deep p q (tree_at (S.state store).filestore p) };
+    ghost deep = { λ store p q. is_too_deep p q (tree_at (S.state store).filestore p) };
 
     fn kind(&self, path: &Path) -> Option<Kind> {
         crate::Filestore::kind(self, path)

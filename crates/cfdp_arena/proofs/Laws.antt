@@ -1,9 +1,10 @@
 -- What callers may use of the words of `specs/Arena.antt`.
 --     octets_at-..        a block after a block was set or freed
 --     length-..           the capacity stays
---     free_count-..       how many blocks are free after that
+--     live_count-..       how many blocks are live after that, or where the same are live
+--     free_count-..       how many are free after that
 --     ..-vacated          the same where several were freed
-use Rattle.std.proofs.Common.{◌≡◌, ◌≢◌, ℕ, suc, zero, ◌+◌, ◌<◌, ◌≤◌, List, [], ◌∷◌, length, Some, None, refl, sym, ap, subst, arith, length-set}
+use Rattle.std.proofs.Common.{◌≡◌, ◌≢◌, ℕ, suc, zero, ◌+◌, ◌<◌, ◌≤◌, List, [], ◌∷◌, length, Some, None, is_some, refl, sym, ap, subst, arith, length-set}
 use Rattle.std.proofs.lemmas.List.{get_or-set_same, get_or-set_other}
 use Rattle.std.specs.Prelude.{All, AllPairs, IsSome}
 use Rattle.cfdp_arena.specs.Arena.{Blocks, octets_at, IsLive, live_count, free_count, with_block, without_block}
@@ -16,7 +17,7 @@ live_count-le [] = omega arith
 live_count-le (Some octets ∷ rest) = omega (arith, live_count-le rest)
 live_count-le (None ∷ rest) = omega (arith, live_count-le rest)
 
-live_count-taken : (arena : Blocks) (block : ℕ) (octets : List ℕ) → block < length arena → octets_at arena block ≡ None →
+pub live_count-taken : (arena : Blocks) (block : ℕ) (octets : List ℕ) → block < length arena → octets_at arena block ≡ None →
     live_count (with_block arena block octets) ≡ live_count arena + 1
 live_count-taken [] block octets within free = absurd (omega arith)
 live_count-taken (Some x ∷ rest) zero octets within free = cc
@@ -37,6 +38,16 @@ live_count-given (Some x ∷ rest) zero live = refl
 live_count-given (None ∷ rest) zero live = cc
 live_count-given (Some x ∷ rest) (suc block) live = omega (arith, live_count-given rest block live)
 live_count-given (None ∷ rest) (suc block) live = live_count-given rest block live
+
+-- the same blocks are live
+pub live_count-same : (a b : Blocks) → length a ≡ length b → ((i : ℕ) → is_some (octets_at a i) ≡ is_some (octets_at b i)) → live_count a ≡ live_count b
+live_count-same [] [] long same = refl
+live_count-same [] (y ∷ ys) long same = absurd (omega arith)
+live_count-same (x ∷ xs) [] long same = absurd (omega arith)
+live_count-same (Some x ∷ xs) (Some y ∷ ys) long same = omega (arith, live_count-same xs ys (omega arith) (λ i. same (suc i)))
+live_count-same (None ∷ xs) (None ∷ ys) long same = live_count-same xs ys (omega arith) (λ i. same (suc i))
+live_count-same (Some x ∷ xs) (None ∷ ys) long same = (let e = same 0 in cc)
+live_count-same (None ∷ xs) (Some y ∷ ys) long same = (let e = same 0 in cc)
 
 module _ (arena : Blocks) (block : ℕ) (octets : List ℕ) where
   pub octets_at-with_same : block < length arena → octets_at (with_block arena block octets) block ≡ Some octets

@@ -13,7 +13,7 @@ use crate::{Block, Memory, links};
 use std::alloc::Global;
 use std::marker::Model;
 
-/// A fixed number of blocks of 128 octets, each of them free or live. A clause sees a list with an entry for each
+/// A fixed number of blocks of 128 octets, each of them free or live. A clause sees a list with an item for each
 /// block: its octets where it is live.
 ///
 /// A block is made when it is first taken: it gets the next number, and its octets are set to 0. So the blocks that

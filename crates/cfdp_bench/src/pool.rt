@@ -74,7 +74,7 @@ impl Pool {
         self.octets.get(start..end).unwrap_or(&[])
     }
 
-    /// The same in hexadecimal.
+    /// The octets of a piece, as digits of hexadecimal.
     pub fn hex(&self, piece: Piece) -> &[u8] {
         let start = (piece.start as usize).saturating_mul(2);
         let end = start.saturating_add((piece.len as usize).saturating_mul(2));

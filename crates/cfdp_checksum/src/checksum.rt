@@ -16,6 +16,7 @@ pub fn modular_checksum(octets: &[u8]) -> u32
 {
     let mut sum = 0u32;
     let mut rest = octets;
+    // By hand and with a label, since the loop's invariant names what is left of the octets.
     'words: while rest.len() >= 4 {
         sum = sum.wrapping_add(BigEndian::read_u32(rest));
         rest = rest.split_at(4).1;

@@ -7,8 +7,9 @@ use Rattle.cfdp_status.specs.declared.status.Status.{Status}
 use Rattle.cfdp_paths.specs.Paths.{Path, path_of}
 use Rattle.cfdp_actions.specs.Filestore.{Node, Directory, File, Filestore, blocks, node_at, parent_is_good, tree_at, has_entries}
 use Rattle.cfdp_paths.specs.Paths.{same_path, is_at_or_below}
+use Rattle.cfdp_paths.specs.PathMaps.{is_too_deep}
 use Rattle.std.specs.Prelude.{nat_le, ◌+◌}
-use Rattle.cfdp_actions.specs.Actions.{Request, CreateFile, DeleteFile, RenameFile, AppendFile, ReplaceFile, CreateDirectory, RemoveDirectory, DenyFile, DenyDirectory, action_in, Outcome, create, delete_file, rename, append, replace, remove_directory, deny_file, deny_directory, table, is_tree_too_deep, Perform, denied, act, bars}
+use Rattle.cfdp_actions.specs.Actions.{Request, CreateFile, DeleteFile, RenameFile, AppendFile, ReplaceFile, CreateDirectory, RemoveDirectory, DenyFile, DenyDirectory, action_in, Outcome, create, delete_file, rename, append, replace, remove_directory, deny_file, deny_directory, table, Perform, denied, act, bars}
 use Rattle.cfdp_tlv.specs.Values.{RequestFields}
 use Rattle.cfdp_verifier.specs.Verdict.{named, request_by}
 use Rattle.cfdp_transactions.proofs.Soundness.Parsing.{IsOfAction, of_action}
@@ -40,7 +41,7 @@ rename_speaks p q None b good below es = refl
 rename_speaks p q (Some a) (Some b) good below es = refl
 rename_speaks p q (Some a) None false below es = refl
 rename_speaks p q (Some a) None true true es = refl
-rename_speaks p q (Some a) None true false es = SpeaksOf-if action.RenameFile (is_tree_too_deep p q es) _ _ refl refl
+rename_speaks p q (Some a) None true false es = SpeaksOf-if action.RenameFile (is_too_deep p q es) _ _ refl refl
 
 append_speaks : (p : Path) (a b : Option Node) → SpeaksOf action.AppendFile (append p a b)
 unfolding append

@@ -6,13 +6,13 @@ ghost use Rattle.cfdp_lines.specs.Words.{id_by, numbers_of, words_of};
 ghost use Rattle.cfdp_lines.specs.declared.faults.LineFault.TheVariants.{Bad};
 
 use cfdp_lines::{LineFault, decode_within, decode_words, id_in, next_word, numbers_of};
-use cfdp_paths::Names;
+use cfdp_paths::{LONGEST_NAME, MOST_NAMES, Names};
 use cfdp_status::TransactionId;
 use cfdp_transactions::Event;
 use std::alloc::Global;
 
-/// The most octets that spell a path: eight names of 96 octets, with a `/` before each.
-const LONGEST_PATH: usize = 8 * 97;
+/// The most octets that spell a path: its names, with a `/` before each.
+const LONGEST_PATH: usize = MOST_NAMES * (LONGEST_NAME + 1);
 
 /// What happens at the receiving entity itself: an event of one transaction.
 #[derive(Clone, Copy)]
@@ -85,9 +85,9 @@ pub enum Command<'a> {
 /// Room for the octets that lines spell. It is used again for each line.
 #[derive(Drop)]
 pub struct CommandRoom {
-    /// Those of a path. They take no memory, so that a bad line is reported even where memory is refused.
+    /// The octets of a path. They take no memory, so that a bad line is reported even where memory is refused.
     path: [u8; LONGEST_PATH],
-    /// Those of a PDU.
+    /// The octets of a PDU.
     pdu: Vec<u8>,
 }
 

@@ -24,6 +24,7 @@ use Rattle.cfdp_transactions.specs.Delivery.{data_came, data_at, eof_came, limit
 use Rattle.cfdp_transactions.specs.Next.{next, run, replies}
 use Rattle.cfdp_transactions.proofs.Lookups.{set_own, append_own}
 use Rattle.cfdp_transactions.proofs.Soundness.Parsing.{granted_parsed}
+use Rattle.cfdp_transactions.proofs.Runs.{run-append}
 use Rattle.cfdp_uploads.specs.Uploads.{UploadFields, IsUpload, piece_of, pieces_of, eof_of}
 use Rattle.cfdp_uploads.proofs.Pieces.{part, begins_within}
 use Rattle.cfdp_completion.specs.Delivering.{data_event, data_events, upload_events, kept_piece, kept_after, StaysFew, AdmittedIsComplete}
@@ -250,10 +251,6 @@ items_some c m items file is =
 
 -- ---- the whole upload
 
-run_more : (W : World) (first second : List Event) → run W (first ++ second) ≡ run (run W first) second
-run_more W [] second = refl
-run_more W (event ∷ first) second = run_more (next W event).0 first second
-
 replies_more : (W : World) (first second : List Event) → replies W (first ++ second) ≡ replies W first ++ replies (run W first) second
 replies_more W [] second = refl
 replies_more W (event ∷ first) second = ap (λ (l : List Reply). (next W event).1 ∷ l) (replies_more (next W event).0 first second)
@@ -270,7 +267,7 @@ admitted_complete W u blocks steps is file few admitted =
     omega (arith, ap (λ (l : List Item). length l) came.same_items, items_some W.config u.metadata first.entry.items file first.items) in
     let end = end_completes U u came.entry is file at some in
     let over : run W (upload_events u) ≡ turns U (index_of U (id_of u.header)) came.entry (Executing 0) came.entry.eof true =
-    run_more V (data_events u u.order) (EofCame u.header (eof_of u) ∷ []) ∙ ap (λ (a : World × Reply). a.0) end in
+    run-append V (data_events u u.order) (EofCame u.header (eof_of u) ∷ []) ∙ ap (λ (a : World × Reply). a.0) end in
     record {
       answers = ap (λ (r : Reply). r ∷ replies V (data_events u u.order ++ EofCame u.header (eof_of u) ∷ [])) admitted
           ∙ ap (λ (l : List Reply). replied.Admitted blocks steps ∷ l)

@@ -9,11 +9,11 @@ use std::fmt;
 /// Whose File Data PDUs come.
 #[derive(Clone, Copy, PartialEq, Eq)]
 pub enum Whose {
-    /// Those of the transaction that began last.
+    /// They belong to the transaction that began last.
     Last,
-    /// Those of all transactions in turn.
+    /// They belong to all transactions in turn.
     Each,
-    /// Those of a transaction that did not begin.
+    /// They belong to a transaction that did not begin.
     Stranger,
 }
 

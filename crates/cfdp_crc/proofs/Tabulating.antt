@@ -1,8 +1,8 @@
 -- The words of the table are what is left of each octet, and one look-up divides eight bits.
-use Rattle.std.proofs.Common.{◌≡◌, ℕ, zero, suc, ◌+◌, ◌*◌, ◌/◌, ◌%◌, ◌^◌, ◌<◌, List, [], ◌∷◌, length, get_or, Bool, true, false, ◌&&◌, eqb, refl, sym, ap, ◌∙◌, arith}
+use Rattle.std.proofs.Common.{◌≡◌, ℕ, zero, suc, ◌+◌, ◌*◌, ◌/◌, ◌%◌, ◌^◌, ◌<◌, List, [], ◌∷◌, length, get_or, Bool, true, ◌&&◌, eqb, refl, sym, ap, ◌∙◌, arith}
 use Rattle.std.specs.Int.Bits.{bit_xor}
 use Rattle.std.proofs.lemmas.Nat.{xor_lt, xor_comm, xor_block}
-use Rattle.std.proofs.lemmas.Bool.{eqb-true}
+use Rattle.std.proofs.lemmas.Bool.{eqb-true, and_parts}
 use Rattle.cfdp_crc.specs.Crc.{divided, with_octet}
 use Rattle.cfdp_crc.specs.declared.remainders.TheConstants.{WORDS}
 use Rattle.cfdp_crc.proofs.Dividing.{joined, doubled, divided_xor}
@@ -12,20 +12,16 @@ are_words : ℕ → List ℕ → Bool
 are_words n [] = true
 are_words n (w ∷ ws) = eqb w (divided 8 (n * 256)) && are_words (suc n) ws
 
-both : (a b : Bool) → (a && b) ≡ true → (a ≡ true) × (b ≡ true)
-both true b e = (refl, e)
-both false b e = absurd cc
-
 word_in : (n i : ℕ) (ws : List ℕ) → are_words n ws ≡ true → i < length ws → get_or ws i 0 ≡ divided 8 ((n + i) * 256)
 unfolding are_words
 word_in n i [] e h = absurd (omega arith)
 word_in n zero (w ∷ ws) e h =
     let same : n ≡ n + 0 = omega arith in
-    eqb-true w (divided 8 (n * 256)) (both (eqb w (divided 8 (n * 256))) (are_words (suc n) ws) e).0
+    eqb-true w (divided 8 (n * 256)) (and_parts (eqb w (divided 8 (n * 256))) (are_words (suc n) ws) e).0
     ∙ ap (λ (k : ℕ). divided 8 (k * 256)) same
 word_in n (suc i) (w ∷ ws) e h =
     let next : suc n + i ≡ n + suc i = omega arith in
-    let found = word_in (suc n) i ws (both (eqb w (divided 8 (n * 256))) (are_words (suc n) ws) e).1 (omega arith) in
+    let found = word_in (suc n) i ws (and_parts (eqb w (divided 8 (n * 256))) (are_words (suc n) ws) e).1 (omega arith) in
     found ∙ ap (λ (k : ℕ). divided 8 (k * 256)) next
 
 all_are_words : are_words 0 WORDS ≡ true

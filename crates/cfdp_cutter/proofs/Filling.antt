@@ -203,10 +203,6 @@ pub nothing_at : (o : List ℕ) → slice_get o 0 ≡ None → o ≡ []
 nothing_at [] e = refl
 nothing_at (y ∷ rest) e = absurd (cc e)
 
-pub no_octet : (o : List ℕ) → length o ≡ 0 → o ≡ []
-no_octet [] e = refl
-no_octet (y ∷ rest) e = absurd (omega (arith, e))
-
 -- ---- how much is kept
 
 pub little_is_kept : LittleIsKept

@@ -5,7 +5,7 @@ use Rattle.std.proofs.lemmas.Bool.{le-ltb}
 use Rattle.std.proofs.lemmas.List.{append-nil, drop_at}
 use Rattle.byteorder.specs.Endian.{big_bytes}
 use Rattle.byteorder.specs.Numbers.{length-bytes_high_first}
-use Rattle.cfdp_pdus.specs.Bits.{digit, flag, fss}
+use Rattle.cfdp_pdus.specs.Bits.{one_if, flag, fss}
 use Rattle.cfdp_pdus.specs.Canonical.{IsHeader, first_octet, fourth_octet, pdu_octets}
 use Rattle.cfdp_pdus.specs.First.{Start, number_at, header_at, start_at}
 use Rattle.cfdp_pdus.specs.Grammar.{HasPdu, IsOther, SpellsField}
@@ -84,7 +84,7 @@ directive_again header code octets is other short = ap (λ read. read >>= direct
 
 -- ---- ACK
 
-kind_back : (directive : ℕ) (b : Bool) → (16 * directive + digit b) / 16 ≡ directive
+kind_back : (directive : ℕ) (b : Bool) → (16 * directive + one_if b) / 16 ≡ directive
 kind_back directive true = omega arith
 kind_back directive false = omega arith
 
@@ -121,7 +121,7 @@ ack_in header ack =
 pub ack_reads_back : AckReadsBack
 unfolding ack_field
 ack_reads_back header ack is sized =
-    let octets = (16 * ack.directive + digit (ack.directive == 5)) ∷ (16 * ack.condition + status_code ack.status) ∷ [] in
+    let octets = (16 * ack.directive + one_if (ack.directive == 5)) ∷ (16 * ack.condition + status_code ack.status) ∷ [] in
     directive_again header 6 octets is (inl refl) (omega arith) ∙ ack_in header ack
 
 -- ---- Prompt

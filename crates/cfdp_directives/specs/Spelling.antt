@@ -6,7 +6,7 @@
 use Rattle.std.specs.Prelude.{ℕ, ◌+◌, ◌*◌, ◌^◌, ◌<◌, ◌==◌, if◌then◌else◌, Bool, false, List, [], ◌∷◌, ◌++◌}
 use Rattle.std.specs.List.{flat_map}
 use Rattle.byteorder.specs.Endian.{big_bytes}
-use Rattle.cfdp_pdus.specs.Bits.{digit, fss}
+use Rattle.cfdp_pdus.specs.Bits.{one_if, fss}
 use Rattle.cfdp_pdus.specs.Codes.{finished_code, ack_code, nak_code, prompt_code, keep_alive_code}
 use Rattle.cfdp_pdus.specs.Canonical.{pdu_octets}
 use Rattle.cfdp_pdus.specs.declared.header.Header.{Header}
@@ -25,7 +25,7 @@ pub record IsSizedAck (ack : Ack) : Type 0 where
 -- the directive subtype code is 1 for a Finished PDU, else 0
 unfoldable pub ack_field : Ack → List ℕ
 ack_field ack =
-    ack_code ∷ (16 * ack.directive + digit (ack.directive == finished_code))
+    ack_code ∷ (16 * ack.directive + one_if (ack.directive == finished_code))
     ∷ (16 * ack.condition + status_code ack.status) ∷ []
 
 abbrev pub ack_pdu : Header → Ack → List ℕ

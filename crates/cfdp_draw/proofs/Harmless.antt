@@ -3,6 +3,7 @@
 --     harmless_octet, harmless      what is written of an octet, and of a text
 use Rattle.std.proofs.Common.{◌≡◌, refl, ℕ, ◌+◌, ◌/◌, ◌%◌, ◌<◌, ◌==◌, ◌&&◌, not, Bool, true, false, nat_lt, nat_le, if◌then◌else◌, arith, List, [], ◌∷◌, ◌++◌, codes}
 use Rattle.std.specs.List.{AllByRecursion}
+use Rattle.std.proofs.lemmas.Bool.{and_parts}
 use Rattle.cfdp_draw.specs.Words.{EscapedIsHarmless, IsHarmless, digit_of, escaped, escaped_octet, is_plain_in_xml}
 
 pub harmless_digit : (value : ℕ) → value < 16 → IsHarmless (digit_of value)
@@ -28,19 +29,10 @@ are_harmless (octet ∷ rest) = is_harmless octet && are_harmless rest
 pub known : (octet : ℕ) → is_harmless octet ≡ true → IsHarmless octet
 known octet is = record { no_less = grind arith; no_greater = grind arith; no_quote = grind arith; printed = grind arith; ascii = grind arith }
 
-pub first_of : (a b : Bool) → (a && b) ≡ true → a ≡ true
-first_of true b is = refl
-first_of false b is = is
-
-pub second_of : (a b : Bool) → (a && b) ≡ true → b ≡ true
-second_of true b is = is
-second_of false true is = refl
-second_of false false is = is
-
 pub all_known : (text : List ℕ) → are_harmless text ≡ true → AllByRecursion IsHarmless text
 all_known [] is = tt
 all_known (octet ∷ rest) is =
-    (known octet (first_of (is_harmless octet) (are_harmless rest) is), all_known rest (second_of (is_harmless octet) (are_harmless rest) is))
+    (known octet (and_parts (is_harmless octet) (are_harmless rest) is).0, all_known rest (and_parts (is_harmless octet) (are_harmless rest) is).1)
 
 pub choose : (b : Bool) (x y : List ℕ) → (b ≡ true → AllByRecursion IsHarmless x) → (b ≡ false → AllByRecursion IsHarmless y) →
     AllByRecursion IsHarmless (if b then x else y)

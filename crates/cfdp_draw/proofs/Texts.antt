@@ -1,19 +1,6 @@
--- Texts that are appended one after the other.
---     two, three       two and three pieces of a text
+-- What is known of a text where a call succeeds.
 --     on_ok            what holds anyway, holds where a call succeeds
-use Rattle.std.proofs.Common.{◌≡◌, ◌∙◌, ap, ℕ, List, ◌++◌, append_assoc}
 use Rattle.std.specs.Prelude.{Result, Ok, Err, OnOk}
-
-pub two : {T E : Type 0} (r : Result T E) (old mid new first second : List ℕ) → mid ≡ old ++ first → OnOk r (new ≡ mid ++ second) →
-    OnOk r (new ≡ old ++ (first ++ second))
-two (Ok x) old mid new first second one then = then ∙ ap (λ t. t ++ second) one ∙ append_assoc old first second
-two (Err e) old mid new first second one then = tt
-
-pub three : {T E : Type 0} (r : Result T E) (old mid end new first second third : List ℕ) → mid ≡ old ++ first → end ≡ mid ++ second →
-    OnOk r (new ≡ end ++ third) →
-    OnOk r (new ≡ old ++ (first ++ second ++ third))
-three (Ok x) old mid end new first second third one then last = rw (last, then, one) (simp append_assoc)
-three (Err e) old mid end new first second third one then last = tt
 
 pub on_ok : {T E : Type 0} (r : Result T E) (P : Type 0) → P → OnOk r P
 on_ok (Ok x) P p = p

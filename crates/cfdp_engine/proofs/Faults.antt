@@ -15,23 +15,23 @@ twice_apart before (s ∷ ss) number twice apart = elim twice [
       twice_apart (before ++ s ∷ []) ss number later.1 apart.1
 ]
 
-unentered : (J : List JournalEntry) (number low : ℕ) (rs : List Receipt) (place : ℕ) → IsFirstUnentered J number low rs place → AreEntered J number low rs → ⊥
-unentered J number low [] place first entered = first
-unentered J number low (r ∷ rs) place first entered = elim first [
+unentered : (J : List JournalEntry) (number low : ℕ) (rs : List Receipt) (index : ℕ) → IsFirstUnentered J number low rs index → AreEntered J number low rs → ⊥
+unentered J number low [] index first entered = first
+unentered J number low (r ∷ rs) index first entered = elim first [
   | inl here ↦ here.0 entered.0
   | inr later ↦
-      unentered J number (r.place + 1) rs place later.1 entered.1
+      unentered J number (r.place + 1) rs index later.1 entered.1
 ]
 
-differing : (J : List JournalEntry) (seats : List Seated) (number place : ℕ) → IsFirstDiffering J seats number place → AllEntered J seats → ⊥
-differing J [] number place first entered = first
-differing J (s ∷ ss) number place first entered = elim first [
-  | inl here ↦ unentered J s.number 0 s.receipts place here.1 entered.0
+differing : (J : List JournalEntry) (seats : List Seated) (number index : ℕ) → IsFirstDiffering J seats number index → AllEntered J seats → ⊥
+differing J [] number index first entered = first
+differing J (s ∷ ss) number index first entered = elim first [
+  | inl here ↦ unentered J s.number 0 s.receipts index here.1 entered.0
   | inr later ↦
-      differing J ss number place later.1 entered.1
+      differing J ss number index later.1 entered.1
 ]
 
 pub fault_differs : (J : List JournalEntry) (seats : List Seated) (fault : Fault) → IsFirstFault J seats fault → IsReconciled J seats → ⊥
 fault_differs J seats CountDiffers first all = first all.counted
 fault_differs J seats (SeatTwice number) first all = twice_apart [] seats number first.1 all.apart
-fault_differs J seats (ReceiptDiffers number place) first all = differing J seats number place first.2 all.entered
+fault_differs J seats (ReceiptDiffers number index) first all = differing J seats number index first.2 all.entered

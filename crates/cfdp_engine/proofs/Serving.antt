@@ -5,11 +5,12 @@ use Rattle.std.specs.Option.{option_to_list}
 use Rattle.std.specs.Arc.{arc_value}
 use Rattle.std.specs.List.{AllByRecursion}
 use Rattle.cfdp_status.specs.declared.transaction.TransactionId.{TransactionId}
+use Rattle.cfdp_transactions.specs.Beside.{is_step}
 use Rattle.cfdp_transactions.specs.declared.event.Event.{Event}
 use Rattle.cfdp_transactions.specs.declared.event.Event.TheVariants.{Step}
 use Rattle.cfdp_engine.specs.Seats.{Seated, Receipt}
 use Rattle.cfdp_engine.specs.Sharing.{IsReceived, AddsReceipts, receipt_events}
-use Rattle.cfdp_engine.specs.Working.{Message, is_step_event, AreSteps, Brings, BringAll, BeginAll, event_in, is_passed_over, passed_over}
+use Rattle.cfdp_engine.specs.Working.{Message, AreSteps, Brings, BringAll, BeginAll, event_in, is_passed_over, passed_over}
 use Rattle.cfdp_engine.specs.code.Working.{BeginsOne}
 use Rattle.cfdp_engine.specs.declared.message.Message.TheVariants as messages
 
@@ -33,10 +34,10 @@ adds_both P Q R old mid new joined a b = record {
 }
 
 -- one receipt
-pub adds_one : (P : List Event → Type 0) (old new : Seated) (place : ℕ) (event : Event) → IsReceived old new place event → P (event ∷ []) →
+pub adds_one : (P : List Event → Type 0) (old new : Seated) (index : ℕ) (event : Event) → IsReceived old new index event → P (event ∷ []) →
     AddsReceipts P old new
-adds_one P old new place event r p = record {
-  added = record { place = place; event = event; reply = r.reply } ∷ [];
+adds_one P old new index event r p = record {
+  added = record { place = index; event = event; reply = r.reply } ∷ [];
   number = r.number;
   receipts = r.receipts;
   events = p;
@@ -44,7 +45,7 @@ adds_one P old new place event r p = record {
 
 -- steps --------------------------------------------------------------------------
 
-all_steps : (es : List Event) (id : TransactionId) → AllByRecursion (λ e. IsTrue (is_step_event e)) es → AllByRecursion (λ e. IsTrue (is_step_event e))
+all_steps : (es : List Event) (id : TransactionId) → AllByRecursion (λ e. IsTrue (is_step e)) es → AllByRecursion (λ e. IsTrue (is_step e))
     (es ++ Step id ∷ [])
 all_steps [] id all = (refl, tt)
 all_steps (e ∷ es) id all = (all.0, all_steps es id all.1)
@@ -58,12 +59,12 @@ adds_no_step s = adds_none (AreSteps 0) s no_steps
 one_step : (most : ℕ) (es : List Event) (id : TransactionId) → AreSteps most es → AreSteps (most + 1) (es ++ Step id ∷ [])
 one_step most es id steps = record { steps = all_steps es id steps.steps; few = rw length-append (let few = steps.few in omega arith) }
 
-pub adds_step : (most : ℕ) (old mid new : Seated) (place : ℕ) (id : TransactionId) → AddsReceipts (AreSteps most) old mid → IsReceived mid new place (Step id) →
+pub adds_step : (most : ℕ) (old mid new : Seated) (index : ℕ) (id : TransactionId) → AddsReceipts (AreSteps most) old mid → IsReceived mid new index (Step id) →
     AddsReceipts (AreSteps (most + 1)) old new
-adds_step most old mid new place id before received =
+adds_step most old mid new index id before received =
     adds_both (AreSteps most) (λ es. es ≡ Step id ∷ []) (AreSteps (most + 1)) old mid new
     (λ es fs steps one. subst (λ (xs : List Event). AreSteps (most + 1) (es ++ xs)) (sym one) (one_step most es id steps))
-    before (adds_one (λ es. es ≡ Step id ∷ []) mid new place (Step id) received refl)
+    before (adds_one (λ es. es ≡ Step id ∷ []) mid new index (Step id) received refl)
 
 pub adds_fewer : (few most : ℕ) (old new : Seated) → few ≤ most → AddsReceipts (AreSteps few) old new → AddsReceipts (AreSteps most) old new
 adds_fewer few most old new less a = record {

@@ -56,18 +56,18 @@ AllEntered J [] = ⊤
 AllEntered J (s ∷ ss) = AreEntered J s.number 0 s.receipts × AllEntered J ss
 
 -- the index of the first receipt that is not
-abbrev pub IsFirstUnentered : List JournalEntry → (number low : ℕ) → List Receipt → (place : ℕ) → Type 0
-IsFirstUnentered J number low [] place = ⊥
-IsFirstUnentered J number low (r ∷ rs) place =
-    (¬ IsEntered J number low r × (place ≡ r.place)) ⊎ (IsEntered J number low r
-    × IsFirstUnentered J number (r.place + 1) rs place)
+abbrev pub IsFirstUnentered : List JournalEntry → (number low : ℕ) → List Receipt → (index : ℕ) → Type 0
+IsFirstUnentered J number low [] index = ⊥
+IsFirstUnentered J number low (r ∷ rs) index =
+    (¬ IsEntered J number low r × (index ≡ r.place)) ⊎ (IsEntered J number low r
+    × IsFirstUnentered J number (r.place + 1) rs index)
 
 -- of the first seat that has one
-abbrev pub IsFirstDiffering : List JournalEntry → List Seated → (number place : ℕ) → Type 0
-IsFirstDiffering J [] number place = ⊥
-IsFirstDiffering J (s ∷ ss) number place =
-    ((number ≡ s.number) × IsFirstUnentered J s.number 0 s.receipts place)
-    ⊎ (AreEntered J s.number 0 s.receipts × IsFirstDiffering J ss number place)
+abbrev pub IsFirstDiffering : List JournalEntry → List Seated → (number index : ℕ) → Type 0
+IsFirstDiffering J [] number index = ⊥
+IsFirstDiffering J (s ∷ ss) number index =
+    ((number ≡ s.number) × IsFirstUnentered J s.number 0 s.receipts index)
+    ⊎ (AreEntered J s.number 0 s.receipts × IsFirstDiffering J ss number index)
 
 -- all together -------------------------------------------------------------------
 
@@ -79,5 +79,5 @@ pub record IsReconciled (J : List JournalEntry) (seats : List Seated) : Type 0 w
 abbrev pub IsFirstFault : List JournalEntry → List Seated → Fault → Type 0
 IsFirstFault J seats CountDiffers = length J ≢ receipts_in seats
 IsFirstFault J seats (SeatTwice number) = (length J ≡ receipts_in seats) × IsFirstTwice [] seats number
-IsFirstFault J seats (ReceiptDiffers number place) = (length J ≡ receipts_in seats) × SeatsDiffer [] seats
-    × IsFirstDiffering J seats number place
+IsFirstFault J seats (ReceiptDiffers number index) = (length J ≡ receipts_in seats) × SeatsDiffer [] seats
+    × IsFirstDiffering J seats number index

@@ -16,11 +16,11 @@ stop_text stops.Memory = codes "out of memory"
 stop_text stops.JournalFull = codes "the journal is full"
 
 -- one receipt more, of an event that was taken, with some reply
-pub record IsReceived (old new : Seated) (place : ℕ) (event : Event) : Type 0 where
+pub record IsReceived (old new : Seated) (index : ℕ) (event : Event) : Type 0 where
   pub reply : Reply
   pub answered : IsTrue (is_answered reply)
   pub number : new.number ≡ old.number
-  pub receipts : new.receipts ≡ old.receipts ++ record { place = place; event = event; reply = reply } ∷ []
+  pub receipts : new.receipts ≡ old.receipts ++ record { place = index; event = event; reply = reply } ∷ []
 
 abbrev pub receipt_events : List Receipt → List Event
 receipt_events receipts = map (λ r. r.event) receipts

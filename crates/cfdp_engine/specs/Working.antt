@@ -2,17 +2,17 @@
 --     event_in octets           the event of a PDU's octets: none, where they spell no PDU, or one that is no event
 --     is_passed_over            a PDU without an event
 --     passed_over messages      how many of the messages are that
---     is_step_event, AreSteps   a Step;  Steps, and at most this many
+--     AreSteps                  Steps, and at most this many
 --     Brings message es         the events of a message
 --     BringAll messages es      those of all, in order
 --     BeginAll messages es      some first of these
-use Rattle.std.specs.Prelude.{◌≡◌, ℕ, ◌+◌, ◌≤◌, Bool, true, false, if◌then◌else◌, IsTrue, List, [], ◌∷◌, ◌++◌, length, Option, None, Result, Ok, Err}
+use Rattle.std.specs.Prelude.{◌≡◌, ℕ, ◌+◌, ◌≤◌, Bool, false, if◌then◌else◌, IsTrue, List, [], ◌∷◌, ◌++◌, length, Option, None, Result, Ok, Err}
 use Rattle.std.specs.Option.{is_none, option_to_list}
 use Rattle.std.specs.List.{AllByRecursion}
 use Rattle.std.specs.Arc.{arc_value}
 use Rattle.cfdp_pdus.specs.declared.fault.PduFault.{PduFault}
 use Rattle.cfdp_transactions.specs.declared.event.Event.{Event}
-use Rattle.cfdp_transactions.specs.declared.event.Event.TheVariants.{Step}
+use Rattle.cfdp_transactions.specs.Beside.{is_step}
 use Rattle.cfdp_transactions.specs.Events.{event_at}
 use Rattle.cfdp_transactions.specs.MostSettled.{most_settled}
 pub use Rattle.cfdp_engine.specs.declared.message.Message.{Message}
@@ -33,12 +33,8 @@ abbrev pub passed_over : List Message → ℕ
 passed_over [] = 0
 passed_over (m ∷ ms) = (if is_passed_over m then 1 else 0) + passed_over ms
 
-abbrev pub is_step_event : Event → Bool
-is_step_event (Step id) = true
-is_step_event event = false
-
 pub record AreSteps (most : ℕ) (es : List Event) : Type 0 where
-  pub steps : AllByRecursion (λ e. IsTrue (is_step_event e)) es
+  pub steps : AllByRecursion (λ e. IsTrue (is_step e)) es
   pub few : length es ≤ most
 
 abbrev pub Brings : Message → List Event → Type 0

@@ -119,16 +119,17 @@ impl<S: Filestore> Journaled<S> {
     /// Takes an event as [`accept`](Journaled::accept) does, and returns the index that its entry has in the journal,
     /// where it is journaled: how many entries there were before.
     pub(crate) fn accept_at(&mut self, seat: u8, event: Arc<Event, Global>) -> (u32, Reply)
-        ensures place { result.0 ≡ length self.old.journal }
+        ensures index { result.0 ≡ length self.old.journal }
         ensures full { (result.1 ≡ Reply.JournalFull) ↔ IsTrue (has_full_journal self.old) }
         ensures unchanged { IsTrue (has_full_journal self.old) → self.new ≡ self.old }
         ensures follows { IsFalse (has_full_journal self.old) → Follows self.old.core.world
             (arc_value event) result.1 self.new.core.world }
         ensures journal { self.new.journal ≡ entered self.old.journal seat (arc_value event) result.1 }
     {
+        // Read for its contract alone: a journal has room for 1,000,000 entries at most.
         let _limit = self.core.config().journal();
-        let place = self.entries.len() as u32;
-        (place, self.accept(seat, event))
+        let index = self.entries.len() as u32;
+        (index, self.accept(seat, event))
     }
 
     /// Both apart.

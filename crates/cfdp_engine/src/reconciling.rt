@@ -85,7 +85,7 @@ fn is_entered(journal: &[JournalEntry], number: u8, low: u64, receipt: &Receipt)
 /// The index of the first of a seat's receipts that is no entry of the journal, or does not rise.
 fn first_unentered(journal: &[JournalEntry], seat: &Seat) -> Option<u32>
     ensures entered { IfNone result (AreEntered journal.now seat.now.number 0 seat.now.receipts) }
-    ensures not { IfSome result (λ place. IsFirstUnentered journal.now seat.now.number 0 seat.now.receipts place) }
+    ensures not { IfSome result (λ index. IsFirstUnentered journal.now seat.now.number 0 seat.now.receipts index) }
 {
     let number = seat.number();
     let mut low = 0;
@@ -104,8 +104,8 @@ fn first_differing(journal: &[JournalEntry], seats: &[Seat]) -> Option<(u8, u32)
     ensures differs { IfSome result (λ found. IsFirstDiffering journal.now seats.now found.0 found.1) }
 {
     for seat in seats {
-        if let Some(place) = first_unentered(journal, seat) {
-            return Some((seat.number(), place));
+        if let Some(index) = first_unentered(journal, seat) {
+            return Some((seat.number(), index));
         }
     }
     None
@@ -122,10 +122,10 @@ fn first_fault(journal: &[JournalEntry], seats: &[Seat]) -> Option<Fault>
     if let Some(number) = first_twice(seats) {
         return Some(Fault::SeatTwice(number));
     }
-    let Some((number, place)) = first_differing(journal, seats) else {
+    let Some((number, index)) = first_differing(journal, seats) else {
         return None;
     };
-    Some(Fault::ReceiptDiffers(number, place))
+    Some(Fault::ReceiptDiffers(number, index))
 }
 
 /// Compares the receipts of the seats with the journal, once those who had them are done.

@@ -23,14 +23,14 @@ use std::sync::{Arc, Mutex, Wait};
 /// # Errors
 ///
 /// [`Stop::Memory`] exactly for [`Reply::Memory`], and [`Stop::JournalFull`] exactly for [`Reply::JournalFull`].
-fn receipt_of(place: u32, event: SharedEvent, reply: Reply) -> Result<Receipt, Stop>
-    ensures { result ≡ receipt_of place event reply }
+fn receipt_of(index: u32, event: SharedEvent, reply: Reply) -> Result<Receipt, Stop>
+    ensures { result ≡ receipt_of index event reply }
 {
     match reply {
         Reply::Memory => Err(Stop::Memory),
         Reply::JournalFull => Err(Stop::JournalFull),
         reply => Ok(Receipt {
-            place,
+            place: index,
             event,
             reply,
         }),
@@ -65,15 +65,15 @@ impl<S: Filestore> Shared<S> {
         seat: &mut Seat,
         event: Arc<Event, Global>,
     ) -> Result<u32, Stop>
-        ensures ok { IfOk result (λ place. IsReceived seat.old seat.new place (arc_value event)) }
+        ensures ok { IfOk result (λ index. IsReceived seat.old seat.new index (arc_value event)) }
         ensures err { OnErr result (seat.new ≡ seat.old) }
     {
         seat.receipts.reserve(1)?;
         let kept = SharedEvent::share(&event)?;
-        let (place, reply) = self.inner.lock(rt).accept_at(seat.number, event);
-        let receipt = receipt_of(place, kept, reply)?;
+        let (index, reply) = self.inner.lock(rt).accept_at(seat.number, event);
+        let receipt = receipt_of(index, kept, reply)?;
         seat.receipts.push_reserved(receipt);
-        Ok(place)
+        Ok(index)
     }
 
     /// The first transaction, in order of admission, whose items are being performed. It may wait for others who hand

@@ -66,7 +66,7 @@ fn hand_in<S: Filestore, R: Wait>(
     seat: &mut Seat,
     event: Event,
 ) -> Result<u32, Stop>
-    ensures ok { IfOk result (λ place. IsReceived seat.old seat.new place event) }
+    ensures ok { IfOk result (λ index. IsReceived seat.old seat.new index event) }
     ensures err { OnErr result (seat.new ≡ seat.old) }
 {
     let event = first_handle(alloc, event)?;

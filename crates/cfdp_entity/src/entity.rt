@@ -39,21 +39,21 @@ use std::marker::Model;
 ///
 /// Contracts see its world. All its events come from PDUs that were read, so each of its outcomes fits a Finished PDU.
 ///
-/// The longest calls on a full filestore of 65,536 blocks, in millions of instructions. `docs/C.md` says how they were
-/// counted, and has other lists.
+/// The longest calls that are known on a full filestore of 65,536 blocks, in millions of instructions at most.
+/// `docs/C.md`, 'The longest calls', has each case, its count and its time.
 ///
-/// - [`receive`](Entity::receive) of a Metadata PDU: 46 (64 renames of and in two directories that hold the same 124
-///   chains of directories)
-/// - the same: 6.4 (64 renames of long paths, beside 63 such lists)
-/// - the same: 3.5 (63 files beside 30,000 directories with a file each, and a rename of the directory that has them)
-/// - the drop of an entity: 27 (64 lists of 64 renames of long paths are live)
-/// - [`step`](Entity::step): 10.5 (an append of 3.9 MB)
-/// - [`put_file`](Entity::put_file): 8.1 (7.8 MB)
-/// - `receive` and [`file_data`](Entity::file_data): 3.0 (the end of a file of 7.8 MB of which nothing came)
-/// - a read of 7.8 MB: 2.7
-/// - [`cancel`](Entity::cancel), and each other call by which such a list ends: 1.6 (64 renames of long paths)
-/// - [`new`](Entity::new): 1.6
-/// - [`take`](Entity::take) and [`outcome`](Entity::outcome): 0.24 (an outcome of 64 renames of long paths)
+/// - [`receive`](Entity::receive) of a Metadata PDU: 150 (64 requests that rename directories with hundreds of others
+///   in them, which the list names)
+/// - the same: 20 (64 renames of long paths that a sender chose, beside 63 such lists)
+/// - the same: 4 (a rename of a directory that has 30,000 others, with 63 files beside them)
+/// - the drop of an entity: 30 (64 lists of 64 renames of long paths are live)
+/// - [`step`](Entity::step): 11 (an append of 3.9 MB)
+/// - [`put_file`](Entity::put_file): 9 (7.8 MB)
+/// - `receive` and [`file_data`](Entity::file_data): 4 (the end of a file of 7.8 MB of which nothing came)
+/// - a read of 7.8 MB: 3
+/// - [`cancel`](Entity::cancel), and each other call by which such a list ends: 2 (64 renames of long paths)
+/// - [`new`](Entity::new): 2
+/// - [`take`](Entity::take) and [`outcome`](Entity::outcome): 0.3 (an outcome of 64 renames of long paths)
 /// - any other call: less than 0.1
 #[derive(Drop)]
 pub struct Entity {

@@ -12,15 +12,16 @@ use Rattle.std.specs.FinSet as set
 use Rattle.std.proofs.lemmas.Bool.{cases_Bool, true≢false, eqb-true, and_parts, or_left, or_right, or_parts}
 use Rattle.std.proofs.lemmas.List.Elements.{filter-append}
 use Rattle.cfdp_status.specs.declared.transaction.TransactionId.{TransactionId}
+use Rattle.cfdp_status.proofs.Appended.{all-append}
 use Rattle.cfdp_paths.specs.Paths.{Path}
 use Rattle.cfdp_paths.proofs.Below.{at_or_below-itself}
+use Rattle.cfdp_paths.proofs.Comparing.{path_cmp-total}
 use Rattle.cfdp_leases.specs.declared.lease.Lease.TheVariants.{Exclusive, Shared}
 use Rattle.cfdp_leases.specs.declared.leased_paths.Holder.{Holder}
 use Rattle.cfdp_leases.specs.Footprint.{Footprint, leased, is_conflict, reaches}
 use Rattle.cfdp_leases.specs.Leases.{Grants, is_same, holds, without_grant, AreApart}
 use Rattle.cfdp_leases.specs.code.Holders.{when, holders_of, holders_at, others}
-use Rattle.cfdp_leases.proofs.Sets.{path_cmp_total, union_cases}
-use Rattle.cfdp_leases.proofs.ChangeFrame.{all-append}
+use Rattle.cfdp_leases.proofs.Sets.{union_cases}
 use Rattle.cfdp_leases.proofs.Conflict.{reaches_at}
 use Rattle.cfdp_leases.proofs.Apart.{is_same-symm}
 use Rattle.cfdp_leases.proofs.Held.{same_itself, left, unleased}
@@ -149,10 +150,10 @@ here : (test : Grant → Bool) (g : Grant) (gs : Grants) → test g ≡ true →
 here test g gs passes = ap (λ b. cond (not b) (1 + prefix_len (λ h. not (test h)) gs) 0) passes
 
 leased_by_exclusive : (fp : Footprint) (p : Path) → set.contains fp.exclusive p ≡ true → set.contains (leased fp) p ≡ true
-leased_by_exclusive fp p has = set.contains-union path_cmp_total fp.exclusive fp.shared p ∙ or_left (set.contains fp.exclusive p) (set.contains fp.shared p) has
+leased_by_exclusive fp p has = set.contains-union path_cmp-total fp.exclusive fp.shared p ∙ or_left (set.contains fp.exclusive p) (set.contains fp.shared p) has
 
 leased_by_shared : (fp : Footprint) (p : Path) → set.contains fp.shared p ≡ true → set.contains (leased fp) p ≡ true
-leased_by_shared fp p has = set.contains-union path_cmp_total fp.exclusive fp.shared p ∙ or_right (set.contains fp.exclusive p) (set.contains fp.shared p) has
+leased_by_shared fp p has = set.contains-union path_cmp-total fp.exclusive fp.shared p ∙ or_right (set.contains fp.exclusive p) (set.contains fp.shared p) has
 
 not_exclusive : (fp : Footprint) (p : Path) → set.contains (leased fp) p ≡ false → set.contains fp.exclusive p ≡ false
 not_exclusive fp p none = (unleased fp p none).0

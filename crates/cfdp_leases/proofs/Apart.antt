@@ -9,9 +9,9 @@ use Rattle.std.specs.Cmp.{nat_eq_equiv}
 use Rattle.std.proofs.lemmas.Bool.{true≢false, or_parts, or_from}
 use Rattle.std.proofs.lemmas.List.Folds.{list_any-append}
 use Rattle.cfdp_status.specs.declared.transaction.TransactionId.{TransactionId}
+use Rattle.cfdp_status.proofs.Appended.{all-append}
 use Rattle.cfdp_leases.specs.Footprint.{Footprint, is_conflict}
 use Rattle.cfdp_leases.specs.Leases.{Grants, is_same, first_conflict, holds, IsApartFrom, AreApart}
-use Rattle.cfdp_leases.proofs.ChangeFrame.{all-append}
 
 abbrev Grant : Type 0
 Grant = TransactionId × Footprint

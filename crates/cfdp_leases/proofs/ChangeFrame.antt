@@ -9,17 +9,20 @@ use Rattle.std.specs.FinMap as finite
 use Rattle.std.proofs.lemmas.Bool.{or_cases, true≢false, cases_Bool, or_left, or_right}
 use Rattle.cfdp_status.specs.declared.action.Action.{Action}
 use Rattle.cfdp_paths.specs.Paths.{Path, same_path, is_at_or_below, rebased}
-use Rattle.cfdp_paths.proofs.Comparing.{same_path-Decides}
+use Rattle.cfdp_paths.proofs.Comparing.{same_path-Decides, path_cmp-total}
 use Rattle.cfdp_paths.proofs.Below.{at_or_below-append, prefixes_compare}
+use Rattle.cfdp_paths.specs.PathMaps.{is_too_deep}
 use Rattle.cfdp_actions.specs.Filestore.{Node, Directory, File, Filestore, node_at, staged_in, Change, Becomes, Stages, changed, after, has_entries, parent_is_good, tree_at}
-use Rattle.cfdp_actions.specs.Actions.{Item, Install, Perform, Request, CreateFile, DeleteFile, RenameFile, AppendFile, ReplaceFile, CreateDirectory, RemoveDirectory, DenyFile, DenyDirectory, refused, succeeds, create, delete_file, rename, is_tree_too_deep, vacating, arriving, append, replace, remove_directory, deny_file, deny_directory, install, table, free_row, is_barred, denied, row}
+use Rattle.cfdp_actions.specs.Actions.{Item, Install, Perform, Request, CreateFile, DeleteFile, RenameFile, AppendFile, ReplaceFile, CreateDirectory, RemoveDirectory, DenyFile, DenyDirectory, refused, succeeds, create, delete_file, rename, vacating, arriving, append, replace, remove_directory, deny_file, deny_directory, install, table, free_row, is_barred, denied, row}
+use Rattle.cfdp_actions.proofs.Order.{get_kept}
 use Rattle.cfdp_status.specs.declared.action.Action.TheVariants as action
 use Rattle.cfdp_status.specs.declared.status.Status.TheVariants.{NotAllowed}
+use Rattle.cfdp_status.proofs.Appended.{all-append}
 use Rattle.cfdp_leases.specs.Footprint.{Footprint, is_exclusive, is_covered, reaches, is_conflict, IsWithin}
 use Rattle.cfdp_leases.specs.Laws.{IsOwn, OwnChanges, FrameOfChanges, Isolation}
-use Rattle.cfdp_leases.proofs.Sets.{path_cmp_total, exists, all_from, any_in-from, union_left, union_right}
+use Rattle.cfdp_leases.proofs.Sets.{exists, all_from, any_in-from, union_left, union_right}
 use Rattle.cfdp_leases.proofs.Conflict.{reaches_at}
-use Rattle.cfdp_leases.proofs.ReadFrame.{exclusive_below, get_kept}
+use Rattle.cfdp_leases.proofs.ReadFrame.{exclusive_below}
 
 -- ---- one change
 
@@ -29,8 +32,8 @@ written (Becomes p node) q x = cond (same_path q p) node x
 written (Stages slot octets) q x = x
 
 pub node_at-changed : (F : Filestore) (c : Change) (q : Path) → node_at (changed F c) q ≡ written c q (node_at F q)
-node_at-changed F (Becomes p None) q = finite.get-remove path_cmp_total F.nodes p q
-node_at-changed F (Becomes p (Some node)) q = finite.get-insert path_cmp_total F.nodes p node q
+node_at-changed F (Becomes p None) q = finite.get-remove path_cmp-total F.nodes p q
+node_at-changed F (Becomes p (Some node)) q = finite.get-insert path_cmp-total F.nodes p node q
 node_at-changed F (Stages slot octets) q = refl
 
 -- ---- the entries of a tree
@@ -55,10 +58,6 @@ tree_below F p =
     (all_from (λ x. is_at_or_below x p ≡ true) (finite.keys (finite.retain_keys F.nodes (λ q. is_at_or_below q p))) (keys_pass F (λ q. is_at_or_below q p)))
 
 -- ---- own changes
-
-pub all-append : {X : Type 0} (P : X → Type 0) (xs ys : List X) → AllByRecursion P xs → AllByRecursion P ys → AllByRecursion P (xs ++ ys)
-all-append P [] ys a b = b
-all-append P (x ∷ xs) ys a b = (a.0, all-append P xs ys a.1 b)
 
 module _ (fp : Footprint) (slot : ℕ) where
   abbrev Own : List Change → Type 0
@@ -93,7 +92,7 @@ module _ (fp : Footprint) (slot : ℕ) where
   own_rename p q (Some x) None false below es h k t = tt
   own_rename p q (Some x) None true true es h k t = tt
   own_rename p q (Some x) None true false es h k t =
-      elim (is_tree_too_deep p q es) as (λ b. Own (if b then refused (NotAllowed action.RenameFile)
+      elim (is_too_deep p q es) as (λ b. Own (if b then refused (NotAllowed action.RenameFile)
       else succeeds action.RenameFile (vacating es ++ arriving p q es) 0 0 0).changes) [
         | true ↦ tt
         | false ↦ all-append (IsOwn fp slot) (vacating es) (arriving p q es) (own_vacated p es h t) (own_arriving p q es k)

@@ -27,7 +27,7 @@ use Rattle.std.proofs.lemmas.Map.Keys.{Less-from_sorted}
 use Rattle.std.proofs.lemmas.Bool.{cases_Bool, eq-eqb, ne_eqb, true≢false, or_parts}
 use Rattle.cfdp_status.specs.declared.transaction.TransactionId.{TransactionId}
 use Rattle.cfdp_paths.specs.Paths.{Path, path_cmp, same_path}
-use Rattle.cfdp_paths.proofs.Comparing.{same_path-Decides}
+use Rattle.cfdp_paths.proofs.Comparing.{same_path-Decides, path_cmp-total}
 use Rattle.cfdp_leases.specs.declared.leased_paths.Holder.{Holder}
 use Rattle.cfdp_leases.specs.Leases.{is_same}
 use Rattle.cfdp_leases.specs.declared.leased_paths.Holders.{Holders}
@@ -36,7 +36,7 @@ use Rattle.cfdp_leases.specs.declared.leased_paths.LeasedPaths.{LeasedPaths}
 use Rattle.cfdp_leases.specs.Footprint.{PathSet, Footprint, leased}
 use Rattle.cfdp_paths.specs.Hashes.{hash_of}
 use Rattle.cfdp_leases.specs.code.Holders.{AreFree, HasHash, Holds, HoldsSome, IsOtherPath, holders_in, others, own_holders, holders_by_path, under_hash, unless_none, when}
-use Rattle.cfdp_leases.proofs.Sets.{path_cmp_total, Contains_from_exists, exists_from_Contains, exists}
+use Rattle.cfdp_leases.proofs.Sets.{Contains_from_exists, exists_from_Contains, exists}
 use Rattle.cfdp_actions.proofs.Order.{tied, same_path-symm, same_path-refl}
 
 -- ---- records
@@ -418,11 +418,11 @@ not_before xs i p none =
 
 -- a list that has the paths of a set
 pub in_slice : (xs : List Path) (s : PathSet) (p : Path) → set.from_list xs ≡ s → list_any (same_path p) xs ≡ set.contains s p
-in_slice xs s p paths = sym (set.contains-from_list path_cmp_total xs p) ∙ ap (λ t. set.contains t p) paths
+in_slice xs s p paths = sym (set.contains-from_list path_cmp-total xs p) ∙ ap (λ t. set.contains t p) paths
 
 -- a path that is not leased is neither exclusive nor shared
 pub unleased : (fp : Footprint) (p : Path) → set.contains (leased fp) p ≡ false → (set.contains fp.exclusive p ≡ false) × (set.contains fp.shared p ≡ false)
-unleased fp p none = or_parts (set.contains fp.exclusive p) (set.contains fp.shared p) (sym (set.contains-union path_cmp_total fp.exclusive fp.shared p) ∙ none)
+unleased fp p none = or_parts (set.contains fp.exclusive p) (set.contains fp.shared p) (sym (set.contains-union path_cmp-total fp.exclusive fp.shared p) ∙ none)
 
 -- what some have is in other words what some have
 pub some_wider : (id : TransactionId) (at wide : Path → Bool) (middle holders : Path → List Holder) (paths : LeasedPaths) → HoldsSome id at middle paths

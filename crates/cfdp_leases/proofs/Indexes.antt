@@ -15,8 +15,9 @@ use Rattle.cfdp_paths.specs.Paths.{Path}
 use Rattle.cfdp_leases.specs.Footprint.{PathSet, Footprint, leased, is_conflict}
 use Rattle.cfdp_leases.specs.code.Footprint.{HasAncestors, has_any}
 use Rattle.cfdp_leases.specs.Leases.{Grants, first_conflict}
-use Rattle.cfdp_leases.proofs.Sets.{by_truth, any_at, any_from, contains_from_exists, exists_from_contains, union_left, union_right, union_cases}
+use Rattle.cfdp_leases.proofs.Sets.{any_at, any_from, contains_from_exists, exists_from_contains, union_left, union_right, union_cases}
 use Rattle.cfdp_leases.proofs.Conflict.{conflict_by_paths}
+use Rattle.cfdp_actions.proofs.Truths.{by_truth}
 
 -- ---- where a test first holds
 

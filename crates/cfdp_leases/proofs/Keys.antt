@@ -11,13 +11,15 @@ use Rattle.std.proofs.lemmas.Bool.{true≢false, cases_Bool, or_parts, ltb-false
 use Rattle.cfdp_status.specs.declared.action.Action.{Action}
 use Rattle.cfdp_status.specs.declared.action.Action.TheVariants as action
 use Rattle.cfdp_status.specs.declared.status.Status.TheVariants.{NotAllowed}
+use Rattle.cfdp_status.proofs.Appended.{all-append}
 use Rattle.cfdp_paths.specs.Paths.{Path, IsPath, same_path, is_at_or_below, rebased}
 use Rattle.cfdp_paths.proofs.Comparing.{same_path-Decides}
 use Rattle.cfdp_paths.proofs.Below.{length-rebased, length-at_or_below, IsPath-rebased}
+use Rattle.cfdp_paths.specs.PathMaps.{is_too_deep}
 use Rattle.cfdp_actions.specs.Filestore.{Node, Directory, File, Filestore, node_at, staged_in, Change, Becomes, Stages, changed, after, has_entries, parent_is_good, tree_at}
-use Rattle.cfdp_actions.specs.Actions.{Item, Install, Perform, Request, CreateFile, DeleteFile, RenameFile, AppendFile, ReplaceFile, CreateDirectory, RemoveDirectory, DenyFile, DenyDirectory, refused, succeeds, create, delete_file, rename, is_tree_too_deep, vacating, arriving, append, replace, remove_directory, deny_file, deny_directory, install, table, free_row, is_barred, denied, row}
+use Rattle.cfdp_actions.specs.Actions.{Item, Install, Perform, Request, CreateFile, DeleteFile, RenameFile, AppendFile, ReplaceFile, CreateDirectory, RemoveDirectory, DenyFile, DenyDirectory, refused, succeeds, create, delete_file, rename, vacating, arriving, append, replace, remove_directory, deny_file, deny_directory, install, table, free_row, is_barred, denied, row}
 use Rattle.cfdp_leases.specs.Laws.{KeysArePaths, NamesPaths, KeysStayPaths}
-use Rattle.cfdp_leases.proofs.ChangeFrame.{node_at-changed, all-append}
+use Rattle.cfdp_leases.proofs.ChangeFrame.{node_at-changed}
 use Rattle.cfdp_leases.proofs.Rooted.{Of, tree_at-of}
 
 -- ---- changes
@@ -56,12 +58,12 @@ keyed_vacated : (es : List (Path × Node)) → AreKeyed (vacating es)
 keyed_vacated [] = tt
 keyed_vacated (e ∷ es) = (tt, keyed_vacated es)
 
-keyed_arriving : (F : Filestore) (p q : Path) (es : List (Path × Node)) → KeysArePaths F → IsPath q → AllByRecursion (Of F p) es → is_tree_too_deep p q es
+keyed_arriving : (F : Filestore) (p q : Path) (es : List (Path × Node)) → KeysArePaths F → IsPath q → AllByRecursion (Of F p) es → is_too_deep p q es
     ≡ false →
     AreKeyed (arriving p q es)
 keyed_arriving F p q [] keys to each deep = tt
 keyed_arriving F p q (e ∷ es) keys to each deep =
-    let parts = or_parts (nat_lt 8 (length (rebased p q e.0))) (is_tree_too_deep p q es) deep in
+    let parts = or_parts (nat_lt 8 (length (rebased p q e.0))) (is_too_deep p q es) deep in
     let short : length (rebased p q e.0) ≤ 8 = ltb-false _ _ parts.0 in
     let above : length p ≤ length e.0 = length-at_or_below e.0 p each.0.0 in
     let room : length e.0 + length q ≤ 8 + length p = omega (arith, length-rebased p q e.0, short, above) in
@@ -90,7 +92,7 @@ keyed_rename F p q (Some x) (Some y) good below es keys to each = tt
 keyed_rename F p q (Some x) None false below es keys to each = tt
 keyed_rename F p q (Some x) None true true es keys to each = tt
 keyed_rename F p q (Some x) None true false es keys to each =
-    (elim (is_tree_too_deep p q es) as (λ deep. is_tree_too_deep p q es ≡ deep → AreKeyed (if deep then refused (NotAllowed action.RenameFile)
+    (elim (is_too_deep p q es) as (λ deep. is_too_deep p q es ≡ deep → AreKeyed (if deep then refused (NotAllowed action.RenameFile)
     else succeeds action.RenameFile (vacating es ++ arriving p q es) 0 0 0).changes) [
       | true ↦ λ is. tt
       | false ↦ λ is. all-append IsKeyed (vacating es) (arriving p q es) (keyed_vacated es) (keyed_arriving F p q es keys to each is)

@@ -18,26 +18,25 @@ use Rattle.std.proofs.lemmas.List.Folds.{list_any-append}
 use Rattle.std.proofs.lemmas.Map.Keys.{Less-from_sorted}
 use Rattle.std.proofs.lemmas.Bool.{cases_Bool, eqb-true, eqb-false, or_left, or_right}
 use Rattle.cfdp_paths.specs.Paths.{Path, path_cmp, same_path}
-use Rattle.cfdp_paths.proofs.Comparing.{same_path-Decides}
+use Rattle.cfdp_paths.proofs.Comparing.{same_path-Decides, path_cmp-total}
 use Rattle.cfdp_paths.specs.Paths.{ancestors}
 use Rattle.cfdp_actions.specs.Actions.{Item, Perform, Request, first_in, second_in}
 use Rattle.cfdp_actions.specs.Actions as actions
 use Rattle.cfdp_leases.specs.Items.{install_of, items_of}
 use Rattle.cfdp_leases.specs.Footprint.{exclusive_in, read_in}
 use Rattle.cfdp_leases.specs.code.Footprint.{SameSet}
-use Rattle.cfdp_leases.proofs.Sets.{path_cmp_total}
 use Rattle.cfdp_paths.proofs.InOrder.{path_antisym}
 
 -- ---- lists of the same paths
 
 pub same_set_from : (xs ys : List Path) → ((q : Path) → list_any (same_path q) xs ≡ list_any (same_path q) ys) → SameSet xs ys
 same_set_from xs ys h =
-    set.same_set path_cmp_total path_antisym (set.from_list xs) (set.from_list ys)
-    (λ q. set.contains-from_list path_cmp_total xs q ∙ h q ∙ sym (set.contains-from_list path_cmp_total ys q))
+    set.same_set path_cmp-total path_antisym (set.from_list xs) (set.from_list ys)
+    (λ q. set.contains-from_list path_cmp-total xs q ∙ h q ∙ sym (set.contains-from_list path_cmp-total ys q))
 
 pub same_members : (xs ys : List Path) (q : Path) → SameSet xs ys → list_any (same_path q) xs ≡ list_any (same_path q) ys
 same_members xs ys q h =
-    sym (set.contains-from_list path_cmp_total xs q) ∙ ap (λ s. set.contains s q) h ∙ set.contains-from_list path_cmp_total ys q
+    sym (set.contains-from_list path_cmp-total xs q) ∙ ap (λ s. set.contains s q) h ∙ set.contains-from_list path_cmp-total ys q
 
 -- more of the same after both
 pub same_set-append : (xs ys zs : List Path) → SameSet xs ys → SameSet (xs ++ zs) (ys ++ zs)
@@ -87,7 +86,7 @@ and_then (Err refusal) xs ys zs a b h k = tt
 -- ---- the order
 
 turned : (p q : Path) (o : Ordering) → path_cmp p q ≡ o → path_cmp q p ≡ ordering_reverse o
-turned p q o h = path_cmp_total.antisymm q p ∙ ap ordering_reverse h
+turned p q o h = path_cmp-total.antisymm q p ∙ ap ordering_reverse h
 
 index_at_most : (o : Ordering) → ordering_index o ≤ 2
 index_at_most Less = omega arith
@@ -95,9 +94,9 @@ index_at_most Equal = omega arith
 index_at_most Greater = omega arith
 
 rises_to : (a b t : Path) (o : Ordering) → path_cmp a b ≡ Less → path_cmp b t ≡ o → ordering_index (path_cmp a t) ≤ ordering_index o
-rises_to a b t Less h e = rw (path_cmp_total.trans a b t h e) (omega arith)
+rises_to a b t Less h e = rw (path_cmp-total.trans a b t h e) (omega arith)
 rises_to a b t Equal h e =
-    rw (turned t a Greater (path_cmp_total.congr t b a (turned b t Equal e) ∙ turned a b Less h)) (omega arith)
+    rw (turned t a Greater (path_cmp-total.congr t b a (turned b t Equal e) ∙ turned a b Less h)) (omega arith)
 rises_to a b t Greater h e = index_at_most (path_cmp a t)
 
 pub searchable : (xs : List Path) (t : Path) → IsStrictlySortedBy path_cmp xs → IsNonDecreasingBy (λ y. ordering_index (path_cmp y t)) xs
@@ -135,7 +134,7 @@ searched xs t (Err i) sorted within at = let parts = at (searchable xs t sorted)
 
 all_after : (t x : Path) (xs : List Path) → path_cmp t x ≡ Less → AllByRecursion (λ y. path_cmp x y ≡ Less) xs → AllByRecursion (λ y. path_cmp t y ≡ Less) xs
 all_after t x [] before all = tt
-all_after t x (y ∷ xs) before all = (path_cmp_total.trans t x y before all.0, all_after t x xs before all.1)
+all_after t x (y ∷ xs) before all = (path_cmp-total.trans t x y before all.0, all_after t x xs before all.1)
 
 pub all-insert : (P : Path → Type 0) (xs : List Path) (t : Path) (i : ℕ) → AllByRecursion P xs → P t → AllByRecursion P (insert xs i t)
 all-insert P [] t zero all this = (this, tt)

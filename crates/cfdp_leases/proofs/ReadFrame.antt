@@ -13,11 +13,11 @@ use Rattle.cfdp_status.specs.declared.action.Action.TheVariants as action
 use Rattle.cfdp_leases.specs.Items.{content, step_bound}
 use Rattle.cfdp_leases.specs.Footprint.{exclusive_in, read_in, shared_in, Footprint, is_exclusive, is_covered, IsWithin}
 use Rattle.cfdp_leases.specs.Laws.{IsAlike, FrameOfReads}
-use Rattle.cfdp_leases.proofs.Sets.{path_cmp_total, exists, exists-append_left, exists-append_right, all_at, exists-flat_map, any_in-at, any_in-from}
+use Rattle.cfdp_leases.proofs.Sets.{exists, exists-append_left, exists-append_right, all_at, exists-flat_map, any_in-at, any_in-from}
 use Rattle.cfdp_leases.proofs.Conflict.{ancestor_exists}
-use Rattle.cfdp_actions.proofs.StoreLaws.{alike as same_test}
-use Rattle.cfdp_actions.proofs.Order.{same_path-refl}
+use Rattle.cfdp_actions.proofs.Order.{same_path-refl, get_kept}
 use Rattle.cfdp_paths.proofs.InOrder.{path_antisym}
+use Rattle.cfdp_paths.proofs.Comparing.{path_cmp-total}
 
 -- what is at or below an exclusive path is exclusive
 pub exclusive_below : (fp : Footprint) (p q : Path) → is_exclusive fp p ≡ true → is_at_or_below q p ≡ true → is_exclusive fp q ≡ true
@@ -50,13 +50,10 @@ covered_parent fp item p w h some =
 
 -- ---- what is read
 
-pub get_kept : (F : Filestore) (test : Path → Bool) (q : Path) → finite.get (finite.retain_keys F.nodes test) q ≡ cond (test q) (node_at F q) None
-get_kept F test q = finite.get-retain_keys F.nodes test q (same_test test q)
-
 same_kept : (F G : Filestore) (test : Path → Bool) → ((q : Path) → test q ≡ true → node_at F q ≡ node_at G q) → finite.retain_keys F.nodes test
     ≡ finite.retain_keys G.nodes test
 same_kept F G test same =
-    finite.same_map path_cmp_total path_antisym _ _
+    finite.same_map path_cmp-total path_antisym _ _
     (λ q. get_kept F test q ∙ chosen (test q) (node_at F q) (node_at G q) (same q) ∙ sym (get_kept G test q))
   where
     chosen : (b : Bool) (x y : Option Node) → (b ≡ true → x ≡ y) → cond b x None ≡ cond b y None

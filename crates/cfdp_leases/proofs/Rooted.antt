@@ -10,7 +10,7 @@ use Rattle.std.specs.Cmp.{tied_itself}
 use Rattle.std.specs.declared.cmp.Ordering.{Ordering}
 use Rattle.cfdp_status.specs.declared.action.Action.TheVariants as action
 use Rattle.cfdp_status.specs.declared.status.Status.TheVariants.{NotAllowed}
-use Rattle.cfdp_actions.specs.Actions.{Item, Install, Perform, Request, CreateFile, DeleteFile, RenameFile, AppendFile, ReplaceFile, CreateDirectory, RemoveDirectory, DenyFile, DenyDirectory, refused, succeeds, create, delete_file, rename, is_tree_too_deep, vacating, arriving, append, replace, remove_directory, deny_file, deny_directory, install, table, free_row, is_barred, denied, row}
+use Rattle.cfdp_actions.specs.Actions.{Item, Install, Perform, Request, CreateFile, DeleteFile, RenameFile, AppendFile, ReplaceFile, CreateDirectory, RemoveDirectory, DenyFile, DenyDirectory, refused, succeeds, create, delete_file, rename, vacating, arriving, append, replace, remove_directory, deny_file, deny_directory, install, table, free_row, is_barred, denied, row}
 use Rattle.cfdp_leases.specs.Laws.{StaysRooted}
 use Rattle.std.specs.Prelude.{Option, Some, None, is_some, if◌then◌else◌}
 use Rattle.std.specs.List.{list_any, AllByRecursion}
@@ -20,16 +20,16 @@ use Rattle.std.specs.declared.cmp.Ordering.TheVariants.{Less, Equal, Greater}
 use Rattle.std.proofs.lemmas.Bool.{or_cases, true≢false, cases_Bool, and_parts, false_from_ne_true, not-false, eqb-true}
 use Rattle.cfdp_status.specs.declared.action.Action.{Action}
 use Rattle.cfdp_paths.specs.Paths.{Path, path_cmp, same_path, is_at_or_below, is_below, parent, rebased}
-use Rattle.cfdp_paths.proofs.Comparing.{same_path-Decides}
+use Rattle.cfdp_paths.proofs.Comparing.{same_path-Decides, path_cmp-total}
 use Rattle.cfdp_paths.proofs.Below.{at_or_below-trans, at_or_below-append, at_or_below-antisym, append_from_at_or_below, parent_at_or_below, parent_below, is_below-Decides, parent_of_below}
 use Rattle.cfdp_actions.specs.Filestore.{Node, Directory, File, Filestore, node_at, staged_in, Becomes, Stages, changed, after, inside, has_entries, is_directory, is_good, parent_is_good, IsRooted, tree_at}
-use Rattle.cfdp_leases.proofs.Sets.{path_cmp_total, exists}
-use Rattle.cfdp_leases.proofs.ReadFrame.{get_kept}
+use Rattle.cfdp_leases.proofs.Sets.{exists}
 use Rattle.cfdp_leases.proofs.ChangeFrame.{node_at-changed, keys_pass, tree_below}
 use Rattle.cfdp_paths.proofs.InOrder.{true_from_T}
+use Rattle.cfdp_paths.specs.PathMaps.{is_too_deep}
 use Rattle.cfdp_actions.proofs.Moves.{after-append}
 use Rattle.cfdp_actions.proofs.Prefixes.{drop_append}
-use Rattle.cfdp_actions.proofs.Order.{same_path-refl}
+use Rattle.cfdp_actions.proofs.Order.{same_path-refl, get_kept}
 
 -- ---- parents
 
@@ -125,7 +125,7 @@ found_later e f es less found =
     elim (cases_Bool (same_path f.0 e.0)) [
       | inl tie ↦
           let same : f.0 ≡ e.0 = (same_path-Decides f.0 e.0).0 tie in
-          let both : Less ≡ Equal = sym less ∙ ap (path_cmp e.0) same ∙ tied_itself path_cmp_total e.0 in
+          let both : Less ≡ Equal = sym less ∙ ap (path_cmp e.0) same ∙ tied_itself path_cmp-total e.0 in
           absurd (cc)
       | inr apart ↦ ap (λ b. cond b (Some e.1) (find path_cmp f.0 es)) apart ∙ found
     ]
@@ -420,7 +420,7 @@ module _ (F : Filestore) (rooted : IsRooted F) where
   rooted_rename p q (Some x) None true true a b c d = rooted
   rooted_rename p q (Some x) None true false a b c d =
       let es = tree_at F p in
-      elim (is_tree_too_deep p q es) as (λ deep. IsRooted (after F (if deep then refused (NotAllowed action.RenameFile)
+      elim (is_too_deep p q es) as (λ deep. IsRooted (after F (if deep then refused (NotAllowed action.RenameFile)
       else succeeds action.RenameFile (vacating es ++ arriving p q es) 0 0 0).changes)) [
         | true ↦ rooted
         | false ↦ rooted_moved F p q (record { rooted = rooted; there = ap is_some a; absent = b; good = c; apart = d })

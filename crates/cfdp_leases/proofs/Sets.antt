@@ -1,31 +1,20 @@
 -- Membership of paths in lists and in finite sets.
 --     exists q xs                  the path is one of the list
---     path_cmp_total                                what `FinSet` and `FinMap` ask of the order of paths
 --     all_from, all_at             `AllByRecursion` by membership
 --     any_in-from, any_in-at       whether a path of a set passes a test
-use Rattle.std.proofs.Common.{◌≡◌, refl, sym, ◌∙◌, subst, Bool, true, false, ◌||◌, ◌⊎◌, inl, inr, List, [], ◌∷◌, ◌++◌, zero, suc, arith, Contains}
+use Rattle.std.proofs.Common.{◌≡◌, sym, ◌∙◌, subst, Bool, true, ◌||◌, ◌⊎◌, inl, inr, List, [], ◌∷◌, ◌++◌, zero, suc, arith, Contains}
 use Rattle.std.specs.Prelude.{flat_map}
 use Rattle.std.specs.List.{list_any, AllByRecursion}
-use Rattle.std.specs.Cmp.{IsTotalOrder, nat_cmp_total}
-use Rattle.std.specs.Cmp.Lexicographic.{lists_total}
 use Rattle.std.specs.FinSet as set
 use Rattle.std.proofs.lemmas.Bool.{or_cases, true≢false, or_left, or_right}
 use Rattle.std.proofs.lemmas.List.Folds.{list_any-append}
 use Rattle.cfdp_paths.specs.Paths.{Path, path_cmp, same_path}
-use Rattle.cfdp_paths.proofs.Comparing.{same_path-Decides}
+use Rattle.cfdp_paths.proofs.Comparing.{same_path-Decides, path_cmp-total}
 use Rattle.cfdp_leases.specs.Footprint.{PathSet, any_in}
 use Rattle.cfdp_actions.proofs.Order.{same_path-refl}
-
-pub path_cmp_total : IsTotalOrder path_cmp
-path_cmp_total = lists_total (lists_total nat_cmp_total)
+use Rattle.cfdp_actions.proofs.Truths.{by_truth}
 
 -- ---- booleans
-
-pub by_truth : (a b : Bool) → (a ≡ true → b ≡ true) → (b ≡ true → a ≡ true) → a ≡ b
-by_truth true true f g = refl
-by_truth true false f g = sym (f refl)
-by_truth false true f g = g refl
-by_truth false false f g = refl
 
 -- ---- lists
 
@@ -103,10 +92,10 @@ Contains_from_exists q (x ∷ xs) h =
 -- ---- finite sets
 
 pub contains_from_exists : (xs : List Path) (q : Path) → exists q xs → set.contains (set.from_list {R = path_cmp} xs) q ≡ true
-contains_from_exists xs q h = set.contains-from_list path_cmp_total xs q ∙ h
+contains_from_exists xs q h = set.contains-from_list path_cmp-total xs q ∙ h
 
 pub exists_from_contains : (xs : List Path) (q : Path) → set.contains (set.from_list {R = path_cmp} xs) q ≡ true → exists q xs
-exists_from_contains xs q h = sym (set.contains-from_list path_cmp_total xs q) ∙ h
+exists_from_contains xs q h = sym (set.contains-from_list path_cmp-total xs q) ∙ h
 
 pub any_in-at : (s : PathSet) (test : Path → Bool) (q : Path) → set.contains s q ≡ true → test q ≡ true → any_in s test ≡ true
 any_in-at s test q h t = any_at test (set.items s) q (sym (set.contains-items s q) ∙ h) t
@@ -122,13 +111,13 @@ any_in-from_list test xs =
     (λ h. let found = any_from test xs h in any_in-at (set.from_list xs) test found.0 (contains_from_exists xs found.0 found.1) found.2)
 
 pub union_left : (s t : PathSet) (q : Path) → set.contains s q ≡ true → set.contains (set.union s t) q ≡ true
-union_left s t q h = set.contains-union path_cmp_total s t q ∙ or_left _ _ h
+union_left s t q h = set.contains-union path_cmp-total s t q ∙ or_left _ _ h
 
 pub union_right : (s t : PathSet) (q : Path) → set.contains t q ≡ true → set.contains (set.union s t) q ≡ true
-union_right s t q h = set.contains-union path_cmp_total s t q ∙ or_right (set.contains s q) _ h
+union_right s t q h = set.contains-union path_cmp-total s t q ∙ or_right (set.contains s q) _ h
 
 pub union_cases : (s t : PathSet) (q : Path) → set.contains (set.union s t) q ≡ true → (set.contains s q ≡ true) ⊎ (set.contains t q ≡ true)
-union_cases s t q h = or_cases _ _ (sym (set.contains-union path_cmp_total s t q) ∙ h)
+union_cases s t q h = or_cases _ _ (sym (set.contains-union path_cmp-total s t q) ∙ h)
 
 pub any_in-union : (s t : PathSet) (test : Path → Bool) → any_in (set.union s t) test ≡ (any_in s test || any_in t test)
 any_in-union s t test =

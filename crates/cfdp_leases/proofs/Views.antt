@@ -8,19 +8,20 @@ use Rattle.std.specs.List.{list_any}
 use Rattle.std.specs.FinSet as set
 use Rattle.std.specs.Cmp.{eq_by_cmp_equiv}
 use Rattle.cfdp_paths.specs.Paths.{Path, same_path, is_at_or_below}
+use Rattle.cfdp_paths.proofs.Comparing.{path_cmp-total}
 use Rattle.cfdp_leases.specs.Footprint.{Footprint, is_exclusive, is_shared}
 use Rattle.cfdp_leases.specs.code.Footprint.{of_lists}
-use Rattle.cfdp_leases.proofs.Sets.{path_cmp_total, any_in-from_list}
+use Rattle.cfdp_leases.proofs.Sets.{any_in-from_list}
 
 pub is_exclusive-view : (xs ys : List Path) (fp : Footprint) (p : Path) → of_lists xs ys ≡ fp → is_exclusive fp p ≡ list_any (λ held. is_at_or_below p held) xs
 is_exclusive-view xs ys fp p view = ap (λ f. is_exclusive f p) (sym view) ∙ any_in-from_list (λ held. is_at_or_below p held) xs
 
 same_test : (p : Path) (ys : List Path) → list_any (same_path p) ys ≡ list_any (λ y. same_path y p) ys
 same_test p [] = refl
-same_test p (y ∷ ys) = λ i. (eq_by_cmp_equiv path_cmp_total).symm p y i || same_test p ys i
+same_test p (y ∷ ys) = λ i. (eq_by_cmp_equiv path_cmp-total).symm p y i || same_test p ys i
 
 pub is_shared-view : (xs ys : List Path) (fp : Footprint) (p : Path) → of_lists xs ys ≡ fp → is_shared fp p ≡ list_any (λ y. same_path y p) ys
-is_shared-view xs ys fp p view = ap (λ f. is_shared f p) (sym view) ∙ set.contains-from_list path_cmp_total ys p ∙ same_test p ys
+is_shared-view xs ys fp p view = ap (λ f. is_shared f p) (sym view) ∙ set.contains-from_list path_cmp-total ys p ∙ same_test p ys
 
 -- ---- grants
 

@@ -1,3 +1,5 @@
+//! The two ways to hold a path.
+
 /// How a footprint holds a path.
 #[derive(Clone, Copy, Debug, PartialEq, Eq)]
 pub enum Lease {

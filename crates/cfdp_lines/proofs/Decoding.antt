@@ -39,7 +39,7 @@ err_octets (Ok octets) h = absurd (h refl)
 err_octets (Err fault) h = refl
 
 -- an empty word spells nothing
-decode_of-nothing : decode_of [] ≡ Ok []
+pub decode_of-nothing : decode_of [] ≡ Ok []
 unfolding decode_pairs
 decode_of-nothing = refl
 

@@ -1,8 +1,8 @@
 -- Words decoded by a table: it has the value of each digit, and pairs of digits make the octets.
-use Rattle.std.proofs.Common.{◌≡◌, ◌≢◌, ◌∙◌, ℕ, zero, suc, ◌+◌, ◌*◌, ◌/◌, ◌%◌, ◌<◌, Bool, true, false, ◌&&◌, eqb, List, [], ◌∷◌, length, get_or, set, Option, Some, None, Ok, refl, sym, ap, subst, arith, inl, inr, is_some, below_more, get_or-set_other, get_or-set_same}
+use Rattle.std.proofs.Common.{◌≡◌, ◌≢◌, ◌∙◌, ℕ, zero, suc, ◌+◌, ◌*◌, ◌/◌, ◌%◌, ◌<◌, Bool, true, ◌&&◌, eqb, List, [], ◌∷◌, length, get_or, set, Option, Some, None, Ok, refl, sym, ap, subst, arith, inl, inr, is_some, below_more, get_or-set_other, get_or-set_same}
 use Rattle.std.specs.Prelude.{IsOk}
 use Rattle.std.specs.Int.Bits.{bit_or}
-use Rattle.std.proofs.lemmas.Bool.{eqb-true, cases_lt}
+use Rattle.std.proofs.lemmas.Bool.{eqb-true, cases_lt, and_parts}
 use Rattle.std.proofs.lemmas.Nat.{or_lt, le_or_l, le_or_r}
 use Rattle.std.proofs.lemmas.List.Elements.{All-get_or}
 use Rattle.hex.specs.Hex.{decode_of, decode_pairs, digit_or_error, hex_digit_value, is_hex_digit, pair_value}
@@ -20,19 +20,15 @@ are_values : ℕ → List ℕ → Bool
 are_values n [] = true
 are_values n (v ∷ vs) = eqb v (value_of n) && are_values (suc n) vs
 
-both : (a b : Bool) → (a && b) ≡ true → (a ≡ true) × (b ≡ true)
-both true b e = (refl, e)
-both false b e = absurd cc
-
 value_in : (n i : ℕ) (vs : List ℕ) → are_values n vs ≡ true → i < length vs → get_or vs i 0 ≡ value_of (n + i)
 unfolding are_values
 value_in n i [] e h = absurd (omega arith)
 value_in n zero (v ∷ vs) e h =
     let same : n ≡ n + 0 = omega arith in
-    eqb-true v (value_of n) (both (eqb v (value_of n)) (are_values (suc n) vs) e).0 ∙ ap value_of same
+    eqb-true v (value_of n) (and_parts (eqb v (value_of n)) (are_values (suc n) vs) e).0 ∙ ap value_of same
 value_in n (suc i) (v ∷ vs) e h =
     let next : suc n + i ≡ n + suc i = omega arith in
-    value_in (suc n) i vs (both (eqb v (value_of n)) (are_values (suc n) vs) e).1 (omega arith) ∙ ap value_of next
+    value_in (suc n) i vs (and_parts (eqb v (value_of n)) (are_values (suc n) vs) e).1 (omega arith) ∙ ap value_of next
 
 all_are_values : are_values 0 VALUES ≡ true
 unfolding are_values

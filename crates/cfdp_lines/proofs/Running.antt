@@ -1,5 +1,5 @@
 -- A run's loop over the pieces that a reader gives.
-use Rattle.std.proofs.Common.{◌≡◌, ℕ, ◌+◌, ◌-◌, ◌<◌, ◌≤◌, nat_lt, true, false, List, [], ◌∷◌, ◌++◌, Option, Some, None, length, take, refl, sym, ap, ◌∙◌, append_assoc, arith, length-append, rules}
+use Rattle.std.proofs.Common.{◌≡◌, ℕ, ◌+◌, ◌-◌, ◌<◌, ◌≤◌, nat_lt, true, false, List, [], ◌++◌, Option, Some, None, length, take, refl, sym, ap, ◌∙◌, append_assoc, arith, length-append, rules}
 use Rattle.std.specs.Prelude.{if◌then◌else◌}
 use Rattle.std.proofs.lemmas.List.{append-nil}
 use Rattle.std.proofs.Math.Seq.{take-append_seam, take-append-add}
@@ -36,10 +36,6 @@ ReadsOff-kept_or_lost None b c x p k = tt
 ReadsOff-kept_or_lost (Some a) None c x p k = absurd p
 ReadsOff-kept_or_lost (Some a) (Some b) None x p k = (b, p)
 ReadsOff-kept_or_lost (Some a) (Some b) (Some c) x p k = p ∙ ap (λ (s : List ℕ). x ++ s) (sym k)
-
-pub empty_list : (x : List ℕ) → length x ≡ 0 → x ≡ []
-empty_list [] e = refl
-empty_list (octet ∷ x) e = absurd (omega arith)
 
 -- all was read
 Consumes-all : (a : List ℕ) (b : Option (List ℕ)) (x : List ℕ) → Consumes (Some a) b x → IsAtEnd b → a ≡ x

@@ -12,9 +12,9 @@ use Rattle.std.proofs.lemmas.Str.Parse.{numerals_by_value, parse_digits, tells_a
 use Rattle.std.proofs.lemmas.List.Splits.{slice_split_at, slice_split_none, slice_split-cons_yes}
 use Rattle.cfdp_lines.specs.Words.{is_word, is_numeral, number_before, number_of, numbers_of, words_of}
 use Rattle.cfdp_lines.specs.Hexadecimal.{is_space, hex_octets, octets_of_words, octets_before}
-use Rattle.cfdp_lines.proofs.Decoding.{octets_before-nothing}
-use Rattle.hex.specs.Hex.{decode_of, decode_pairs}
-use Rattle.std.proofs.lemmas.Bool.{false_from_ne_true}
+use Rattle.cfdp_lines.proofs.Decoding.{octets_before-nothing, decode_of-nothing}
+use Rattle.hex.specs.Hex.{decode_of}
+use Rattle.std.proofs.lemmas.Bool.{false_from_ne_true, and_parts}
 
 -- ---- words
 
@@ -75,12 +75,8 @@ number_if : (word : List ℕ) (b : Bool) → is_numeral word ≡ true → nat_lt
 number_if word true e l = rw (e, l) refl
 number_if word false e l = rw (e, l) refl
 
-second : (a b : Bool) → (a && b) ≡ true → b ≡ true
-second true b e = e
-second false b e = cc e
-
 all_digits : (word : List ℕ) → is_numeral word ≡ true → list_all is_ascii_digit word ≡ true
-all_digits word e = second (is_word word) (list_all is_ascii_digit word) e
+all_digits word e = (and_parts (is_word word) (list_all is_ascii_digit word) e).1
 
 numeral_some : (word : List ℕ) → is_numeral word ≡ true → 0 < length word
 numeral_some [] e = cc e
@@ -141,16 +137,12 @@ numbers_of-length (word ∷ words) numbers e =
 
 -- ---- hexadecimal
 
-no_octets : decode_of [] ≡ Ok []
-unfolding decode_pairs
-no_octets = refl
-
 spelled : (parts : List (List ℕ)) → octets_of_words (filter is_word parts) ≡ octets_of_words parts
 spelled [] = refl
 spelled ([] ∷ parts) =
     let dropped : filter is_word ([] ∷ parts) ≡ filter is_word parts = search rules in
     ap octets_of_words dropped ∙ spelled parts ∙ sym (octets_before-nothing (octets_of_words parts))
-    ∙ ap (λ r. octets_before r (octets_of_words parts)) (sym no_octets)
+    ∙ ap (λ r. octets_before r (octets_of_words parts)) (sym decode_of-nothing)
 spelled ((octet ∷ octets) ∷ parts) =
     let kept : filter is_word ((octet ∷ octets) ∷ parts) ≡ (octet ∷ octets) ∷ filter is_word parts = search rules in
     ap octets_of_words kept ∙ ap (octets_before (decode_of (octet ∷ octets))) (spelled parts)

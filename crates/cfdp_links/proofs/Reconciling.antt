@@ -50,17 +50,17 @@ differ before (s ∷ ss) apart = (none_has (before ++ s ∷ []) ss s.number (tak
 -- ---- one index
 
 -- at this index is one of the receipts, and then it is the first; or none does
-record PassesOne (J : List JournalEntry) (number place : ℕ) (e : JournalEntry) (rs : List Receipt) : Type 0 where
+record PassesOne (J : List JournalEntry) (number index : ℕ) (e : JournalEntry) (rs : List Receipt) : Type 0 where
   left : List Receipt
-  entered : AreEntered J number (place + 1) left
+  entered : AreEntered J number (index + 1) left
   readable : AllByRecursion IsReadable (receipt_events left)
   either : (rs ≡ left) ⊎ ((length rs ≡ length left + 1) × (e.seat ≡ number) × IsReadable e.event × (receipt_events rs ≡ e.event ∷ receipt_events left))
 
-pass_here : (J : List JournalEntry) (number place : ℕ) (e : JournalEntry) (r : Receipt) (rs : List Receipt) → slice_get J place ≡ Some e → place ≡ r.place
-    → AreEntered J number place (r ∷ rs) → AllByRecursion IsReadable (receipt_events (r ∷ rs)) → PassesOne J number place e (r ∷ rs)
-pass_here J number place e r rs at same entered readable =
+pass_here : (J : List JournalEntry) (number index : ℕ) (e : JournalEntry) (r : Receipt) (rs : List Receipt) → slice_get J index ≡ Some e → index ≡ r.place
+    → AreEntered J number index (r ∷ rs) → AllByRecursion IsReadable (receipt_events (r ∷ rs)) → PassesOne J number index e (r ∷ rs)
+pass_here J number index e r rs at same entered readable =
     let is : e ≡ record { seat = number; event = r.event; reply = r.reply } =
-    let here : slice_get J place ≡ Some (record { seat = number; event = r.event; reply = r.reply }) = rw same entered.0.here in cc in
+    let here : slice_get J index ≡ Some (record { seat = number; event = r.event; reply = r.reply }) = rw same entered.0.here in cc in
     record {
       left = rs;
       entered = rw same entered.1;
@@ -73,22 +73,22 @@ pass_here J number place e r rs at same entered readable =
       );
     }
 
-pass_before : (J : List JournalEntry) (number place : ℕ) (e : JournalEntry) (r : Receipt) (rs : List Receipt) → place < r.place
-    → AreEntered J number place (r ∷ rs) → AllByRecursion IsReadable (receipt_events (r ∷ rs)) → PassesOne J number place e (r ∷ rs)
-pass_before J number place e r rs before entered readable = record {
+pass_before : (J : List JournalEntry) (number index : ℕ) (e : JournalEntry) (r : Receipt) (rs : List Receipt) → index < r.place
+    → AreEntered J number index (r ∷ rs) → AllByRecursion IsReadable (receipt_events (r ∷ rs)) → PassesOne J number index e (r ∷ rs)
+pass_before J number index e r rs before entered readable = record {
   left = r ∷ rs;
   entered = (record { rises = omega arith; here = entered.0.here }, entered.1);
   readable = readable;
   either = inl refl;
 }
 
-pass_one : (J : List JournalEntry) (number place : ℕ) (e : JournalEntry) (rs : List Receipt) → slice_get J place ≡ Some e
-    → AreEntered J number place rs → AllByRecursion IsReadable (receipt_events rs) → PassesOne J number place e rs
-pass_one J number place e [] at entered readable = record { left = []; entered = tt; readable = tt; either = inl refl }
-pass_one J number place e (r ∷ rs) at entered readable =
+pass_one : (J : List JournalEntry) (number index : ℕ) (e : JournalEntry) (rs : List Receipt) → slice_get J index ≡ Some e
+    → AreEntered J number index rs → AllByRecursion IsReadable (receipt_events rs) → PassesOne J number index e rs
+pass_one J number index e [] at entered readable = record { left = []; entered = tt; readable = tt; either = inl refl }
+pass_one J number index e (r ∷ rs) at entered readable =
     elim (eq-or-lt_of_le entered.0.rises) [
-      | inl same ↦ pass_here J number place e r rs at same entered readable
-      | inr before ↦ pass_before J number place e r rs before entered readable
+      | inl same ↦ pass_here J number index e r rs at same entered readable
+      | inr before ↦ pass_before J number index e r rs before entered readable
     ]
 
 -- ---- what a seat was informed of, and what the journal has of it
@@ -116,12 +116,12 @@ own_receipt e rest s left same own stated =
 
 -- their receipts, at indexes that are not before this one
 abbrev EachFrom : List JournalEntry → ℕ → List Seated → Type 0
-EachFrom J place [] = ⊤
-EachFrom J place (s ∷ ss) = AreEntered J s.number place s.receipts × EachFrom J place ss
+EachFrom J index [] = ⊤
+EachFrom J index (s ∷ ss) = AreEntered J s.number index s.receipts × EachFrom J index ss
 
-record Passes (J : List JournalEntry) (place : ℕ) (e : JournalEntry) (seats : List Seated) : Type 0 where
+record Passes (J : List JournalEntry) (index : ℕ) (e : JournalEntry) (seats : List Seated) : Type 0 where
   left : List Seated
-  entered : EachFrom J (place + 1) left
+  entered : EachFrom J (index + 1) left
   readable : AllByRecursion HasReadable left
   differ : Differ left
   none : (number : ℕ) → NoneHas number seats → NoneHas number left
@@ -129,20 +129,20 @@ record Passes (J : List JournalEntry) (place : ℕ) (e : JournalEntry) (seats : 
   foreign : (rest : List JournalEntry) → NoneHas e.seat seats → AreReceipted rest left → AreReceipted (e ∷ rest) seats
   own : (rest : List JournalEntry) → receipts_in seats ≡ receipts_in left + 1 → AreReceipted rest left → AreReceipted (e ∷ rest) seats
 
-pass_foreign : (J : List JournalEntry) (place : ℕ) (e : JournalEntry) (s : Seated) (ss : List Seated) (one : PassesOne J s.number place e s.receipts)
-    (more : Passes J place e ss) (rest : List JournalEntry) → NoneHas e.seat (s ∷ ss)
+pass_foreign : (J : List JournalEntry) (index : ℕ) (e : JournalEntry) (s : Seated) (ss : List Seated) (one : PassesOne J s.number index e s.receipts)
+    (more : Passes J index e ss) (rest : List JournalEntry) → NoneHas e.seat (s ∷ ss)
     → AreReceipted rest (record { number = s.number; receipts = one.left } ∷ more.left) → AreReceipted (e ∷ rest) (s ∷ ss)
-pass_foreign J place e s ss one more rest none stated =
+pass_foreign J index e s ss one more rest none stated =
     elim one.either [
       | inl same ↦ (other_receipts e rest s one.left same (λ is. none.0 (sym is)) stated.0, more.foreign rest none.1 stated.1)
       | inr here ↦ absurd (none.0 (sym here.1))
     ]
 
-pass_own : (J : List JournalEntry) (place : ℕ) (e : JournalEntry) (s : Seated) (ss : List Seated) → NoneHas s.number ss
-    → (one : PassesOne J s.number place e s.receipts) (more : Passes J place e ss) (rest : List JournalEntry)
+pass_own : (J : List JournalEntry) (index : ℕ) (e : JournalEntry) (s : Seated) (ss : List Seated) → NoneHas s.number ss
+    → (one : PassesOne J s.number index e s.receipts) (more : Passes J index e ss) (rest : List JournalEntry)
     → receipts_in (s ∷ ss) ≡ length one.left + receipts_in more.left + 1
     → AreReceipted rest (record { number = s.number; receipts = one.left } ∷ more.left) → AreReceipted (e ∷ rest) (s ∷ ss)
-pass_own J place e s ss apart one more rest counted stated =
+pass_own J index e s ss apart one more rest counted stated =
     elim one.either [
       | inl same ↦
           let long : length s.receipts ≡ length one.left = ap length same in
@@ -159,11 +159,11 @@ pass_own J place e s ss apart one more rest counted stated =
       )
     ]
 
-pass_either : (J : List JournalEntry) (place : ℕ) (e : JournalEntry) (s : Seated) (ss : List Seated) → NoneHas s.number ss
-    → (one : PassesOne J s.number place e s.receipts) (more : Passes J place e ss)
+pass_either : (J : List JournalEntry) (index : ℕ) (e : JournalEntry) (s : Seated) (ss : List Seated) → NoneHas s.number ss
+    → (one : PassesOne J s.number index e s.receipts) (more : Passes J index e ss)
     → (receipts_in (s ∷ ss) ≡ length one.left + receipts_in more.left)
     ⊎ ((receipts_in (s ∷ ss) ≡ length one.left + receipts_in more.left + 1) × (NoneHas e.seat (s ∷ ss) → ⊥) × IsReadable e.event)
-pass_either J place e s ss apart one more =
+pass_either J index e s ss apart one more =
     elim one.either [
       | inl same ↦
           let long : length s.receipts ≡ length one.left = ap length same in
@@ -177,9 +177,9 @@ pass_either J place e s ss apart one more =
       ]
     ]
 
-pass : (J : List JournalEntry) (place : ℕ) (e : JournalEntry) (seats : List Seated) → slice_get J place ≡ Some e → EachFrom J place seats
-    → AllByRecursion HasReadable seats → Differ seats → Passes J place e seats
-pass J place e [] at entered readable apart =
+pass : (J : List JournalEntry) (index : ℕ) (e : JournalEntry) (seats : List Seated) → slice_get J index ≡ Some e → EachFrom J index seats
+    → AllByRecursion HasReadable seats → Differ seats → Passes J index e seats
+pass J index e [] at entered readable apart =
     record {
       left = [];
       entered = tt;
@@ -190,63 +190,63 @@ pass J place e [] at entered readable apart =
       foreign = λ rest none stated. tt;
       own = λ rest counted stated. tt;
     }
-pass J place e (s ∷ ss) at entered readable apart =
-    let one = pass_one J s.number place e s.receipts at entered.0 readable.0 in
-    let more = pass J place e ss at entered.1 readable.1 apart.1 in
+pass J index e (s ∷ ss) at entered readable apart =
+    let one = pass_one J s.number index e s.receipts at entered.0 readable.0 in
+    let more = pass J index e ss at entered.1 readable.1 apart.1 in
     record {
       left = record { number = s.number; receipts = one.left } ∷ more.left;
       entered = (one.entered, more.entered);
       readable = (one.readable, more.readable);
       differ = (more.none s.number apart.0, more.differ);
       none = λ number n. (n.0, more.none number n.1);
-      either = pass_either J place e s ss apart.0 one more;
-      foreign = pass_foreign J place e s ss one more;
-      own = pass_own J place e s ss apart.0 one more;
+      either = pass_either J index e s ss apart.0 one more;
+      foreign = pass_foreign J index e s ss one more;
+      own = pass_own J index e s ss apart.0 one more;
     }
 
 -- ---- all indexes
 
 -- after the last index there is no receipt
-none_following : (J : List JournalEntry) (number place : ℕ) (rs : List Receipt) → ((i : ℕ) → slice_get J (place + i) ≡ None)
-    → AreEntered J number place rs → length rs ≡ 0
-none_following J number place [] end entered = refl
-none_following J number place (r ∷ rs) end entered =
+none_following : (J : List JournalEntry) (number index : ℕ) (rs : List Receipt) → ((i : ℕ) → slice_get J (index + i) ≡ None)
+    → AreEntered J number index rs → length rs ≡ 0
+none_following J number index [] end entered = refl
+none_following J number index (r ∷ rs) end entered =
     let rises = entered.0.rises in
-    let at : place + (r.place - place) ≡ r.place = omega arith in
-    let none : slice_get J r.place ≡ None = subst (λ (i : ℕ). slice_get J i ≡ None) at (end (r.place - place)) in
+    let at : index + (r.place - index) ≡ r.place = omega arith in
+    let none : slice_get J r.place ≡ None = subst (λ (i : ℕ). slice_get J i ≡ None) at (end (r.place - index)) in
     let here = entered.0.here in absurd cc
 
-none_left : (J : List JournalEntry) (place : ℕ) (seats : List Seated) → ((i : ℕ) → slice_get J (place + i) ≡ None) → EachFrom J place seats → receipts_in seats
+none_left : (J : List JournalEntry) (index : ℕ) (seats : List Seated) → ((i : ℕ) → slice_get J (index + i) ≡ None) → EachFrom J index seats → receipts_in seats
     ≡ 0
-none_left J place [] end entered = refl
-none_left J place (s ∷ ss) end entered =
-    let one = none_following J s.number place s.receipts end entered.0 in
-    let more = none_left J place ss end entered.1 in omega arith
+none_left J index [] end entered = refl
+none_left J index (s ∷ ss) end entered =
+    let one = none_following J s.number index s.receipts end entered.0 in
+    let more = none_left J index ss end entered.1 in omega arith
 
 -- there are at most as many receipts as entries are left, and if there are as many, each of these is one of them
 record Covered (rest : List JournalEntry) (seats : List Seated) : Type 0 where
   few : receipts_in seats ≤ length rest
   readable : receipts_in seats ≡ length rest → AllByRecursion IsReadable (journal_events rest)
 
-covered_one : (J : List JournalEntry) (place : ℕ) (e : JournalEntry) (rest : List JournalEntry) (seats : List Seated) (p : Passes J place e seats)
+covered_one : (J : List JournalEntry) (index : ℕ) (e : JournalEntry) (rest : List JournalEntry) (seats : List Seated) (p : Passes J index e seats)
     → Covered rest p.left → Covered (e ∷ rest) seats
-covered_one J place e rest seats p more =
+covered_one J index e rest seats p more =
     let few = more.few in
     elim p.either [
       | inl same ↦ record { few = omega arith; readable = λ all. absurd (omega arith) }
       | inr here ↦ let counted = here.0 in record { few = omega arith; readable = λ all. (here.2, more.readable (omega arith)) }
     ]
 
-covered : (J : List JournalEntry) (place : ℕ) (rest : List JournalEntry) (seats : List Seated) → ((i : ℕ) → slice_get J (place + i) ≡ slice_get rest i)
-    → EachFrom J place seats → AllByRecursion HasReadable seats → Differ seats → Covered rest seats
-covered J place [] seats at entered readable apart =
-    let none = none_left J place seats at entered in
+covered : (J : List JournalEntry) (index : ℕ) (rest : List JournalEntry) (seats : List Seated) → ((i : ℕ) → slice_get J (index + i) ≡ slice_get rest i)
+    → EachFrom J index seats → AllByRecursion HasReadable seats → Differ seats → Covered rest seats
+covered J index [] seats at entered readable apart =
+    let none = none_left J index seats at entered in
     record { few = omega arith; readable = λ all. tt }
-covered J place (e ∷ rest) seats at entered readable apart =
-    let p = pass J place e seats (subst (λ (i : ℕ). slice_get J i ≡ Some e) (add-zero place) (at 0)) entered readable apart in
-    covered_one J place e rest seats p
-    (covered J (place + 1) rest p.left
-    (λ i. let next : place + 1 + i ≡ place + suc i = omega arith in ap (λ (k : ℕ). slice_get J k) next ∙ at (suc i))
+covered J index (e ∷ rest) seats at entered readable apart =
+    let p = pass J index e seats (subst (λ (i : ℕ). slice_get J i ≡ Some e) (add-zero index) (at 0)) entered readable apart in
+    covered_one J index e rest seats p
+    (covered J (index + 1) rest p.left
+    (λ i. let next : index + 1 + i ≡ index + suc i = omega arith in ap (λ (k : ℕ). slice_get J k) next ∙ at (suc i))
     p.entered p.readable p.differ)
 
 each_from : (J : List JournalEntry) (seats : List Seated) → AllEntered J seats → EachFrom J 0 seats
@@ -262,19 +262,19 @@ none_receipted [] none = tt
 none_receipted (s ∷ ss) none = (sym (no_receipts s.receipts (omega arith)), none_receipted ss (omega arith))
 
 -- if there are as many, each seat's entries are its receipts
-stated : (J : List JournalEntry) (place : ℕ) (rest : List JournalEntry) (seats : List Seated) → ((i : ℕ) → slice_get J (place + i) ≡ slice_get rest i)
-    → EachFrom J place seats → AllByRecursion HasReadable seats → Differ seats → receipts_in seats ≡ length rest → AreReceipted rest seats
-stated J place [] seats at entered readable apart all = none_receipted seats all
-stated J place (e ∷ rest) seats at entered readable apart all =
-    let p = pass J place e seats (subst (λ (i : ℕ). slice_get J i ≡ Some e) (add-zero place) (at 0)) entered readable apart in
-    let following : (i : ℕ) → slice_get J (place + 1 + i) ≡ slice_get rest i =
-    λ i. let next : place + 1 + i ≡ place + suc i = omega arith in ap (λ (k : ℕ). slice_get J k) next ∙ at (suc i) in
-    let few = (covered J (place + 1) rest p.left following p.entered p.readable p.differ).few in
+stated : (J : List JournalEntry) (index : ℕ) (rest : List JournalEntry) (seats : List Seated) → ((i : ℕ) → slice_get J (index + i) ≡ slice_get rest i)
+    → EachFrom J index seats → AllByRecursion HasReadable seats → Differ seats → receipts_in seats ≡ length rest → AreReceipted rest seats
+stated J index [] seats at entered readable apart all = none_receipted seats all
+stated J index (e ∷ rest) seats at entered readable apart all =
+    let p = pass J index e seats (subst (λ (i : ℕ). slice_get J i ≡ Some e) (add-zero index) (at 0)) entered readable apart in
+    let following : (i : ℕ) → slice_get J (index + 1 + i) ≡ slice_get rest i =
+    λ i. let next : index + 1 + i ≡ index + suc i = omega arith in ap (λ (k : ℕ). slice_get J k) next ∙ at (suc i) in
+    let few = (covered J (index + 1) rest p.left following p.entered p.readable p.differ).few in
     elim p.either [
       | inl same ↦ absurd (omega arith)
       | inr here ↦
           let counted = here.0 in
-          p.own rest counted (stated J (place + 1) rest p.left following p.entered p.readable p.differ (omega arith))
+          p.own rest counted (stated J (index + 1) rest p.left following p.entered p.readable p.differ (omega arith))
     ]
 
 from_first : (J : List JournalEntry) (i : ℕ) → slice_get J (0 + i) ≡ slice_get J i

@@ -1,6 +1,7 @@
 -- What a run of `links` is.
 --
---   IsBadFile        why the files are not read: the same, of the first file that has a bad line
+--   IsFaultWhere     of a fault, by what it is: out of memory, a fact of the bad line that it names, or another fact
+--   IsBadFile        why the files are not read: out of memory, or the first bad line of the first file that has one
 --   IsHeard          what is said may be handed in: of what is no PDU, an event whose outcome can be written
 --   HasReadable      the events that a seat handed in may come from PDUs that were read
 --   AllNumbered      a fact of each of some things, by their numbers
@@ -37,15 +38,16 @@ use Rattle.cfdp_streams.specs.Streams.{LostWithin}
 use Rattle.cfdp_lines.specs.declared.faults.LinkFault.{LinkFault}
 use Rattle.cfdp_lines.specs.declared.faults.LinkFault.TheVariants.{Memory, BadLine}
 
+abbrev pub IsFaultWhere : (bad : (file line : ℕ) → Type 0) → (other : Type 0) → LinkFault → Type 0
+IsFaultWhere bad other Memory = ⊤
+IsFaultWhere bad other (BadLine file line) = bad file line
+IsFaultWhere bad other fault = other
+
 abbrev pub IsBadFile : Result Files (ℕ × ℕ) → LinkFault → Type 0
-IsBadFile read Memory = ⊤
-IsBadFile read (BadLine file line) = read ≡ Err (file, line)
-IsBadFile read fault = ⊥
+IsBadFile read fault = IsFaultWhere (λ file line. read ≡ Err (file, line)) ⊥ fault
 
 abbrev pub Stops : Result Files (ℕ × ℕ) → LinkFault → Type 0
-Stops read Memory = ⊤
-Stops read (BadLine file line) = read ≡ Err (file, line)
-Stops read fault = IsOk read
+Stops read fault = IsFaultWhere (λ file line. read ≡ Err (file, line)) (IsOk read) fault
 
 abbrev pub IsHeard : Said → Type 0
 IsHeard (Happened event) = IsReadable event

@@ -14,6 +14,7 @@ use cfdp_transactions::laws;
 fn octets_are_readable(octets: &[u8])
     ensures { (event : EventOf) → event_in octets.now ≡ Some event → IsReadable event }
 {
+    // Read for the contract alone: an octet is less than 256.
     let _octets = octets.len();
     laws::what_was_read_is_readable();
 }

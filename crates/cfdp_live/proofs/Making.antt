@@ -10,8 +10,9 @@ use Rattle.cfdp_receiver.specs.State.{State, AnswerFields, Input, Expire}
 use Rattle.cfdp_receiver.specs.StateMachine.{StateMachineFields, AnswerParts, answer_in}
 use Rattle.cfdp_receiver.specs.Sent.{as_sent}
 use Rattle.cfdp_receiver.specs.Turning.{turn, after_input, after_all, parts}
+use Rattle.cfdp_receiver.proofs.AfterInputs.{after_both}
 use Rattle.cfdp_run.specs.Playing.{is_nothing, next_settled, passing, settled_after, settling}
-use Rattle.cfdp_run.proofs.Follows.{ends_both, turned_to}
+use Rattle.cfdp_run.proofs.Follows.{turned_to}
 use Rattle.cfdp_run.proofs.Loops.{passing_last, passing_next, passing_none, settling_next, settling_none}
 use Rattle.cfdp_live.specs.Living.{Out, nothing, with_more, made_of_answer, made_of, made, MakesOut}
 use Rattle.cfdp_live.specs.code.Living.{with_sent}
@@ -51,7 +52,7 @@ pub record LeftToMake (R : State) (inputs : List Input) (start : State) (all : L
 left_next : (R : State) (some more : List Input) (start : State) (all : List Input) (before now : Out) (N : State) (later : Out) →
     LeftToMake R (some ++ more) start all before now → MakesOut R some N now later → LeftToMake N more start all before later
 left_next R some more start all before now N later h p = record {
-  ends = ap (λ (Q : State). after_all Q more) p.ends ∙ sym (ends_both R some more) ∙ h.ends;
+  ends = ap (λ (Q : State). after_all Q more) p.ends ∙ sym (after_both R some more) ∙ h.ends;
   makes =
       ap (λ (o : Out). with_more o (made N more)) p.makes
       ∙ more-assoc now (made R some) (made N more)

@@ -13,11 +13,9 @@ ghost use Rattle.cfdp_live.specs.Living.{MakesOut, made_of_answer, with_more};
 use crate::output::Output;
 use cfdp_pdus::PduFault;
 use cfdp_receiver::{Answer, Became, Dropped, Receiver};
+use cfdp_run::MOST_TIMERS;
 use cfdp_transactions::MOST_SETTLED;
 use std::alloc::{AllocError, Global};
-
-/// How many timers are served at most at one moment: two for each of 64 sessions, and one that finds none due.
-const MOST_TIMERS: usize = 129;
 
 /// A receiving entity to which octets and the present time come. After a PDU, and after each timer that is served, all
 /// work is done and each outcome is taken. It has no stream, no clock and no file: what it makes is appended to an

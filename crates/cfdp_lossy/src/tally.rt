@@ -7,7 +7,7 @@ use std::fmt;
 pub struct Tally {
     /// Transfers that were run.
     pub transfers: u64,
-    /// Those whose file was delivered.
+    /// Transfers whose file was delivered.
     pub complete: u64,
     /// PDUs that the senders sent.
     pub sent: u64,

@@ -1,8 +1,8 @@
 -- What is written of a PDU spells it.
-use Rattle.std.proofs.Common.{◌≡◌, ◌≤◌, ◌<◌, ℕ, ◌+◌, ◌-◌, ◌*◌, ◌/◌, ◌%◌, ◌^◌, List, [], ◌∷◌, ◌++◌, length, Bool, true, false, not, ◌&&◌, eqb, cond, Option, Some, None, refl, sym, ap, subst, ◌∙◌, append_assoc, arith}
+use Rattle.std.proofs.Common.{◌≡◌, ◌≤◌, ◌<◌, ℕ, ◌+◌, ◌-◌, ◌*◌, ◌/◌, ◌%◌, ◌^◌, List, [], ◌∷◌, ◌++◌, length, Bool, true, false, not, eqb, cond, Option, Some, None, refl, sym, ap, subst, ◌∙◌, append_assoc, arith}
 use Rattle.std.specs.Prelude.{IfSome}
 use Rattle.std.specs.List.{flat_map, AllByRecursion}
-use Rattle.std.proofs.lemmas.Bool.{leb-true}
+use Rattle.std.proofs.lemmas.Bool.{leb-true, and_parts}
 use Rattle.std.proofs.lemmas.List.{append-nil, length-append}
 use Rattle.std.proofs.lemmas.List.Concat.{flat_map-cons}
 use Rattle.byteorder.specs.Endian.{big_bytes, big_number}
@@ -16,7 +16,7 @@ use Rattle.cfdp_pdus.specs.declared.eof.Eof.{Eof}
 use Rattle.cfdp_pdus.specs.declared.pdu.Pdu.{Pdu}
 use Rattle.cfdp_pdus.specs.declared.pdu.Pdu.TheVariants as pdus
 use Rattle.cfdp_pdus.specs.Values.{MetadataFields, FileDataFields, FinishedFields}
-use Rattle.cfdp_pdus.specs.Bits.{flag, digit, IsNumber, fss}
+use Rattle.cfdp_pdus.specs.Bits.{flag, one_if, IsNumber, fss}
 use Rattle.cfdp_pdus.specs.Grammar.{Field, field_octets, values_of, EachAsks, EachTells, AreEntities, last_entity, HasHeader, header_of, SpellsField, SpellsPdu}
 use Rattle.cfdp_pdus.specs.Canonical.{IsHeader, first_octet, fourth_octet, names_octets, pdu_octets, request_field, metadata_field, IsSizedMetadata, IsAnswerable, metadata_fits, file_data_field, IsSizedFileData, file_data_fits, location, eof_location, eof_field, IsSizedEof, response_field, fault_location, finished_field, IsSizedFinished, finished_fits}
 
@@ -31,7 +31,7 @@ number_spelled len x fits = record {
 -- ---- the header
 
 abbrev first_of : (file_data toward_sender acknowledged large : Bool) → ℕ
-first_of file_data toward_sender acknowledged large = 32 + 16 * digit file_data + 8 * digit toward_sender + 4 * digit (not acknowledged) + digit large
+first_of file_data toward_sender acknowledged large = 32 + 16 * one_if file_data + 8 * one_if toward_sender + 4 * one_if (not acknowledged) + one_if large
 
 bits : (file_data toward_sender acknowledged large : Bool)
     → (first_of file_data toward_sender acknowledged large / 32 ≡ 1) × (flag 1 (first_of file_data toward_sender acknowledged large) ≡ false)
@@ -165,24 +165,24 @@ located_last id_len (Some entity) fits =
 
 -- ---- flags
 
-digit_small : (b : Bool) → digit b ≤ 1
-digit_small true = omega arith
-digit_small false = omega arith
+pub one_if-small : (b : Bool) → one_if b ≤ 1
+one_if-small true = omega arith
+one_if-small false = omega arith
 
-is_digit : (b : Bool) → b ≡ eqb (digit b) 1
-is_digit true = refl
-is_digit false = refl
+one_if-is : (b : Bool) → b ≡ eqb (one_if b) 1
+one_if-is true = refl
+one_if-is false = refl
 
-closure_says : (closure : Bool) (checksum_type : ℕ) → checksum_type < 16 → closure ≡ flag 6 (64 * digit closure + checksum_type)
+closure_says : (closure : Bool) (checksum_type : ℕ) → checksum_type < 16 → closure ≡ flag 6 (64 * one_if closure + checksum_type)
 closure_says closure checksum_type fits =
-    let bit : (64 * digit closure + checksum_type) / 64 % 2 ≡ digit closure = omega (arith, digit_small closure) in
-    rw bit (is_digit closure)
+    let bit : (64 * one_if closure + checksum_type) / 64 % 2 ≡ one_if closure = omega (arith, one_if-small closure) in
+    rw bit (one_if-is closure)
 
 incomplete_says : (condition : ℕ) (incomplete : Bool) (file_status : ℕ) → file_status < 4 → incomplete
-    ≡ flag 2 (16 * condition + 4 * digit incomplete + file_status)
+    ≡ flag 2 (16 * condition + 4 * one_if incomplete + file_status)
 incomplete_says condition incomplete file_status fits =
-    let bit : (16 * condition + 4 * digit incomplete + file_status) / 4 % 2 ≡ digit incomplete = omega (arith, digit_small incomplete) in
-    rw bit (is_digit incomplete)
+    let bit : (16 * condition + 4 * one_if incomplete + file_status) / 4 % 2 ≡ one_if incomplete = omega (arith, one_if-small incomplete) in
+    rw bit (one_if-is incomplete)
 
 -- ---- data fields
 
@@ -192,12 +192,12 @@ unfolding metadata_field
 metadata_spelled header metadata sized all = (
   refl,
   record {
-    flags = 64 * digit metadata.closure + metadata.checksum_type;
+    flags = 64 * one_if metadata.closure + metadata.checksum_type;
     size_octets = big_bytes (fss header.large) metadata.size;
     options = asked_fields metadata.requests;
     parts = rw (asked_octets metadata.requests) refl;
     closure = closure_says metadata.closure metadata.checksum_type sized.checksum_type;
-    checksum_type = omega (arith, sized.checksum_type, digit_small metadata.closure);
+    checksum_type = omega (arith, sized.checksum_type, one_if-small metadata.closure);
     size = number_spelled (fss header.large) metadata.size sized.size;
     requests = each_asks metadata.requests all;
   },
@@ -249,10 +249,10 @@ finished_spelled header finished is sized all =
     let sixes = locations_after finished.responses others in (
       refl,
       record {
-        flags = 16 * finished.condition + 4 * digit finished.incomplete + finished.file_status;
+        flags = 16 * finished.condition + 4 * one_if finished.incomplete + finished.file_status;
         fields = response_fields finished.responses ++ others;
         parts = rw octets refl;
-        condition = omega (arith, sized.file_status, digit_small finished.incomplete);
+        condition = omega (arith, sized.file_status, one_if-small finished.incomplete);
         incomplete = incomplete_says finished.condition finished.incomplete finished.file_status sized.file_status;
         file_status = omega (arith, sized.file_status);
         responses = responses_found finished.responses header.id_len finished.fault all;
@@ -263,17 +263,13 @@ finished_spelled header finished is sized all =
 
 -- ---- lengths
 
-last_of : (a b : Bool) → (a && b) ≡ true → b ≡ true
-last_of true b e = e
-last_of false b e = absurd cc
-
 pub metadata_short : (large : Bool) (metadata : MetadataFields) → metadata_fits large metadata ≡ true → length (metadata_field large metadata) ≤ 65535
 unfolding metadata_fits
-metadata_short large metadata e = leb-true _ _ (last_of _ _ e)
+metadata_short large metadata e = leb-true _ _ (and_parts _ _ e).1
 
 pub finished_short : (header : Header) (finished : FinishedFields) → finished_fits header finished ≡ true → length (finished_field header finished) ≤ 65535
 unfolding finished_fits
-finished_short header finished e = leb-true _ _ (last_of _ _ e)
+finished_short header finished e = leb-true _ _ (and_parts _ _ e).1
 
 pub file_data_short : (large : Bool) (file_data : FileDataFields) → file_data_fits large file_data ≡ true → length (file_data_field large file_data) ≤ 65535
 unfolding file_data_fits

@@ -12,8 +12,8 @@ use Rattle.cfdp_tlv.specs.Reading.{◌>>=◌}
 use Rattle.cfdp_pdus.specs.Reading.{mend}
 use Rattle.cfdp_pdus.specs.Grammar.{Field, field_octets, SpellsMetadata, IsSegment, SpellsFileData, SpellsEof, SpellsFinished}
 use Rattle.cfdp_pdus.specs.First.{number_at, name_field_at, requests_of, outcome_fields, all_whole, fields_at, metadata_at, after_segment, file_data_at, eof_at, finished_at}
-use Rattle.cfdp_tlv.proofs.Steps.{bind_ok, guard_ok}
-use Rattle.cfdp_pdus.proofs.Steps.{ok_is, mend_ok}
+use Rattle.cfdp_tlv.proofs.Steps.{bind_ok, guard_ok, ok_is}
+use Rattle.cfdp_pdus.proofs.Steps.{mend_ok}
 use Rattle.cfdp_pdus.proofs.NumberSteps.{number_takes, number_again}
 use Rattle.cfdp_pdus.proofs.FieldSteps.{all_of, fields_take, fields_again}
 use Rattle.cfdp_pdus.proofs.RequestSteps.{requests_take, requests_again}

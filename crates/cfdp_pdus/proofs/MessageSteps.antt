@@ -6,7 +6,7 @@ use Rattle.cfdp_tlv.specs.Field.{lv, tlv_at}
 use Rattle.cfdp_tlv.specs.declared.fault.TlvFault.{TlvFault}
 use Rattle.cfdp_tlv.specs.Reading.{◌>>=◌}
 use Rattle.cfdp_tlv.specs.Values.{RequestFields}
-use Rattle.cfdp_tlv.proofs.Steps.{bind_ok}
+use Rattle.cfdp_tlv.proofs.Steps.{bind_ok, ok_is}
 use Rattle.cfdp_pdus.specs.declared.header.Header.{Header}
 use Rattle.cfdp_pdus.specs.declared.pdu.Pdu.{Pdu}
 use Rattle.cfdp_pdus.specs.declared.pdu.Pdu.TheVariants as pdus
@@ -20,7 +20,6 @@ use Rattle.cfdp_pdus.specs.First.{Start, front_field, some_fields_at, number_at,
 use Rattle.cfdp_pdus.specs.Messages.{whole_fields, messages_among, before_options, messages_of, messages_from, messages_at, spelled_options, options_said}
 use Rattle.cfdp_pdus.specs.code.Messages.{after_names, judged_options, options_in, options_from, options_at}
 use Rattle.cfdp_pdus.specs.code.Counting.{count_read}
-use Rattle.cfdp_pdus.proofs.Steps.{ok_is}
 use Rattle.cfdp_pdus.proofs.Splits.{fields_at-step, fields_at-cut, fields_at-nil}
 use Rattle.cfdp_pdus.proofs.FieldSteps.{all_of, fields_again}
 use Rattle.cfdp_pdus.proofs.RequestSteps.{requests_again}

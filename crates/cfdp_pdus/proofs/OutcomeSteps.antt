@@ -1,7 +1,7 @@
 -- The responses and the fault location that are read are those that the fields spell.
 use Rattle.std.proofs.Common.{◌≡◌, ℕ, ◌≤◌, List, [], ◌∷◌, length, Bool, true, false, eqb, cond, ◌&&◌, Option, Some, None, Result, Ok, refl, sym, ap, subst, ◌∙◌, inl, inr, arith}
 use Rattle.std.specs.Prelude.{nat_le, is_some}
-use Rattle.std.proofs.lemmas.Bool.{eqb-true, leb-true, le-leb}
+use Rattle.std.proofs.lemmas.Bool.{eqb-true, leb-true, le-leb, and_parts}
 use Rattle.byteorder.specs.Endian.{big_number}
 use Rattle.cfdp_tlv.specs.Values.{ResponseFields}
 use Rattle.cfdp_tlv.specs.Grammar.{SpellsResponse, response_at}
@@ -12,18 +12,15 @@ use Rattle.cfdp_tlv.specs.Reading.{◌>>=◌}
 use Rattle.cfdp_pdus.specs.Reading.{mend}
 use Rattle.cfdp_pdus.specs.Grammar.{Field, values_of, EachTells, IsEntity, AreEntities, last_entity}
 use Rattle.cfdp_pdus.specs.First.{answered_at, entity_at, or_else, outcome_fields}
-use Rattle.cfdp_tlv.proofs.Steps.{bind_ok}
-use Rattle.cfdp_pdus.proofs.Steps.{mend_ok, held_ok, ok_is, chosen}
+use Rattle.cfdp_tlv.proofs.Steps.{bind_ok, ok_is}
+use Rattle.cfdp_pdus.proofs.Steps.{mend_ok, held_ok}
 use Rattle.cfdp_pdus.proofs.FieldSteps.{all_of}
 use Rattle.cfdp_pdus.proofs.OutcomeLoop.{Outcome}
-
-pub and_true : (a b : Bool) → (a && b) ≡ true → (a ≡ true) × (b ≡ true)
-and_true true b e = (refl, e)
-and_true false b e = absurd cc
+use Rattle.cfdp_status.proofs.Octets.{chosen}
 
 in_range : (n : ℕ) → (nat_le 1 n && nat_le n 8) ≡ true → (1 ≤ n) × (n ≤ 8)
 in_range n e =
-    let both = and_true (nat_le 1 n) (nat_le n 8) e in
+    let both = and_parts (nat_le 1 n) (nat_le n 8) e in
     (leb-true 1 n both.0, leb-true n 8 both.1)
 
 range_test : (n : ℕ) → 1 ≤ n → n ≤ 8 → (nat_le 1 n && nat_le n 8) ≡ true

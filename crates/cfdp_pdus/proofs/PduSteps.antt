@@ -11,10 +11,11 @@ use Rattle.cfdp_pdus.specs.Bits.{flag, IsNumber}
 use Rattle.cfdp_tlv.specs.Reading.{◌>>=◌, Gives}
 use Rattle.cfdp_pdus.specs.Grammar.{HasHeader, header_of, SpellsDirective, SpellsField, IsOther, SpellsPdu}
 use Rattle.cfdp_pdus.specs.First.{Start, number_at, metadata_at, file_data_at, eof_at, finished_at, directive_at, field_at, header_at, start_at, pdu_at}
-use Rattle.cfdp_tlv.proofs.Steps.{bind_ok, guard_ok, only_ok}
-use Rattle.cfdp_pdus.proofs.Steps.{guard_then, held_then, ok_is, chosen}
+use Rattle.cfdp_tlv.proofs.Steps.{bind_ok, guard_ok, only_ok, ok_is}
+use Rattle.cfdp_pdus.proofs.Steps.{guard_then, held_then}
 use Rattle.cfdp_pdus.proofs.NumberSteps.{number_takes, number_again}
 use Rattle.cfdp_pdus.proofs.DataSteps.{metadata_takes, metadata_again, file_data_takes, file_data_again, eof_takes, eof_again, finished_takes, finished_again}
+use Rattle.cfdp_status.proofs.Octets.{chosen}
 
 -- ---- the header
 

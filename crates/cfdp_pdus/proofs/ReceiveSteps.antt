@@ -6,12 +6,12 @@ use Rattle.cfdp_pdus.specs.declared.pdu.Pdu.TheVariants as pdus
 use Rattle.cfdp_pdus.specs.declared.fault.PduFault.{PduFault}
 use Rattle.cfdp_pdus.specs.declared.fault.PduFault.TheVariants.{Memory}
 use Rattle.cfdp_tlv.specs.Reading.{Fails, Gives}
-use Rattle.cfdp_tlv.proofs.Steps.{bind_ok}
+use Rattle.cfdp_tlv.proofs.Steps.{bind_ok, ok_is}
 use Rattle.cfdp_pdus.specs.Grammar.{SpellsPdu}
 use Rattle.cfdp_pdus.specs.First.{pdu_at}
 use Rattle.cfdp_pdus.specs.Receiving.{received, received_of, IsCopied}
 use Rattle.cfdp_pdus.specs.code.Receiving.{ReceivesLean}
-use Rattle.cfdp_pdus.proofs.Steps.{ok_is, never_both}
+use Rattle.cfdp_pdus.proofs.Steps.{never_both}
 use Rattle.cfdp_pdus.proofs.PduSteps.{pdu_takes}
 
 if_received : (P : Pdu → Type 0) (pdu : Pdu) → P pdu → IfSome (received pdu) P

@@ -10,9 +10,10 @@ use Rattle.cfdp_tlv.specs.Reading.{◌>>=◌}
 use Rattle.cfdp_pdus.specs.Reading.{mend}
 use Rattle.cfdp_pdus.specs.Grammar.{Field, values_of, EachAsks}
 use Rattle.cfdp_pdus.specs.First.{asked_at, requests_of}
-use Rattle.cfdp_tlv.proofs.Steps.{bind_ok}
-use Rattle.cfdp_pdus.proofs.Steps.{mend_ok, held_ok, ok_is, chosen}
+use Rattle.cfdp_tlv.proofs.Steps.{bind_ok, ok_is}
+use Rattle.cfdp_pdus.proofs.Steps.{mend_ok, held_ok}
 use Rattle.cfdp_pdus.proofs.FieldSteps.{all_of}
+use Rattle.cfdp_status.proofs.Octets.{chosen}
 
 asked_takes : (value : List ℕ) (request : RequestFields) → asked_at value ≡ Ok request → SpellsRequest value request × (length value < 255)
 unfolding asked_at

@@ -1,6 +1,6 @@
 -- What is known of a reading that failed, and of one that gave a value.
 use Rattle.std.proofs.Common.{◌≡◌, Bool, true, false, cond, Result, Ok, Err, refl, ap, inl, inr}
-use Rattle.std.specs.Prelude.{◌⊎◌, IsOk}
+use Rattle.std.specs.Prelude.{IsOk}
 use Rattle.cfdp_tlv.specs.declared.fault.TlvFault.{TlvFault}
 use Rattle.cfdp_pdus.specs.declared.fault.PduFault.{PduFault}
 use Rattle.cfdp_tlv.specs.Reading.{◌>>=◌, Answers, Fails}
@@ -53,17 +53,6 @@ pub held_then : {A : Type 0} (b : Bool) (fault : PduFault) (read : Result A PduF
 held_then true fault read y e = (refl, e)
 held_then false fault read y e = absurd cc
 
-abbrev done : {A : Type 0} → A → Result A PduFault
-done x = Ok x
-
-pub ok_is : {A : Type 0} (x y : A) → done x ≡ done y → x ≡ y
-ok_is x y e = cc
-
 pub mend_ok : {A : Type 0} (fault : PduFault) (read : Result A TlvFault) (y : A) → mend fault read ≡ Ok y → read ≡ Ok y
 mend_ok fault (Ok x) y e = cc
 mend_ok fault (Err other) y e = absurd cc
-
--- which way a test went
-pub chosen : {A : Type 0} (b : Bool) (x y z : A) → cond b x y ≡ z → ((b ≡ true) × (x ≡ z)) ⊎ ((b ≡ false) × (y ≡ z))
-chosen true x y z e = inl (refl, e)
-chosen false x y z e = inr (refl, e)

@@ -18,7 +18,7 @@ use Rattle.cfdp_tlv.specs.Grammar.{request_octets, response_octets}
 use Rattle.cfdp_pdus.specs.declared.header.Header.{Header}
 use Rattle.cfdp_pdus.specs.declared.eof.Eof.{Eof}
 use Rattle.cfdp_pdus.specs.Values.{MetadataFields, FileDataFields, FinishedFields}
-use Rattle.cfdp_pdus.specs.Bits.{digit, fss}
+use Rattle.cfdp_pdus.specs.Bits.{one_if, fss}
 use Rattle.cfdp_pdus.specs.Codes.{no_error, eof_code, finished_code, metadata_code}
 
 -- ---- the header
@@ -34,8 +34,8 @@ pub record IsHeader (header : Header) : Type 0 where
 
 abbrev pub first_octet : Bool → Header → ℕ
 first_octet file_data header =
-    32 + 16 * digit file_data + 8 * digit header.toward_sender + 4 * digit (not header.acknowledged)
-    + digit header.large
+    32 + 16 * one_if file_data + 8 * one_if header.toward_sender + 4 * one_if (not header.acknowledged)
+    + one_if header.large
 
 abbrev pub fourth_octet : Header → ℕ
 fourth_octet header = 16 * (header.id_len - 1) + (header.number_len - 1)
@@ -60,7 +60,7 @@ request_field request = tlv filestore_request_type (request_octets request)
 
 unfoldable pub metadata_field : Bool → MetadataFields → List ℕ
 metadata_field large metadata =
-    metadata_code ∷ (64 * digit metadata.closure + metadata.checksum_type)
+    metadata_code ∷ (64 * one_if metadata.closure + metadata.checksum_type)
     ∷ (big_bytes (fss large) metadata.size ++ (lv metadata.source_name
     ++ (lv metadata.destination_name ++ flat_map request_field metadata.requests)))
 
@@ -122,7 +122,7 @@ fault_location id_len (Some entity) = location id_len entity
 
 unfoldable pub finished_field : Header → FinishedFields → List ℕ
 finished_field header finished =
-    finished_code ∷ (16 * finished.condition + 4 * digit finished.incomplete + finished.file_status)
+    finished_code ∷ (16 * finished.condition + 4 * one_if finished.incomplete + finished.file_status)
     ∷ (flat_map response_field finished.responses ++ fault_location header.id_len finished.fault)
 
 pub record IsSizedFinished (header : Header) (finished : FinishedFields) : Type 0 where

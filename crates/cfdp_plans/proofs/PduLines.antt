@@ -2,6 +2,7 @@
 use Rattle.std.proofs.Common.{◌≡◌, ℕ, ◌+◌, ◌*◌, ◌/◌, ◌%◌, ◌<◌, zero, suc, List, [], ◌∷◌, ◌++◌, length, get_or, Bool, true, false, eqb, Option, Some, None, Ok, All, refl, ap, sym, ◌∙◌, arith, codes}
 use Rattle.std.specs.List.{AllByRecursion, slice_index}
 use Rattle.std.proofs.lemmas.Bool.{eqb-true}
+use Rattle.std.proofs.lemmas.Option.{none-some}
 use Rattle.hex.specs.Hex.{IsBytes, decode_of, hex_digit_value, encode_lower, encode_with, lower_digits}
 use Rattle.hex.proofs.HexLemmas.{IsDigits-lower_digits, decode_of-encode_lower}
 use Rattle.cfdp_uploads.proofs.Found.{each_at}
@@ -10,14 +11,11 @@ use Rattle.cfdp_lines.specs.Words.{words_of}
 use Rattle.cfdp_plans.specs.Laws.{PduLineIsRead}
 use Rattle.cfdp_lines.proofs.Wording.{words_of-space, words_of-first, words_of-last}
 
-no_value : (value : ℕ) → None ≡ Some value → ⊥
-no_value value is = cc
-
 -- a digit is no space
 digit_by : (digit value : ℕ) (b : Bool) → is_space digit ≡ b → hex_digit_value digit ≡ Some value → is_space digit ≡ false
 digit_by digit value true is means =
     let none : hex_digit_value digit ≡ None = ap hex_digit_value (eqb-true digit 32 is) in
-    absurd (no_value value (sym none ∙ means))
+    absurd (none-some value (sym none ∙ means))
 digit_by digit value false is means = is
 
 digit_apart : (n : ℕ) → n < 16 → is_space (slice_index lower_digits n) ≡ false

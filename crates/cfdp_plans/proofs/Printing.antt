@@ -2,19 +2,15 @@
 use Rattle.std.proofs.Common.{◌≡◌, ℕ, ◌<◌, ◌*◌, ◌+◌, ◌/◌, ◌%◌, List, [], ◌∷◌, ◌++◌, flat_map, Bool, true, false, not, cond, eqb, Some, None, refl, ap, ◌∙◌, arith}
 use Rattle.std.specs.List.{slice_index}
 use Rattle.std.proofs.lemmas.Nat.{div-add-mod'}
+use Rattle.std.proofs.lemmas.Bool.{not-true, and_parts}
 use Rattle.hex.specs.Hex.{hex_digit_value, encode_with, lower_digits}
 use Rattle.hex.proofs.HexLemmas.{IsDigits-lower_digits}
 use Rattle.cfdp_texts.specs.Replies.{is_plain, shown_octet, two_digits}
 use Rattle.cfdp_plans.specs.Names.{before, itself, octet_of_pair, name_in}
 use Rattle.cfdp_plans.specs.Laws.{PrintedIsRead}
-use Rattle.cfdp_pdus.proofs.OutcomeSteps.{and_true}
-
-not_true : (b : Bool) → not b ≡ true → b ≡ false
-not_true true e = absurd cc
-not_true false e = refl
 
 no_percent : (octet : ℕ) → is_plain octet ≡ true → eqb octet 37 ≡ false
-no_percent octet plain = not_true (eqb octet 37) (and_true _ (not (eqb octet 37)) plain).1
+no_percent octet plain = not-true (eqb octet 37) (and_parts _ (not (eqb octet 37)) plain).1
 
 plain_read : (octet : ℕ) (text : List ℕ) → is_plain octet ≡ true → name_in (octet ∷ text) ≡ before (Some octet) (name_in text)
 unfolding name_in

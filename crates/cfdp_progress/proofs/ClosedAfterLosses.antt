@@ -2,22 +2,22 @@
 use Rattle.std.specs.Prelude.{if◌then◌else◌, ◌==◌, take}
 use Rattle.std.specs.List.{AllByRecursion, flat_map, list_any}
 use Rattle.std.proofs.Common.{◌≡◌, ◌⊎◌, inl, inr, ℕ, ◌+◌, ◌<◌, ◌≤◌, Bool, true, false, ◌&&◌, ◌||◌, List, [], ◌∷◌, ◌++◌, length, Option, Some, None, refl, sym, ap, subst, ◌∙◌, arith}
-use Rattle.std.proofs.lemmas.Bool.{cond-true, cond-false, cases_Bool, and_parts, and_left, and_right, or_left, or_from}
+use Rattle.std.proofs.lemmas.Bool.{cond-true, cond-false, cases_Bool, and_parts, and_left, and_right, or_left, or_from, both_ways}
 use Rattle.cfdp_status.specs.declared.transaction.TransactionId.{TransactionId}
 use Rattle.cfdp_leases.specs.Leases.{is_same}
 use Rattle.cfdp_pdus.specs.Values.{MetadataFields, FileDataFields}
 use Rattle.cfdp_pdus.specs.declared.eof.Eof.{Eof}
 use Rattle.cfdp_pdus.specs.declared.header.Header.{Header}
+use Rattle.cfdp_pdus.specs.Bits.{one_if}
 use Rattle.cfdp_directives.specs.declared.ack.Ack.{Ack}
 use Rattle.cfdp_directives.specs.declared.prompt.Prompt.{Prompt}
-use Rattle.cfdp_retransmission.specs.Coming.{one_if}
 use Rattle.cfdp_retransmission.specs.Timers.{passed}
 use Rattle.cfdp_retransmission.specs.declared.timer.Expiry.TheVariants.{Again, Limit}
 use Rattle.cfdp_sessions.specs.Closed.{ClosedFields, with_name, remembers}
 use Rattle.cfdp_sessions.specs.Sessions.{SessionFields, session_id, found, without_session, AreDistinct}
 use Rattle.cfdp_sessions.specs.declared.session.Stage.{Stage}
 use Rattle.cfdp_sessions.specs.declared.session.Stage.TheVariants.{Held, Known, Over as OverStage, Waiting}
-use Rattle.cfdp_sessions.proofs.Names.{both_of, found_name, replaced_self, gone}
+use Rattle.cfdp_sessions.proofs.Names.{found_name, replaced_self, gone}
 use Rattle.cfdp_transactions.specs.Entry.{id_of}
 use Rattle.cfdp_transactions.specs.World.{World}
 use Rattle.cfdp_transactions.specs.declared.reply.Reply.{Reply}
@@ -160,7 +160,7 @@ not_alive : (R : State) (s : SessionFields) → s.stage ≡ Waiting → Dues.is_
 not_alive R s w due =
     let receiving = Dues.is_receiving_at (at_of R.world s) in
     let both = (and_parts (s.header.acknowledged && receiving) (Dues.has_passed R.mib.keep_alive R.now s.alive_at) due).0 in
-    both_of receiving (ap Dues.is_receiving_at (at_waiting R.world s w)) (and_parts s.header.acknowledged receiving both).1
+    both_ways receiving (ap Dues.is_receiving_at (at_waiting R.world s w)) (and_parts s.header.acknowledged receiving both).1
 
 due_kept : (R : State) (now : ℕ) (U : World) (id : TransactionId) (s : SessionFields) (due : Dues.Due) → AreDistinct R.sessions → session_of R id ≡ Some s →
     s.stage ≡ Waiting → Dues.first_due (Handing.later now R) R.sessions ≡ due →
@@ -171,7 +171,7 @@ due_kept R now U id s (Dues.Alive_due t) d here w is same none =
     let alive = alive_due L R.sessions t is in
     let it : s ≡ t = is_it R id s t d here alive.0 same in
     absurd (not_alive L t (ap (λ (y : SessionFields). y.stage) (sym it) ∙ w) alive.1)
-due_kept R now U id s (Dues.Stage_due t limit) d here w is same none = absurd (both_of (is_same (session_id t) id) none same)
+due_kept R now U id s (Dues.Stage_due t limit) d here w is same none = absurd (both_ways (is_same (session_id t) id) none same)
 
 finish_kept : (R : State) (now : ℕ) (id : TransactionId) (s : SessionFields) (o : Option SessionFields) → AreDistinct R.sessions →
     session_of R id ≡ Some s → s.stage ≡ Waiting → Dues.first_over R.world R.sessions ≡ o →
@@ -181,7 +181,7 @@ finish_kept R now id s (Some t) d here w is same =
     let over = first_over_is R.world R.sessions t is in
     let it : s ≡ t = is_it R id s t d here over.0 same in
     let waiting : Dues.is_over (at_of R.world t) ≡ false = ap Dues.is_over (at_waiting R.world t (ap (λ (y : SessionFields). y.stage) (sym it) ∙ w)) in
-    absurd (both_of (Dues.is_over (at_of R.world t)) waiting over.1)
+    absurd (both_ways (Dues.is_over (at_of R.world t)) waiting over.1)
 
 turn_of : (R : State) (i : Input) (id : TransactionId) (s : SessionFields) → AreDistinct R.sessions → session_of R id ≡ Some s → s.stage ≡ Waiting →
     is_sent_again R id i ≡ false → TurnsWaiting R i id s
@@ -349,7 +349,7 @@ safe_rest limit count round rounds (inr room) lost = inr (omega (arith, room, ap
 pub is_lost_by : (R : State) (id : TransactionId) (lost : Bool) (rest : List Input) → (lost ≡ false → is_acknowledged R id rest ≡ true) →
     is_acknowledged R id rest ≡ false → lost ≡ true
 is_lost_by R id true rest comes none = refl
-is_lost_by R id false rest comes none = absurd (both_of (is_acknowledged R id rest) none (comes refl))
+is_lost_by R id false rest comes none = absurd (both_ways (is_acknowledged R id rest) none (comes refl))
 
 pub rounds_close : (mib : Mib) (R : State) (id : TransactionId) (s : SessionFields) (rounds : List FinishedRound) → R.mib ≡ mib → AreDistinct R.sessions →
     session_of R id ≡ Some s → s.stage ≡ Waiting → AreFinishedRounds R id rounds →

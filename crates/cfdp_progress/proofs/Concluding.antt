@@ -1,7 +1,7 @@
 -- A transaction that takes no file data any more: its items are performed, and its outcome is handed out.
 use Rattle.std.specs.Prelude.{not, ◌==◌, if◌then◌else◌, is_some, slice_get, slice_set}
 use Rattle.std.proofs.Common.{◌≡◌, ◌⊎◌, inl, inr, ℕ, zero, suc, Bool, true, false, ◌&&◌, ◌||◌, List, [], ◌∷◌, drop, Option, Some, None, refl, sym, ap, subst, ◌∙◌}
-use Rattle.std.proofs.lemmas.Bool.{cond_both, cond-true, cond-false, cases_Bool, and_parts}
+use Rattle.std.proofs.lemmas.Bool.{cond_both, cond-true, cond-false, cases_Bool, and_parts, not-true, both_ways}
 use Rattle.cfdp_status.specs.declared.transaction.TransactionId.{TransactionId}
 use Rattle.cfdp_leases.specs.Leases.{is_same}
 use Rattle.cfdp_actions.specs.Actions.{Item, succeeded}
@@ -15,7 +15,7 @@ use Rattle.cfdp_retransmission.specs.declared.timer.Timer.{Timer}
 use Rattle.cfdp_sessions.specs.Sessions.{SessionFields, session_id, found, replaced, AreDistinct}
 use Rattle.cfdp_sessions.specs.declared.session.Stage.{Stage}
 use Rattle.cfdp_sessions.specs.declared.session.Stage.TheVariants.{Held, Known, Over as OverStage, Waiting}
-use Rattle.cfdp_sessions.proofs.Names.{both_of, found_name, replaced_self, member_found, IsMember}
+use Rattle.cfdp_sessions.proofs.Names.{found_name, replaced_self, member_found, IsMember}
 use Rattle.cfdp_transactions.specs.Admission.{metadata_came}
 use Rattle.cfdp_transactions.specs.Delivery.{data_at, data_came, eof_without_error, eof_came}
 use Rattle.cfdp_transactions.specs.Ending.{ended, ends, cancelled}
@@ -479,10 +479,6 @@ turn_of next_sound promised R ForgetAsked id s sound d here known p = Goes_on (k
 
 -- ---- nothing is left
 
-pub not_true : (b : Bool) → not b ≡ true → b ≡ false
-not_true true h = absurd cc
-not_true false h = refl
-
 runs_by : (e : Entry) (es : List Entry) (b : Bool) → is_executing e.phase ≡ b → (is_some (next_runnable es) ≡ true) ⊎ (b ≡ true) →
     is_some (if b then Some (Entries.name_of e) else next_runnable es) ≡ true
 runs_by e es true is h = refl
@@ -537,10 +533,10 @@ left_none R id s here known p none =
     let both = and_parts (not (is_some (next_runnable R.world.table))) (not (is_some (Dues.first_over R.world R.sessions))) none in
     elim (past_at p.entry.phase p.past) [
       | inl executes ↦
-          both_of (is_some (next_runnable R.world.table)) (not_true (is_some (next_runnable R.world.table)) both.0)
+          both_ways (is_some (next_runnable R.world.table)) (not-true (is_some (next_runnable R.world.table)) both.0)
           (runs R.world.table (index_of R.world id) p.entry p.here (executes_by p.entry.phase executes))
       | inr over ↦
-          both_of (is_some (Dues.first_over R.world R.sessions)) (not_true (is_some (Dues.first_over R.world R.sessions)) both.1)
+          both_ways (is_some (Dues.first_over R.world R.sessions)) (not-true (is_some (Dues.first_over R.world R.sessions)) both.1)
           (overs R.world R.sessions s (found_member R.sessions id s here) (ap Dues.is_over (at_is R id s p here known ∙ over)))
     ]
 

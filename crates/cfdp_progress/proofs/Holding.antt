@@ -1,7 +1,7 @@
 -- Turns of a receiver in which the session of a transaction holds an EOF PDU: it holds it until the Metadata PDU comes.
 use Rattle.std.specs.Prelude.{if◌then◌else◌, ◌==◌}
 use Rattle.std.proofs.Common.{◌≡◌, ◌⊎◌, inl, inr, ℕ, zero, suc, ◌+◌, ◌<◌, ◌≤◌, Bool, true, false, not, ◌&&◌, ◌||◌, List, [], ◌∷◌, map, take, length, Option, Some, None, refl, sym, ap, subst, ◌∙◌, arith}
-use Rattle.std.proofs.lemmas.Bool.{cond_both, cond-true, cond-false, cases_Bool, and_from, or_parts, or_from, eq-eqb, lt-ltb}
+use Rattle.std.proofs.lemmas.Bool.{cond_both, cond-true, cond-false, cases_Bool, and_from, or_parts, or_from, eq-eqb, lt-ltb, both_ways}
 use Rattle.cfdp_status.specs.declared.transaction.TransactionId.{TransactionId}
 use Rattle.cfdp_leases.specs.Leases.{is_same}
 use Rattle.cfdp_pdus.specs.Values.{MetadataFields, FileDataFields}
@@ -16,7 +16,7 @@ use Rattle.cfdp_sessions.specs.Closed.{remembers}
 use Rattle.cfdp_sessions.specs.Sessions.{SessionFields, session_id, found, replaced, AreDistinct}
 use Rattle.cfdp_sessions.specs.declared.session.Stage.{Stage}
 use Rattle.cfdp_sessions.specs.declared.session.Stage.TheVariants.{Held, Known, Over as OverStage, Waiting}
-use Rattle.cfdp_sessions.proofs.Names.{both_of, found_name, replaced_self, member_found}
+use Rattle.cfdp_sessions.proofs.Names.{found_name, replaced_self, member_found}
 use Rattle.cfdp_transactions.specs.Entry.{Entry, id_of}
 use Rattle.cfdp_transactions.specs.declared.reply.Reply.{Reply}
 use Rattle.cfdp_transactions.specs.Next.{run, replies}
@@ -40,7 +40,7 @@ use Rattle.cfdp_receiver.proofs.TurnShapes.{others_stay}
 use Rattle.cfdp_progress.specs.Awaiting.{is_ignoring, is_given_up, breaks_off}
 use Rattle.cfdp_progress.specs.HeldRounds.{is_eof_held, holds_in, EofHolds, BeginsHeldRound, asks_first, joins_held, comes, StaysHeld}
 use Rattle.cfdp_progress.specs.NakRounds.{is_asking, asks_again, IsServed}
-use Rattle.cfdp_progress.proofs.Turns.{Quiet, kept_quiet, put_quiet, quiet_none_if, quiet_prompt, quiet_other, ignored_by, is_ignored, no_error}
+use Rattle.cfdp_progress.proofs.Turns.{Quiet, kept_quiet, put_quiet, quiet_none_if, quiet_prompt, quiet_other, ignored_by, right_since}
 use Rattle.cfdp_receiver.proofs.Serving.{full_of}
 use Rattle.cfdp_progress.proofs.ClosedAfterLosses.{served_is}
 use Rattle.cfdp_leases.proofs.Held.{same_itself}
@@ -95,7 +95,7 @@ held_metadata R now h m s here held none =
     (λ (p : Turning.Parts). Stays R id s false p.sessions)
     (λ ours. subst (λ (o : Option SessionFields). Stays R id s false (Turning.metadata_parts L V rs h m o).sessions) (sym here)
     (stays_metadata R now V rs h m s s.stage here held (λ mode.
-    both_of (joins_held R id i) none (and_from (Handing.is_ours R h) (is_same id id && (h.acknowledged && there)) ours
+    both_ways (joins_held R id i) none (and_from (Handing.is_ours R h) (is_same id id && (h.acknowledged && there)) ours
     (and_from (is_same id id) (h.acknowledged && there) (same_itself id) (and_from h.acknowledged there mode holds))))))
     (λ foreign. kept)
 
@@ -112,7 +112,7 @@ held_data R now h piece s here held =
     cond_both (Handing.is_ours L h) (Turning.data_parts L V rs h piece (session_of L id)) (Turning.keeps L (Turning.quiet (Turning.foreign h))) P
     (λ ours. subst (λ (o : Option SessionFields). P (Turning.data_parts L V rs h piece o)) (sym here)
     (cond_both (Turning.is_known s.stage) (Turning.takes_piece L V rs h piece s) (Turning.keeps L (Turning.said_word s words.Idle)) P
-    (λ known. absurd (both_of (Turning.is_known s.stage) (not_known s.stage held) known)) (λ e. kept)))
+    (λ known. absurd (both_ways (Turning.is_known s.stage) (not_known s.stage held) known)) (λ e. kept)))
     (λ foreign. kept)
 
 stays_eof : (R : State) (now : ℕ) (V : World) (rs : List Reply) (h : Header) (other : Eof) (s : SessionFields) (stage : Stage) →
@@ -120,7 +120,7 @@ stays_eof : (R : State) (now : ℕ) (V : World) (rs : List Reply) (h : Header) (
     Stays R (id_of h) s false (Turning.eof_stage (Handing.later now R) V rs h other s stage).sessions
 stays_eof R now V rs h other s (Held eof) here k right =
     cond_both (other.condition == 0) _ _ (λ (p : Turning.Parts). Stays R (id_of h) s false p.sessions)
-    (λ e. kept_quiet R (id_of h) s false here) (λ e. absurd (both_of (other.condition == 0) e right))
+    (λ e. kept_quiet R (id_of h) s false here) (λ e. absurd (both_ways (other.condition == 0) e right))
 stays_eof R now V rs h other s Known here k right = absurd cc
 stays_eof R now V rs h other s (OverStage ending) here k right = absurd cc
 stays_eof R now V rs h other s Waiting here k right = absurd cc
@@ -178,13 +178,13 @@ held_due R now V id s (Dues.Stage_due t false) d here held is same up =
     let asks : is_same (session_id s) id ≡ true = ap (λ (y : SessionFields). is_same (session_id y) id) it ∙ same in
     subst (λ (y : SessionFields). StaysDue R now V id s (Dues.Stage_due y false)) it
     (put_quiet R id s (record s { timer = passed L.now s.timer Again }) (is_same (session_id s) id) R.world here refl refl refl
-    (λ q. absurd (both_of (is_same (session_id s) id) q asks)))
+    (λ q. absurd (both_ways (is_same (session_id s) id) q asks)))
 held_due R now V id s (Dues.Stage_due t true) d here held is same up =
     let L = Handing.later now R in
     let it : s ≡ t = is_it R id s t d here (stage_due L R.sessions t true is).0 same in
     let at = at_of R.world s in
     let ignored : Dues.handler_at R.mib s.header.acknowledged at ≡ handlers.Ignore =
-    handler_is R s held ∙ ignored_by R.mib.nak.at_limit (is_ignored (is_same (session_id t) id) (is_ignoring R.mib.nak.at_limit) same up) in
+    handler_is R s held ∙ ignored_by R.mib.nak.at_limit (right_since (is_same (session_id t) id) (is_ignoring R.mib.nak.at_limit) same up) in
     subst (λ (y : SessionFields). StaysDue R now V id s (Dues.Stage_due y true)) it
     (subst (λ (how : Handler). Stays R id s false (Turning.gives_up L s (Dues.fault_at s.header.acknowledged at) how at).sessions) (sym ignored)
     (put_quiet R id s (record s { timer = restarted L.now }) false R.world here refl refl refl (λ q. omega arith)))
@@ -198,7 +198,7 @@ held_finish R now id s (Some t) d here held is same =
     let it : s ≡ t = is_it R id s t d here over.0 same in
     let waits : Dues.is_over (at_of R.world t) ≡ false =
     ap (λ (y : SessionFields). Dues.is_over (at_of R.world y)) (sym it) ∙ ap Dues.is_over (at_held R.world s held) in
-    absurd (both_of (Dues.is_over (at_of R.world t)) waits over.1)
+    absurd (both_ways (Dues.is_over (at_of R.world t)) waits over.1)
 
 -- ---- each input
 
@@ -229,7 +229,7 @@ held_step R (DataPdu now h piece) id s d here held on none =
     stays_pdu R (DataPdu now h piece) h id s here refl (λ same own. held_data R now h piece s own held)
 held_step R (EofPdu now h other) id s d here held on none =
     stays_pdu R (EofPdu now h other) h id s here refl (λ same own.
-    held_eof R now h other s own held (no_error (is_same (id_of h) id) (other.condition == 0) same on))
+    held_eof R now h other s own held (right_since (is_same (id_of h) id) (other.condition == 0) same on))
 held_step R (AckPdu now h ack) id s d here held on none =
     stays_pdu R (AckPdu now h ack) h id s here refl (λ same own. held_ack R now h ack s own held)
 held_step R (PromptPdu now h prompt) id s d here held on none =

@@ -6,7 +6,7 @@ use Rattle.std.proofs.lemmas.Bool.{cond_both}
 use Rattle.cfdp_status.specs.declared.transaction.TransactionId.{TransactionId}
 use Rattle.cfdp_leases.specs.Leases.{is_same}
 use Rattle.cfdp_pdus.specs.declared.eof.Eof.{Eof}
-use Rattle.cfdp_retransmission.specs.Coming.{one_if}
+use Rattle.cfdp_pdus.specs.Bits.{one_if}
 use Rattle.cfdp_retransmission.specs.Rounds.{Exchange, asked_for, lost_in, spare_round, WholeAfterLosses}
 use Rattle.cfdp_sessions.specs.Closed.{remembers}
 use Rattle.cfdp_sessions.specs.Sessions.{SessionFields, session_id, found, AreDistinct}
@@ -26,8 +26,8 @@ use Rattle.cfdp_receiver.specs.State.{State, Input, Expire, Finish, session_of}
 use Rattle.cfdp_receiver.specs.Due as Dues
 use Rattle.cfdp_receiver.specs.Handing as Handing
 use Rattle.cfdp_receiver.specs.Turning as Turning
-use Rattle.cfdp_receiver.specs.Turning.{most_nak_requests, parts, after_input, after_all}
-use Rattle.cfdp_receiver.specs.Laws.{is_known_session, knows, AreKnown}
+use Rattle.cfdp_receiver.specs.Turning.{most_nak_requests, parts, after_input, after_all, is_known}
+use Rattle.cfdp_receiver.specs.Laws.{knows, AreKnown}
 use Rattle.cfdp_receiver.proofs.Distinct.{distinct_after}
 use Rattle.cfdp_receiver.proofs.SessionsAreKnown.{Laws, known_after}
 use Rattle.cfdp_receiver.proofs.FinishedSentAtMost.{first_over_is}
@@ -39,12 +39,13 @@ use Rattle.cfdp_progress.specs.InAll.{EitherRound, as_finished, inputs_of, is_se
 use Rattle.cfdp_receiver.proofs.OthersStay.{run_sound}
 use Rattle.cfdp_progress.proofs.PieceOfAwaiting.{fits_of, few_of}
 use Rattle.cfdp_progress.proofs.Turns.{Before}
-use Rattle.cfdp_progress.proofs.Runs.{still_awaits, sound_all, distinct_all, mib_all, after_both}
+use Rattle.cfdp_progress.proofs.Runs.{still_awaits, sound_all, distinct_all, mib_all}
 use Rattle.cfdp_progress.proofs.Openings.{open_expire, open_first}
 use Rattle.cfdp_progress.proofs.Rounds.{SoFar, Room, is_below, not_enough, round_goes, one_more, lost_more, count_more}
 use Rattle.cfdp_progress.proofs.ClosedAfterLosses.{AreLow, IsSafeToSend, over, rounds_close, remembers_it, closed_later, closed_after, closed_before, is_lost_by}
 use Rattle.cfdp_progress.proofs.Concluding.{concluded_when_done, concluded_later}
 use Rattle.cfdp_receiver.proofs.Delivering.{takes_none}
+use Rattle.cfdp_receiver.proofs.AfterInputs.{after_both}
 use Rattle.cfdp_leases.proofs.Held.{same_itself}
 
 -- ---- what is known after several inputs
@@ -62,7 +63,7 @@ record HasKnown (R : State) (id : TransactionId) : Type 0 where
   here : session_of R id ≡ Some session
   known : session.stage ≡ Known
 
-pub known_stage : (stage : Stage) → is_known_session stage ≡ true → stage ≡ Known
+pub known_stage : (stage : Stage) → is_known stage ≡ true → stage ≡ Known
 known_stage (Held eof) h = absurd cc
 known_stage Known h = refl
 known_stage (OverStage ending) h = absurd cc

@@ -2,16 +2,15 @@
 use Rattle.std.specs.Prelude.{◌||◌}
 use Rattle.std.specs.List.{AllByRecursion, flat_map}
 use Rattle.std.proofs.Common.{◌≡◌, ◌⊎◌, inl, inr, ℕ, ◌+◌, ◌<◌, ◌≤◌, Bool, true, false, ◌&&◌, List, [], ◌∷◌, ◌++◌, length, Option, Some, None, refl, sym, ap, subst, ◌∙◌, arith}
-use Rattle.std.proofs.lemmas.Bool.{cases_Bool, and_parts, or_parts}
+use Rattle.std.proofs.lemmas.Bool.{cases_Bool, and_parts, or_parts, both_ways}
 use Rattle.cfdp_status.specs.declared.transaction.TransactionId.{TransactionId}
 use Rattle.cfdp_leases.specs.Leases.{is_same}
 use Rattle.cfdp_pdus.specs.declared.eof.Eof.{Eof}
-use Rattle.cfdp_retransmission.specs.Coming.{one_if}
+use Rattle.cfdp_pdus.specs.Bits.{one_if}
 use Rattle.cfdp_retransmission.specs.Rounds.{spare_round, WholeAfterLosses}
 use Rattle.cfdp_sessions.specs.Sessions.{SessionFields, AreDistinct}
 use Rattle.cfdp_sessions.specs.declared.session.Stage.{Stage}
 use Rattle.cfdp_sessions.specs.declared.session.Stage.TheVariants.{Held, Known, Over as OverStage, Waiting}
-use Rattle.cfdp_sessions.proofs.Names.{both_of}
 use Rattle.cfdp_transactions.specs.Entries.{OnlyTakeRemoves, TakeRemoves}
 use Rattle.cfdp_transactions.specs.Entry.{id_of}
 use Rattle.cfdp_transactions.specs.Headline.{NextIsSound, NextIsPromised}
@@ -45,7 +44,7 @@ round_loses R id round count d opened is none =
     let still = stays_held N round.rest id count (distinct_after R round.opening d) opened.still is.goes_on none in
     elim (cases_Bool round.is_lost) [
       | inl lost ↦ record { lost = lost; still = still }
-      | inr kept ↦ absurd (both_of (comes N id round.rest) none (is.answered opened.asks kept))
+      | inr kept ↦ absurd (both_ways (comes N id round.rest) none (is.answered opened.asks kept))
     ]
 
 -- ---- as long as it does not come, as many rounds lose a PDU

@@ -1,7 +1,7 @@
 -- No item of an entry that waits for octets is next.
 use Rattle.std.specs.Prelude.{if◌then◌else◌, ◌==◌, slice_get}
 use Rattle.std.proofs.Common.{◌≡◌, inl, inr, ℕ, suc, Bool, true, false, List, [], ◌∷◌, Option, Some, None, refl, sym, ap, ◌∙◌}
-use Rattle.std.proofs.lemmas.Bool.{cases_Bool, eq-eqb, eqb-true}
+use Rattle.std.proofs.lemmas.Bool.{cases_Bool, eq-eqb, eqb-true, both_ways}
 use Rattle.cfdp_status.specs.declared.transaction.TransactionId.{TransactionId}
 use Rattle.cfdp_transactions.specs.Entry.{Entry, is_executing, is_awaiting}
 use Rattle.cfdp_transactions.specs.Entry as Entries
@@ -11,7 +11,6 @@ use Rattle.cfdp_transactions.specs.Sound.{Sound}
 use Rattle.cfdp_transactions.specs.World.{World, entry_of, index_of, next_runnable}
 use Rattle.cfdp_transactions.proofs.Finding.{found_name as entry_name}
 use Rattle.cfdp_transactions.proofs.Indexes.{get_same}
-use Rattle.cfdp_sessions.proofs.Names.{both_of}
 
 -- the entry whose item is next
 record Runs (table : List Entry) (id : TransactionId) : Type 0 where
@@ -53,6 +52,6 @@ none_runs W id entry sound here awaits h =
           let it : r.entry ≡ entry = get_same W.table r.index k r.entry entry r.there here (eqb-true r.index k same) in
           never_both entry.phase (ap (λ (x : Entry). is_executing x.phase) (sym it) ∙ r.runs) awaits
       | inr other ↦
-          sound.names r.index k r.entry entry r.there here (λ e. both_of (r.index == k) other (eq-eqb r.index k e))
+          sound.names r.index k r.entry entry r.there here (λ e. both_ways (r.index == k) other (eq-eqb r.index k e))
           (r.named ∙ sym (entry_name W.table id entry here))
     ]

@@ -26,8 +26,8 @@ use Rattle.cfdp_transactions.proofs.Finding.{found_name as entry_name}
 use Rattle.cfdp_transactions.proofs.Lookups.{append_own}
 use Rattle.cfdp_receiver.specs.State.{State, MetadataPdu, session_of}
 use Rattle.cfdp_receiver.specs.Handing as Handing
-use Rattle.cfdp_receiver.specs.Turning.{after_input}
-use Rattle.cfdp_receiver.specs.Laws.{is_known_session, knows, AreKnown}
+use Rattle.cfdp_receiver.specs.Turning.{after_input, is_known}
+use Rattle.cfdp_receiver.specs.Laws.{knows, AreKnown}
 use Rattle.cfdp_progress.specs.NakRounds.{MetadataOpens}
 use Rattle.cfdp_progress.proofs.PieceOfAwaiting.{replaces}
 use Rattle.cfdp_receiver.proofs.Concluding.{no_entry}
@@ -137,7 +137,7 @@ nothing_kept R id moment h m known opens =
     ∙ ap (Handing.metadata_in_stage h m s) opens.held
     ∙ cond-true h.acknowledged both [] opens.mode in
     let unknown : entry_of R.world id ≡ None =
-    no_entry (entry_of R.world id) (known id ∙ ap knows opens.here ∙ ap is_known_session opens.held) in
+    no_entry (entry_of R.world id) (known id ∙ ap knows opens.here ∙ ap is_known opens.held) in
     let first : Nil (next R.world (MetadataCame h m)).0 id =
     subst (Nil (next R.world (MetadataCame h m)).0) opens.named (next_metadata R.world h m (ap (entry_of R.world) opens.named ∙ unknown)) in
     let last : Nil (run R.world both) id =

@@ -1,7 +1,7 @@
 -- What an entry in Awaiting is in every world that is reached: its EOF PDU came with a size that its file may have, and not all octets are there.
 use Rattle.std.specs.Prelude.{not, ◌&&◌, ◌||◌, ◌==◌, if◌then◌else◌, nat_le, nat_lt, is_some, slice_get, slice_set}
 use Rattle.std.proofs.Common.{◌≡◌, inl, inr, ℕ, suc, ◌+◌, ◌≤◌, Bool, true, false, List, [], ◌∷◌, length, drop, Option, Some, None, refl, sym, ap, subst, ◌∙◌}
-use Rattle.std.proofs.lemmas.Bool.{cond_both, cond-true, cases_Bool, cases_lt, lt-ltb}
+use Rattle.std.proofs.lemmas.Bool.{cond_both, cond-true, cases_Bool, cases_lt, lt-ltb, not-true, both_ways}
 use Rattle.cfdp_status.specs.declared.transaction.TransactionId.{TransactionId}
 use Rattle.cfdp_leases.specs.Leases.{is_same}
 use Rattle.cfdp_actions.specs.Actions.{Item, succeeded}
@@ -10,7 +10,6 @@ use Rattle.cfdp_pdus.specs.declared.eof.Eof.{Eof}
 use Rattle.cfdp_pdus.specs.declared.header.Header.{Header}
 use Rattle.cfdp_verifier.specs.Verdict.{Verdict, Refuse, Grant, verdict}
 use Rattle.cfdp_sessions.specs.declared.session.Stage.TheVariants.{Waiting}
-use Rattle.cfdp_sessions.proofs.Names.{both_of}
 use Rattle.cfdp_transactions.specs.Admission.{judged, is_known_checksum, metadata_came, proposal_of, new_entry, refused_entry, with_new}
 use Rattle.cfdp_transactions.specs.Config.{Config}
 use Rattle.cfdp_transactions.specs.Delivery.{is_right_checksum, whole, turned, turns, limit, storing, stores, after_eof, stored, data_at, data_came, eof_came, check_at, checked}
@@ -34,13 +33,12 @@ use Rattle.cfdp_transactions.proofs.Finding.{found_name as entry_name}
 use Rattle.cfdp_transactions.proofs.Lookups.{append_own}
 use Rattle.cfdp_transactions.proofs.Indexes.{set_set_same}
 use Rattle.cfdp_receiver.specs.State.{begin}
-use Rattle.cfdp_receiver.specs.Turning.{after_all, all_handed}
-use Rattle.cfdp_receiver.specs.Laws.{is_known_session, knows, KnownIsEntry}
+use Rattle.cfdp_receiver.specs.Turning.{after_all, all_handed, is_known}
+use Rattle.cfdp_receiver.specs.Laws.{knows, KnownIsEntry}
 use Rattle.cfdp_receiver.proofs.HandedOn.{hands_on}
 use Rattle.cfdp_progress.specs.Awaiting.{AwaitingAwaits}
 use Rattle.cfdp_receiver.proofs.OthersStay.{other_than}
 use Rattle.cfdp_progress.proofs.Configured.{next_config}
-use Rattle.cfdp_progress.proofs.Concluding.{not_true}
 use Rattle.cfdp_progress.proofs.InAll.{known_stage}
 use Rattle.cfdp_progress.proofs.PieceOfAwaiting.{replaces}
 use Rattle.cfdp_leases.proofs.Admitted.{same_is}
@@ -170,7 +168,7 @@ data_own W id piece (Some e) lacks here =
 
 size_fits : (a b : ℕ) (other : Bool) → (nat_lt a b || other) ≡ false → b ≤ a
 size_fits a b other h = elim (cases_lt a b) [
-  | inl low ↦ absurd (both_of (nat_lt a b || other) h (ap (λ (x : Bool). x || other) (lt-ltb a b low)))
+  | inl low ↦ absurd (both_ways (nat_lt a b || other) h (ap (λ (x : Bool). x || other) (lt-ltb a b low)))
   | inr high ↦ high
 ]
 
@@ -196,7 +194,7 @@ eof_own W id eof (Some e) lacks here =
       came = refl;
       within = size_fits (bound W.config e.metadata) eof.size (nat_lt eof.size (length e.received)) fits;
       short =
-          not_true (is_whole eof.size e.received) short;
+          not-true (is_whole eof.size e.received) short;
     }))
     (λ all. whole_here W id e eof.checksum here)))))))
 
@@ -328,7 +326,7 @@ awaiting_awaits removes next_sound promised known mib W inputs id s e checks sou
     let none : AllLack W = λ n. none_is W.config W n (ap (λ (t : List Entry). slice_get t (index_in n t)) empty) in
     let all : AllLack R.world = subst AllLack (sym world) (run_lacks removes next_sound promised W (all_handed (begin mib W) inputs) sound none) in
     let l = all id e there checks phase in
-    let is : is_known_session s.stage ≡ true = sym (ap knows here) ∙ sym (known mib W inputs sound empty id) ∙ ap is_some there in (
+    let is : is_known s.stage ≡ true = sym (ap knows here) ∙ sym (known mib W inputs sound empty id) ∙ ap is_some there in (
       l.eof,
       record {
         session = s;

@@ -1,7 +1,7 @@
 -- Several turns of a receiver in which a transaction waits for octets.
 use Rattle.std.specs.Prelude.{◌==◌}
 use Rattle.std.proofs.Common.{◌≡◌, ◌⊎◌, inl, inr, ℕ, ◌<◌, ◌≤◌, true, false, not, List, [], ◌∷◌, ◌++◌, length, Option, Some, None, refl, sym, ap, subst, ◌∙◌, arith}
-use Rattle.std.proofs.lemmas.Bool.{cond_both, cond-false, cases_Bool}
+use Rattle.std.proofs.lemmas.Bool.{cond_both, cond-false, cases_Bool, not-true, both_ways}
 use Rattle.cfdp_status.specs.declared.transaction.TransactionId.{TransactionId}
 use Rattle.cfdp_leases.specs.Leases.{is_same}
 use Rattle.cfdp_pdus.specs.Values.{FileDataFields}
@@ -12,7 +12,6 @@ use Rattle.cfdp_retransmission.proofs.Hearing.{Within}
 use Rattle.cfdp_sessions.specs.Sessions.{SessionFields, AreDistinct}
 use Rattle.cfdp_sessions.specs.declared.session.Stage.{Stage}
 use Rattle.cfdp_sessions.specs.declared.session.Stage.TheVariants.{Held, Known, Over as OverStage, Waiting}
-use Rattle.cfdp_sessions.proofs.Names.{both_of}
 use Rattle.cfdp_transactions.specs.Entry.{Entry, id_of, is_awaiting, takes_data}
 use Rattle.cfdp_transactions.specs.Delivery.{data_came, data_at}
 use Rattle.cfdp_transactions.specs.Received.{Received, is_whole, gaps_below}
@@ -35,17 +34,13 @@ use Rattle.cfdp_progress.specs.NakRounds.{IsAskedOnce}
 use Rattle.cfdp_receiver.proofs.OthersStay.{others_keep_entries, work_keeps_others, run_sound}
 use Rattle.cfdp_progress.proofs.PieceOfAwaiting.{fits_of}
 use Rattle.cfdp_progress.proofs.Turns.{Before, Still, Is_done, step}
-use Rattle.cfdp_progress.proofs.Concluding.{not_true}
 use Rattle.cfdp_retransmission.proofs.Losing.{there_or_not}
 use Rattle.cfdp_receiver.proofs.Delivering.{takes_none, whole_where_all}
+use Rattle.cfdp_receiver.proofs.AfterInputs.{after_both}
 use Rattle.cfdp_leases.proofs.Held.{same_itself}
 use Rattle.cfdp_leases.proofs.Admitted.{same_is}
 
 -- ---- after several inputs
-
-pub after_both : (R : State) (xs ys : List Input) → after_all R (xs ++ ys) ≡ after_all (after_all R xs) ys
-after_both R [] ys = refl
-after_both R (x ∷ xs) ys = after_both (after_input R x) xs ys
 
 pub sound_all : NextIsSound → (R : State) (inputs : List Input) → Sound R.world → Sound (after_all R inputs).world
 sound_all next_sound R [] s = s
@@ -135,7 +130,8 @@ whole_without_gaps size rs fits none =
 
 -- so an entry does not wait
 pub never_waits : (W : World) (id : TransactionId) (e : Entry) (eof : Eof) → Sound W → EntryAwaits W id e eof → gaps_below eof.size e.received ≡ [] → ⊥
-never_waits W id e eof sound a none = both_of (is_whole eof.size e.received) a.short (whole_without_gaps eof.size e.received (fits_of W id e eof sound a) none)
+never_waits W id e eof sound a none =
+    both_ways (is_whole eof.size e.received) a.short (whole_without_gaps eof.size e.received (fits_of W id e eof sound a) none)
 
 pub before_of : (R : State) (id : TransactionId) (e : Entry) (eof : Eof) (a : TransactionAwaits R id e eof) → Before R id e eof a.session
 before_of R id e eof a = record { here = a.here; known = a.known; acknowledged = a.acknowledged; core = a.core }
@@ -180,7 +176,7 @@ delivered_same : (V W : World) (id : TransactionId) → entry_of V id ≡ entry_
 delivered_same V W id same d = record { entry = d.entry; here = same ∙ d.here; phase = d.phase }
 
 not_named : (id : TransactionId) (o : Option TransactionId) → not (is_named id o) ≡ true → o ≡ Some id → ⊥
-not_named id o h e = both_of (is_named id o) (not_true (is_named id o) h) (ap (is_named id) e ∙ same_itself id)
+not_named id o h e = both_ways (is_named id o) (not-true (is_named id o) h) (ap (is_named id) e ∙ same_itself id)
 
 stays_one : NextIsSound → NextIsPromised → (R : State) (i : Input) (id : TransactionId) → Sound R.world → IsDelivered R.world id → is_work i ≡ false →
     is_same (touched R i) id ≡ false → IsDelivered (after_input R i).world id
@@ -200,21 +196,21 @@ stays_step next_sound promised R (Work now) id sound d apart =
     delivered_same (after_input R (Work now)).world R.world id (work_keeps_others next_sound promised R now id sound
     (not_named id (next_runnable R.world.table) apart)) d
 stays_step next_sound promised R (MetadataPdu now h m) id sound d apart =
-    stays_one next_sound promised R (MetadataPdu now h m) id sound d refl (not_true (is_same (touched R (MetadataPdu now h m)) id) apart)
+    stays_one next_sound promised R (MetadataPdu now h m) id sound d refl (not-true (is_same (touched R (MetadataPdu now h m)) id) apart)
 stays_step next_sound promised R (EofPdu now h eof) id sound d apart =
-    stays_one next_sound promised R (EofPdu now h eof) id sound d refl (not_true (is_same (touched R (EofPdu now h eof)) id) apart)
+    stays_one next_sound promised R (EofPdu now h eof) id sound d refl (not-true (is_same (touched R (EofPdu now h eof)) id) apart)
 stays_step next_sound promised R (AckPdu now h ack) id sound d apart =
-    stays_one next_sound promised R (AckPdu now h ack) id sound d refl (not_true (is_same (touched R (AckPdu now h ack)) id) apart)
+    stays_one next_sound promised R (AckPdu now h ack) id sound d refl (not-true (is_same (touched R (AckPdu now h ack)) id) apart)
 stays_step next_sound promised R (PromptPdu now h prompt) id sound d apart =
-    stays_one next_sound promised R (PromptPdu now h prompt) id sound d refl (not_true (is_same (touched R (PromptPdu now h prompt)) id) apart)
+    stays_one next_sound promised R (PromptPdu now h prompt) id sound d refl (not-true (is_same (touched R (PromptPdu now h prompt)) id) apart)
 stays_step next_sound promised R (OtherPdu now h) id sound d apart =
-    stays_one next_sound promised R (OtherPdu now h) id sound d refl (not_true (is_same (touched R (OtherPdu now h)) id) apart)
+    stays_one next_sound promised R (OtherPdu now h) id sound d refl (not-true (is_same (touched R (OtherPdu now h)) id) apart)
 stays_step next_sound promised R (Expire now) id sound d apart =
-    stays_one next_sound promised R (Expire now) id sound d refl (not_true (is_same (touched R (Expire now)) id) apart)
+    stays_one next_sound promised R (Expire now) id sound d refl (not-true (is_same (touched R (Expire now)) id) apart)
 stays_step next_sound promised R (Finish now) id sound d apart =
-    stays_one next_sound promised R (Finish now) id sound d refl (not_true (is_same (touched R (Finish now)) id) apart)
+    stays_one next_sound promised R (Finish now) id sound d refl (not-true (is_same (touched R (Finish now)) id) apart)
 stays_step next_sound promised R (CancelAsked now n) id sound d apart =
-    stays_one next_sound promised R (CancelAsked now n) id sound d refl (not_true (is_same (touched R (CancelAsked now n)) id) apart)
+    stays_one next_sound promised R (CancelAsked now n) id sound d refl (not-true (is_same (touched R (CancelAsked now n)) id) apart)
 stays_step next_sound promised R ForgetAsked id sound d apart = d
 
 stays_all : NextIsSound → NextIsPromised → (R : State) (inputs : List Input) (id : TransactionId) → Sound R.world → IsDelivered R.world id →

@@ -1,7 +1,7 @@
 -- One turn of a receiver in which a transaction waits for octets.
 use Rattle.std.specs.Prelude.{if◌then◌else◌, ◌==◌}
 use Rattle.std.proofs.Common.{◌≡◌, inl, inr, ℕ, ◌+◌, ◌≤◌, Bool, true, false, not, ◌&&◌, List, [], ◌∷◌, length, Option, Some, None, refl, sym, ap, subst, ◌∙◌, arith}
-use Rattle.std.proofs.lemmas.Bool.{cond_both, cond-true, cond-false, cases_Bool, and_parts, and_from, and_left, and_right, eq-eqb, eqb-true}
+use Rattle.std.proofs.lemmas.Bool.{cond_both, cond-true, cond-false, cases_Bool, and_parts, and_from, and_left, and_right, eq-eqb, eqb-true, both_ways}
 use Rattle.cfdp_status.specs.declared.transaction.TransactionId.{TransactionId}
 use Rattle.cfdp_leases.specs.Leases.{is_same}
 use Rattle.cfdp_pdus.specs.Values.{MetadataFields, FileDataFields}
@@ -16,7 +16,7 @@ use Rattle.cfdp_retransmission.specs.declared.timer.Expiry.TheVariants.{Again}
 use Rattle.cfdp_sessions.specs.Sessions.{SessionFields, session_id, found, replaced, AreDistinct}
 use Rattle.cfdp_sessions.specs.declared.session.Stage.{Stage}
 use Rattle.cfdp_sessions.specs.declared.session.Stage.TheVariants.{Held, Known, Over as OverStage, Waiting}
-use Rattle.cfdp_sessions.proofs.Names.{both_of, found_name, replaced_self}
+use Rattle.cfdp_sessions.proofs.Names.{found_name, replaced_self}
 use Rattle.cfdp_transactions.specs.Config.{Config}
 use Rattle.cfdp_transactions.specs.Entry.{Entry, id_of, is_live, is_receiving, is_awaiting}
 use Rattle.cfdp_transactions.specs.Delivery.{eof_without_error, eof_came}
@@ -276,10 +276,10 @@ ignored_by handlers.Ignore e = refl
 ignored_by handlers.Cancel e = absurd cc
 ignored_by handlers.Abandon e = absurd cc
 
-pub is_ignored : (same ignoring : Bool) → same ≡ true → (same && not ignoring) ≡ false → ignoring ≡ true
-is_ignored true true s e = refl
-is_ignored true false s e = absurd cc
-is_ignored false ignoring s e = absurd cc
+pub right_since : (same right : Bool) → same ≡ true → (same && not right) ≡ false → right ≡ true
+right_since true true s e = refl
+right_since true false s e = absurd cc
+right_since false right s e = absurd cc
 
 handler_is : (R : State) (id : TransactionId) (e : Entry) (eof : Eof) (s : SessionFields) → Before R id e eof s →
     Dues.handler_at R.mib s.header.acknowledged (at_of R.world s) ≡ R.mib.nak.at_limit
@@ -320,13 +320,13 @@ quiet_due R now U id e eof s (Dues.Stage_due t false) d b is same up =
     subst (λ (y : SessionFields). QuietDue R now U id s (Dues.Stage_due y false)) it
     (put_quiet R id s (record s { timer = passed L.now s.timer Again }) (is_same (session_id s) id) V b.here
     (ap (run R.world) (asks_none L s b.acknowledged)) refl refl
-    (λ q. absurd (both_of (is_same (session_id s) id) q asks)))
+    (λ q. absurd (both_ways (is_same (session_id s) id) q asks)))
 quiet_due R now U id e eof s (Dues.Stage_due t true) d b is same up =
     let L = Handing.later now R in
     let it : s ≡ t = is_it R id s t d b.here (stage_due L R.sessions t true is).0 same in
     let at = at_of R.world s in
     let ignored : R.mib.nak.at_limit ≡ handlers.Ignore =
-    ignored_by R.mib.nak.at_limit (is_ignored (is_same (session_id t) id) (is_ignoring R.mib.nak.at_limit) same up) in
+    ignored_by R.mib.nak.at_limit (right_since (is_same (session_id t) id) (is_ignoring R.mib.nak.at_limit) same up) in
     subst (λ (y : SessionFields). QuietDue R now U id s (Dues.Stage_due y true)) it
     (quiet_ignored R L id s false (Dues.fault_at s.header.acknowledged at) (Handing.makes_checks s.header.acknowledged at) at
     (Dues.handler_at R.mib s.header.acknowledged at) b.here refl
@@ -343,7 +343,7 @@ quiet_finish R now id e eof s (Some t) d b is same =
     let it : s ≡ t = is_it R id s t d b.here over.0 same in
     let waits : Dues.is_over (at_of R.world t) ≡ false =
     ap (λ (y : SessionFields). Dues.is_over (at_of R.world y)) (sym it) ∙ ap Dues.is_over (at_is R id e eof s b) in
-    absurd (both_of (Dues.is_over (at_of R.world t)) waits over.1)
+    absurd (both_ways (Dues.is_over (at_of R.world t)) waits over.1)
 
 -- ---- a piece of its file
 
@@ -462,11 +462,6 @@ pdu_goes next_sound promised R i h id e eof s sound b w of quiet = elim (cases_B
   | inr other ↦ other_goes next_sound promised R i id e eof s false sound b w (ap (λ (n : TransactionId). is_same n id) of ∙ other)
 ]
 
-pub no_error : (same right : Bool) → same ≡ true → (same && not right) ≡ false → right ≡ true
-no_error true true s e = refl
-no_error true false s e = absurd cc
-no_error false right s e = absurd cc
-
 data_goes : NextIsSound → NextIsPromised →
     (R : State) (now : ℕ) (h : Header) (piece : FileDataFields) (id : TransactionId) (e : Entry) (eof : Eof) (s : SessionFields) → Sound R.world →
     Before R id e eof s →
@@ -532,7 +527,7 @@ step next_sound promised R (MetadataPdu now h m) id e eof s sound d b on within 
 step next_sound promised R (DataPdu now h piece) id e eof s sound d b on within = data_goes next_sound promised R now h piece id e eof s sound b within
 step next_sound promised R (EofPdu now h other) id e eof s sound d b on within =
     pdu_goes next_sound promised R (EofPdu now h other) h id e eof s sound b refl refl
-    (λ same own. quiet_eof R now h other e eof s own (eqb-true other.condition 0 (no_error (is_same (id_of h) id) (other.condition == 0) same on)))
+    (λ same own. quiet_eof R now h other e eof s own (eqb-true other.condition 0 (right_since (is_same (id_of h) id) (other.condition == 0) same on)))
 step next_sound promised R (AckPdu now h ack) id e eof s sound d b on within =
     pdu_goes next_sound promised R (AckPdu now h ack) h id e eof s sound b refl refl (λ same own. quiet_ack R now h ack s own.here own.known)
 step next_sound promised R (PromptPdu now h prompt) id e eof s sound d b on within =

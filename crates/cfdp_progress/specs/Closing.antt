@@ -13,7 +13,7 @@ use Rattle.std.specs.List.{AllByRecursion, flat_map}
 use Rattle.cfdp_status.specs.declared.transaction.TransactionId.{TransactionId}
 use Rattle.cfdp_leases.specs.Leases.{is_same}
 use Rattle.cfdp_pdus.specs.Codes.{finished_code}
-use Rattle.cfdp_retransmission.specs.Coming.{one_if}
+use Rattle.cfdp_pdus.specs.Bits.{one_if}
 use Rattle.cfdp_sessions.specs.Sessions.{SessionFields, session_id, AreDistinct}
 use Rattle.cfdp_sessions.specs.declared.session.Stage.TheVariants.{Waiting}
 use Rattle.cfdp_transactions.specs.Entry.{id_of}

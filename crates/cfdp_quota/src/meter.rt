@@ -1,3 +1,4 @@
+//! The steps of one transaction.
 ghost use Rattle.std.specs.Prelude.{◌≡◌, ◌+◌, ◌≤◌};
 ghost use Rattle.cfdp_quota.specs.Steps.{left};
 

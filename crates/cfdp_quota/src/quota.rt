@@ -1,3 +1,4 @@
+//! The blocks of a filestore, and what of them is reserved.
 ghost use Rattle.std.specs.Prelude.{◌≡◌, ◌+◌, ◌<◌, ◌≤◌, ◌↔◌, IsTrue, Some};
 ghost use Rattle.cfdp_quota.specs.Budget.{IsBalanced, IsOpen, closing, entry_at, giving, reserve_at, reserved, reserving, spare, taking, unreserved, untouched, used};
 

@@ -1,13 +1,13 @@
 -- After the acknowledgement of its Finished PDU a transaction is closed, and no Finished PDU of it is sent.
 use Rattle.std.proofs.Common.{◌≡◌, inl, inr, ℕ, ◌+◌, true, ◌==◌, List, [], ◌∷◌, length, take, Some, None, refl, sym, ap, subst, ◌∙◌, arith}
-use Rattle.std.proofs.lemmas.Bool.{cond-true, cond_both, cases_Bool, or_left, eq-eqb}
+use Rattle.std.proofs.lemmas.Bool.{cond-true, cond_both, cases_Bool, or_left, eq-eqb, both_ways}
 use Rattle.cfdp_status.specs.declared.transaction.TransactionId.{TransactionId}
 use Rattle.cfdp_leases.specs.Leases.{is_same}
 use Rattle.cfdp_pdus.specs.declared.header.Header.{Header}
 use Rattle.cfdp_directives.specs.declared.ack.Ack.{Ack}
 use Rattle.cfdp_sessions.specs.Sessions.{SessionFields, session_id, found, without_session}
 use Rattle.cfdp_sessions.specs.code.Sessions.{IsFound}
-use Rattle.cfdp_sessions.proofs.Names.{both_of, no_some, found_name, gone, replaced_none, added_other, without_none}
+use Rattle.cfdp_sessions.proofs.Names.{no_some, found_name, gone, replaced_none, added_other, without_none}
 use Rattle.cfdp_sessions.specs.declared.session.Stage.TheVariants.{Waiting}
 use Rattle.cfdp_transactions.specs.Entry.{id_of}
 use Rattle.cfdp_receiver.specs.declared.answer.Word.TheVariants as words
@@ -28,7 +28,7 @@ none_by : (R : State) (t : TransactionId) (p : Turning.Parts) → Shape R t p �
 none_by R t p (Keeps a e) id none closed = ap (λ (q : Turning.Parts). found q.sessions id) e ∙ none
 none_by R t p (Puts s a name e) id none closed = ap (λ (q : Turning.Parts). found q.sessions id) e ∙ replaced_none R.sessions s id none
 none_by R t p (Adds s a name free new e) id none closed = ap (λ (q : Turning.Parts). found q.sessions id) e ∙ elim (cases_Bool (is_same (session_id s) id)) [
-  | inl same ↦ absurd (both_of (is_closed R t) new (ap (is_closed R) (sym name ∙ same_is (session_id s) id same) ∙ closed))
+  | inl same ↦ absurd (both_ways (is_closed R t) new (ap (is_closed R) (sym name ∙ same_is (session_id s) id same) ∙ closed))
   | inr other ↦ added_other R.sessions s id other ∙ none
 ]
 none_by R t p (Closes a was e) id none closed = ap (λ (q : Turning.Parts). found q.sessions id) e ∙ without_none R.sessions t id none

@@ -1,6 +1,6 @@
 -- What an answer has.
 use Rattle.std.proofs.Common.{◌≡◌, ◌⊎◌, inl, inr, ℕ, ◌+◌, ◌≤◌, Bool, true, false, not, ◌&&◌, ◌||◌, ◌==◌, if◌then◌else◌, List, [], length, Option, Some, None, refl, sym, ap, subst, ◌∙◌, arith}
-use Rattle.std.proofs.lemmas.Bool.{cond_both, cond-true, or_parts, eqb-true}
+use Rattle.std.proofs.lemmas.Bool.{cond_both, cond-true, or_parts, eqb-true, not-false}
 use Rattle.std.specs.List.{list_any}
 use Rattle.cfdp_status.specs.declared.transaction.TransactionId.{TransactionId}
 use Rattle.cfdp_leases.specs.Leases.{is_same}
@@ -189,10 +189,6 @@ acked_active R h eof p acks f =
 pub heard_name : (R : State) (V : World) (s : SessionFields) → session_id (Turning.heard_session R V s) ≡ session_id s
 heard_name R V s = cond_both (Turning.is_news R.world V s) _ s (λ (t : SessionFields). session_id t ≡ session_id s) (λ e. refl) (λ e. refl)
 
-pub not_false : (b : Bool) → not b ≡ false → b ≡ true
-not_false true e = refl
-not_false false e = absurd cc
-
 acked_if : (R : State) (h : Header) (eof : Eof) (b : Bool) (p q : Turning.Parts) → Acked R h eof p → Acked R h eof q → Acked R h eof (if b then p else q)
 acked_if R h eof true p q hp hq = hp
 acked_if R h eof false p q hp hq = hq
@@ -223,7 +219,7 @@ is_first : (R : State) (h : Header) (eof : Eof) → (is_closed R (id_of h) || no
 is_first R h eof e =
     let both = or_parts (is_closed R (id_of h) || not (eof.condition == 0)) (not h.acknowledged) e in
     let first = or_parts (is_closed R (id_of h)) (not (eof.condition == 0)) both.0 in
-    record { unclosed = first.0; faultless = eqb-true eof.condition 0 (not_false (eof.condition == 0) first.1) }
+    record { unclosed = first.0; faultless = eqb-true eof.condition 0 (not-false (eof.condition == 0) first.1) }
 
 acked_full : (R : State) (h : Header) (eof : Eof) (p q : Turning.Parts) → session_of R (id_of h) ≡ None → IsFirst R h eof → p.answer.acks ≡ [] →
     Acked R h eof q →

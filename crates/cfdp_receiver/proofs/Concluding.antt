@@ -3,7 +3,7 @@ use Rattle.std.proofs.Common.{◌≡◌, ◌⊎◌, inl, inr, ℕ, suc, List, []
 use Rattle.std.specs.Prelude.{if◌then◌else◌, slice_get, is_some, unwrap_or}
 use Rattle.std.specs.Option.{option_map}
 use Rattle.std.proofs.Math.Seq.{drop-cons}
-use Rattle.std.proofs.lemmas.Bool.{cond-true, cond-false}
+use Rattle.std.proofs.lemmas.Bool.{cond-true, cond-false, both_ways}
 use Rattle.std.proofs.lemmas.Option.{slice_get_within, get_or_from_slice_get}
 use Rattle.cfdp_status.specs.declared.transaction.TransactionId.{TransactionId}
 use Rattle.cfdp_pdus.specs.declared.eof.Eof.{Eof}
@@ -12,7 +12,7 @@ use Rattle.cfdp_sessions.specs.Sessions.{SessionFields, AreDistinct, session_id,
 use Rattle.cfdp_sessions.specs.declared.session.Ending.{Ending}
 use Rattle.cfdp_sessions.specs.declared.session.Stage.{Stage}
 use Rattle.cfdp_sessions.specs.declared.session.Stage.TheVariants.{Held, Known, Over, Waiting}
-use Rattle.cfdp_sessions.proofs.Names.{both_of, member_found, gone, replaced_self}
+use Rattle.cfdp_sessions.proofs.Names.{member_found, gone, replaced_self}
 use Rattle.cfdp_sessions.proofs.Indexes.{found_by_name}
 use Rattle.cfdp_transactions.specs.CoreFields.{outcome_when_over, where_any, outcome_in}
 use Rattle.cfdp_transactions.specs.Entry.{Entry, is_live}
@@ -35,7 +35,7 @@ use Rattle.cfdp_receiver.specs.State.{JointPhase, At_held, At_receiving, At_awai
 use Rattle.cfdp_receiver.specs.State.{State, Finish, at_of, at_stage, at_entry}
 use Rattle.cfdp_receiver.specs.Due.{first_over, is_over}
 use Rattle.cfdp_receiver.specs.Handing.{take_of, where_known}
-use Rattle.cfdp_receiver.specs.Laws.{AreKnown, is_known_session, knows}
+use Rattle.cfdp_receiver.specs.Laws.{AreKnown, knows}
 use Rattle.cfdp_receiver.specs.StateMachine.{StateMachineFields, AnswerParts, answer_in, finished_by}
 use Rattle.cfdp_receiver.specs.code.StateMachine.{Concludes, Turns, at_moment, in_world, silent}
 use Rattle.cfdp_receiver.specs.Turning as Turning
@@ -43,6 +43,7 @@ use Rattle.cfdp_receiver.proofs.CancelAsked.{with_sessions}
 use Rattle.cfdp_receiver.proofs.SessionsAreKnown.{phase_over}
 use Rattle.cfdp_receiver.proofs.FinishedSentAtMost.{first_over_is}
 use Rattle.cfdp_receiver.proofs.LateTurns.{turns_by}
+use Rattle.cfdp_receiver.specs.Turning.{is_known}
 
 -- ---- the first session that is over
 
@@ -82,7 +83,7 @@ known_outcome R s d known first is none =
     let over = first_over_is R.world R.sessions s first in
     let entry = entry_of R.world (session_id s) in
     over_outcome entry
-    (known (session_id s) ∙ ap knows (member_found R.sessions s d over.0) ∙ ap is_known_session is)
+    (known (session_id s) ∙ ap knows (member_found R.sessions s d over.0) ∙ ap is_known is)
     (ap (λ (stage : Stage). is_over (at_stage stage entry)) (sym is) ∙ over.1) none
 
 outcome_if : (live : Bool) (a o : Outcome) → (if live then None else Some a) ≡ Some o → a ≡ o
@@ -126,8 +127,8 @@ over_stage R s first stage =
     let entry = entry_of R.world (session_id s) in
     let over = (first_over_is R.world R.sessions s first).1 in
     elim stage [
-      | inl held ↦ both_of (is_over (at_of R.world s)) (ap (λ (x : Stage). is_over (at_stage x entry)) held.1) over
-      | inr waits ↦ both_of (is_over (at_of R.world s)) (ap (λ (x : Stage). is_over (at_stage x entry)) waits) over
+      | inl held ↦ both_ways (is_over (at_of R.world s)) (ap (λ (x : Stage). is_over (at_stage x entry)) held.1) over
+      | inr waits ↦ both_ways (is_over (at_of R.world s)) (ap (λ (x : Stage). is_over (at_stage x entry)) waits) over
     ]
 
 -- ---- the turn
@@ -161,7 +162,7 @@ finish_over M N a now s ending d known first is c =
     let W = M.state.world in
     let here = member_found M.state.sessions s d (first_over_is W M.state.sessions s first).0 in
     let none : entry_of W (session_id s) ≡ None =
-    no_entry (entry_of W (session_id s)) (known (session_id s) ∙ ap knows here ∙ ap is_known_session is) in
+    no_entry (entry_of W (session_id s)) (known (session_id s) ∙ ap knows here ∙ ap is_known is) in
     let outcome : Turning.outcome_for s (entry_of W (session_id s)) ≡ Turning.stage_outcome s (Over ending) =
     ap (Turning.outcome_for s) none ∙ ap (Turning.stage_outcome s) is in
     turns_by L N a (Finish now) [] (λ (V : World) (rs : List Reply). Turning.finish_session L.state s (Turning.stage_outcome s (Over ending)))

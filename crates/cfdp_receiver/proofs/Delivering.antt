@@ -1,8 +1,8 @@
 -- What comes in answer to NAK PDUs completes the file.
 use Rattle.std.specs.Prelude.{nat_lt, ◌==◌, is_some, slice_get, slice_set}
 use Rattle.std.specs.List.{AllByRecursion, list_all}
-use Rattle.std.proofs.Common.{◌≡◌, ◌⊎◌, inl, inr, ℕ, zero, suc, ◌+◌, ◌<◌, ◌≤◌, min, Bool, true, false, List, [], ◌∷◌, length, Option, Some, None, refl, sym, ap, subst, ◌∙◌, arith}
-use Rattle.std.proofs.lemmas.Bool.{cond_both, cond-true, cond-false, cases_lt, and_from, eq-eqb, ne_eqb, le-ltb}
+use Rattle.std.proofs.Common.{◌≡◌, ◌⊎◌, inl, inr, ℕ, zero, suc, ◌+◌, ◌<◌, ◌≤◌, min, true, false, List, [], ◌∷◌, length, Option, Some, None, refl, sym, ap, subst, ◌∙◌, arith}
+use Rattle.std.proofs.lemmas.Bool.{cond_both, cond-true, cond-false, cases_lt, and_from, eq-eqb, ne_eqb, le-ltb, false≢true, both_ways}
 use Rattle.cfdp_pdus.specs.Values.{FileDataFields}
 use Rattle.cfdp_pdus.specs.declared.eof.Eof.{Eof}
 use Rattle.cfdp_pdus.specs.declared.header.Header.{Header}
@@ -38,14 +38,10 @@ past [] i h = refl
 past (r ∷ rs) zero h = absurd (omega (arith, h))
 past (r ∷ rs) (suc i) h = past rs i (omega (arith, h))
 
-pub never_both : (b : Bool) → b ≡ true → b ≡ false → ⊥
-never_both true t f = absurd cc
-never_both false t f = absurd cc
-
 pub whole_where_all : (size : ℕ) (rs : Received) → length rs ≤ size → ((i : ℕ) → i < size → is_some (octet_at rs i) ≡ true) → is_whole size rs ≡ true
 whole_where_all size rs fits all =
     let long : size ≤ length rs = elim (cases_lt (length rs) size) [
-      | inl short ↦ absurd (never_both (is_some (octet_at rs (length rs))) (all (length rs) short) (past rs (length rs) (omega arith)))
+      | inl short ↦ absurd (both_ways (is_some (octet_at rs (length rs))) (past rs (length rs) (omega arith)) (all (length rs) short))
       | inr enough ↦ enough
     ] in
     and_from (length rs == size) (list_all is_some rs) (eq-eqb (length rs) size (omega (arith, fits, long)))
@@ -173,9 +169,6 @@ pub neither : (o q : Option ℕ) → or_offset o q ≡ None → (o ≡ None) × 
 neither None q e = (refl, e)
 neither (Some x) q e = absurd cc
 
-never_brought : false ≡ true → ⊥
-never_brought e = absurd cc
-
 -- a piece that is not passed over, and does not end after the file
 comes : (W : World) (h : Header) (eof : Eof) (made : ℕ) (e : Entry) (p : Piece) → Awaits W h eof made e → p.0
     + length p.1 ≤ min (bound W.config e.metadata) eof.size →
@@ -208,8 +201,8 @@ delivers : (W : World) (h : Header) (eof : Eof) (made : ℕ) (e : Entry) (ps : L
     AreAllKept e.received ps → BringsMissing eof.size e.received ps →
     Delivered (run W (piece_events h ps)) h
 delivers W h eof made e [] a within kept answers =
-    absurd (never_both (is_whole eof.size e.received)
-    (whole_where_all eof.size e.received a.fits (λ i low. there_or_not (octet_at e.received i) (λ none. never_brought (answers i low none)))) a.short)
+    absurd (both_ways (is_whole eof.size e.received) a.short
+    (whole_where_all eof.size e.received a.fits (λ i low. there_or_not (octet_at e.received i) (λ none. false≢true (answers i low none)))))
 delivers W h eof made e (p ∷ ps) a within kept answers = elim (comes W h eof made e p a within.0 kept.0) [
   | Waits now awaits received same ↦
       delivers (next W (DataCame h (record { offset = p.0; octets = p.1 }))).0 h eof made now ps awaits

@@ -1,19 +1,16 @@
 -- No two sessions have one name, and none that of a transaction that is closed.
-use Rattle.std.proofs.Common.{◌≡◌, inl, inr, true, false, List, [], ◌∷◌, None, refl, sym, ap, subst, ◌∙◌}
-use Rattle.std.proofs.lemmas.Bool.{cases_Bool, or_cases}
+use Rattle.std.proofs.Common.{◌≡◌, inl, inr, true, List, [], ◌∷◌, None, refl, sym, ap, subst, ◌∙◌}
+use Rattle.std.proofs.lemmas.Bool.{cases_Bool, or_cases, both_ways, false≢true}
 use Rattle.cfdp_status.specs.declared.transaction.TransactionId.{TransactionId}
 use Rattle.cfdp_leases.specs.Leases.{is_same}
 use Rattle.cfdp_sessions.specs.Sessions.{SessionFields, session_id, found, without_session, AreDistinct}
-use Rattle.cfdp_sessions.proofs.Names.{both_of, replaced_none, replaced_distinct, added_other, added_distinct, without_none, without_distinct, gone}
+use Rattle.cfdp_sessions.proofs.Names.{replaced_none, replaced_distinct, added_other, added_distinct, without_none, without_distinct, gone}
 use Rattle.cfdp_receiver.specs.State.{State, begin, Input, now_of, is_closed}
 use Rattle.cfdp_receiver.specs.Handing as Handing
 use Rattle.cfdp_receiver.specs.Turning as Turning
 use Rattle.cfdp_receiver.specs.Laws.{touched, ClosedIsOver, SessionsAreDistinct}
 use Rattle.cfdp_receiver.proofs.TurnShapes.{Shape, Keeps, Puts, Adds, Closes, Forgets, shape, closed_in, taken_is}
 use Rattle.cfdp_leases.proofs.Admitted.{same_is}
-
-none_of_none : false ≡ true → ⊥
-none_of_none e = absurd cc
 
 -- what is true at all times
 pub record Apart (sessions : List SessionFields) (closed : List TransactionId) : Type 0 where
@@ -29,7 +26,7 @@ apart_by R t p (Puts s a name e) apart = subst (λ (q : Turning.Parts). Apart q.
 apart_by R t p (Adds s a name free new e) apart = subst (λ (q : Turning.Parts). Apart q.sessions q.closed.names) (sym e) (record {
   distinct = added_distinct R.sessions s apart.distinct (ap (found R.sessions) name ∙ free);
   over = λ id closed. elim (cases_Bool (is_same (session_id s) id)) [
-    | inl same ↦ absurd (both_of (is_closed R t) new (ap (is_closed R) (sym name ∙ same_is (session_id s) id same) ∙ closed))
+    | inl same ↦ absurd (both_ways (is_closed R t) new (ap (is_closed R) (sym name ∙ same_is (session_id s) id same) ∙ closed))
     | inr other ↦ added_other R.sessions s id other ∙ apart.over id closed
   ];
 })
@@ -42,7 +39,7 @@ apart_by R t p (Closes a was e) apart = subst (λ (q : Turning.Parts). Apart q.s
 })
 apart_by R t p (Forgets a e) apart =
     subst (λ (q : Turning.Parts). Apart q.sessions q.closed.names) (sym e)
-    (record { distinct = apart.distinct; over = λ id closed. absurd (none_of_none closed) })
+    (record { distinct = apart.distinct; over = λ id closed. absurd (false≢true closed) })
 
 distinct_by : (R : State) (t : TransactionId) (p : Turning.Parts) → Shape R t p → AreDistinct R.sessions → AreDistinct p.sessions
 distinct_by R t p (Keeps a e) d = subst (λ (q : Turning.Parts). AreDistinct q.sessions) (sym e) d

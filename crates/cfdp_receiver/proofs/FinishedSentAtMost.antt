@@ -1,7 +1,7 @@
 -- How often a Finished PDU is sent.
 use Rattle.std.specs.Prelude.{if◌then◌else◌}
 use Rattle.std.proofs.Common.{◌≡◌, ◌≢◌, ◌⊎◌, inl, inr, ℕ, ◌+◌, ◌<◌, Bool, true, false, ◌&&◌, List, [], ◌∷◌, length, Option, Some, None, refl, sym, ap, subst, ◌∙◌, arith}
-use Rattle.std.proofs.lemmas.Bool.{cond-true, cond-false, cases_Bool, and_parts}
+use Rattle.std.proofs.lemmas.Bool.{cond-true, cond-false, cases_Bool, and_parts, both_ways}
 use Rattle.cfdp_status.specs.declared.transaction.TransactionId.{TransactionId}
 use Rattle.cfdp_leases.specs.Leases.{is_same}
 use Rattle.cfdp_pdus.specs.Values.{MetadataFields, FileDataFields}
@@ -32,7 +32,6 @@ use Rattle.cfdp_receiver.specs.Turning as Turning
 use Rattle.cfdp_receiver.specs.Laws.{due_name, session_name, touched, touched_in, is_waiting, waits_in, sent_for, sent_while, SentAtMost}
 use Rattle.cfdp_receiver.proofs.TurnShapes.{others_stay}
 use Rattle.cfdp_receiver.proofs.Distinct.{distinct_after}
-use Rattle.cfdp_receiver.proofs.Delivering.{never_both}
 use Rattle.cfdp_leases.proofs.Admitted.{same_is}
 
 -- ---- whose timer is due, and why
@@ -173,8 +172,8 @@ waits_prompt : (R : State) (h : Header) (prompt : Prompt) (s : SessionFields) �
 waits_prompt R h prompt s e w =
     let takes : Turning.takes_prompts (at_of R.world s) ≡ false = ap Turning.takes_prompts (at_waiting R.world s w) in
     elim (cases_Bool (s.header.acknowledged && Turning.takes_prompts (at_of R.world s))) [
-      | inl both ↦ absurd (never_both (Turning.takes_prompts (at_of R.world s))
-          (and_parts s.header.acknowledged (Turning.takes_prompts (at_of R.world s)) both).1 takes)
+      | inl both ↦ absurd (both_ways (Turning.takes_prompts (at_of R.world s)) takes
+          (and_parts s.header.acknowledged (Turning.takes_prompts (at_of R.world s)) both).1)
       | inr neither ↦
           subst (Waits R (id_of h) s)
           (sym (cond-false (s.header.acknowledged && Turning.takes_prompts (at_of R.world s))
@@ -255,7 +254,7 @@ waits_due R V id s (Dues.Alive_due t) d e name w ne is same =
     let receiving : Dues.is_receiving_at (at_of R.world t) ≡ true = (and_parts t.header.acknowledged (Dues.is_receiving_at (at_of R.world t)) both.0).1 in
     let waiting : Dues.is_receiving_at (at_of R.world t) ≡ false =
     ap (λ (y : SessionFields). Dues.is_receiving_at (at_of R.world y)) (sym it) ∙ ap Dues.is_receiving_at (at_waiting R.world s w) in
-    absurd (never_both (Dues.is_receiving_at (at_of R.world t)) receiving waiting)
+    absurd (both_ways (Dues.is_receiving_at (at_of R.world t)) waiting receiving)
 waits_due R V id s (Dues.Stage_due t false) d e name w ne is same =
     let due = stage_due R R.sessions t false is in
     let it : s ≡ t = is_it R id s t d e due.0 same in
@@ -275,7 +274,7 @@ waits_finish R id s (Some t) d e w is same =
     let it : s ≡ t = is_it R id s t d e over.0 same in
     let waiting : Dues.is_over (at_of R.world t) ≡ false = ap (λ (y : SessionFields). Dues.is_over (at_of R.world y)) (sym it)
     ∙ ap Dues.is_over (at_waiting R.world s w) in
-    absurd (never_both (Dues.is_over (at_of R.world t)) over.1 waiting)
+    absurd (both_ways (Dues.is_over (at_of R.world t)) waiting over.1)
 
 -- ---- each input
 

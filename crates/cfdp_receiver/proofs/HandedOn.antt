@@ -1,5 +1,5 @@
 -- What is handed to the core.
-use Rattle.std.proofs.Common.{◌≡◌, ◌≤◌, Bool, true, false, ◌||◌, if◌then◌else◌, List, [], ◌∷◌, ◌++◌, length, Option, Some, None, refl, sym, ◌∙◌, arith}
+use Rattle.std.proofs.Common.{◌≤◌, Bool, true, false, ◌||◌, if◌then◌else◌, List, [], ◌∷◌, length, Option, Some, None, refl, sym, ◌∙◌, arith}
 use Rattle.cfdp_status.specs.declared.transaction.TransactionId.{TransactionId}
 use Rattle.cfdp_pdus.specs.Values.{MetadataFields}
 use Rattle.cfdp_pdus.specs.declared.header.Header.{Header}
@@ -7,7 +7,7 @@ use Rattle.cfdp_transactions.specs.declared.event.Event.{Event}
 use Rattle.cfdp_transactions.specs.declared.event.Event.TheVariants.{Metadata as MetadataCame, Check}
 use Rattle.cfdp_transactions.specs.Entry.{id_of}
 use Rattle.cfdp_transactions.specs.World.{World, next_runnable}
-use Rattle.cfdp_transactions.specs.Next.{next, run}
+use Rattle.cfdp_transactions.specs.Next.{next}
 use Rattle.cfdp_sessions.specs.Sessions.{SessionFields, session_id}
 use Rattle.cfdp_sessions.specs.declared.session.Stage.{Stage}
 use Rattle.cfdp_sessions.specs.declared.session.Stage.TheVariants.{Held, Known, Over, Waiting}
@@ -19,15 +19,12 @@ use Rattle.cfdp_receiver.specs.Handing.{later, metadata_in_stage, metadata_event
 use Rattle.cfdp_receiver.specs.Turning.{after_input, all_handed}
 use Rattle.cfdp_transactions.specs.Headline.{NextIsSound, NextIsPromised, Promised, AtEach}
 use Rattle.cfdp_transactions.specs.Sound.{Sound}
+use Rattle.cfdp_transactions.proofs.Runs.{run-append}
 use Rattle.cfdp_receiver.specs.Laws.{HandsOn, HeadlineHolds, FewEvents, EntriesStay}
-
-run_append : (W : World) (xs ys : List Event) → run W (xs ++ ys) ≡ run (run W xs) ys
-run_append W [] ys = refl
-run_append W (x ∷ xs) ys = run_append (next W x).0 xs ys
 
 pub hands_on : HandsOn
 hands_on R [] = refl
-hands_on R (i ∷ is) = hands_on (after_input R i) is ∙ sym (run_append R.world (handed R i) (all_handed (after_input R i) is))
+hands_on R (i ∷ is) = hands_on (after_input R i) is ∙ sym (run-append R.world (handed R i) (all_handed (after_input R i) is))
 
 at_each : NextIsSound → NextIsPromised → (W : World) (events : List Event) → Sound W → AtEach Sound Promised W events
 at_each sound promised W [] s = s

@@ -32,3 +32,4 @@ pub mod OnlyKeepsData
 pub mod NoGap
 pub mod CallsAnswer
 pub mod PdusByNumber
+pub mod AfterInputs

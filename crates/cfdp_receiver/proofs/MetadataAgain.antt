@@ -19,8 +19,8 @@ use Rattle.cfdp_transactions.specs.declared.reply.Reply.{Reply}
 use Rattle.cfdp_transactions.specs.declared.reply.Reply.TheVariants as replies
 use Rattle.cfdp_receiver.specs.State.{State, begin, MetadataPdu, session_of, is_closed, is_full}
 use Rattle.cfdp_receiver.specs.Handing.{is_ours, later, metadata_in_stage, metadata_events}
-use Rattle.cfdp_receiver.specs.Turning.{after_input, after_all}
-use Rattle.cfdp_receiver.specs.Laws.{IsPast, Past_closed, Past_over, Past_waiting, NoneAgain, NotBegunAnew, is_known_session, knows, AreKnown, is_begun_in, is_begun, RememberedStays, AtMostOnce}
+use Rattle.cfdp_receiver.specs.Turning.{after_input, after_all, is_known}
+use Rattle.cfdp_receiver.specs.Laws.{IsPast, Past_closed, Past_over, Past_waiting, NoneAgain, NotBegunAnew, knows, AreKnown, is_begun_in, is_begun, RememberedStays, AtMostOnce}
 use Rattle.cfdp_receiver.proofs.Distinct.{closed_is_over}
 use Rattle.cfdp_receiver.proofs.SessionsAreKnown.{known_is_entry}
 
@@ -70,7 +70,7 @@ stage_stays : (R : State) (now : ℕ) (h : Header) (m : MetadataFields) (s : Ses
     s.stage ≡ stage → is_begun_in stage ≡ true → Stays R now h m
 stage_stays R now h m s (Held eof) known here is begun = absurd cc
 stage_stays R now h m s Known known here is begun =
-    entry_stays R now h m s (entry_of R.world (id_of h)) here is refl (known (id_of h) ∙ ap knows here ∙ ap is_known_session is)
+    entry_stays R now h m s (entry_of R.world (id_of h)) here is refl (known (id_of h) ∙ ap knows here ∙ ap is_known is)
 stage_stays R now h m s (Over ending) known here is begun = past_stays R now h m (Past_over s ending here is)
 stage_stays R now h m s Waiting known here is begun = past_stays R now h m (Past_waiting s here is)
 

@@ -2,24 +2,25 @@
 use Rattle.std.specs.Prelude.{if◌then◌else◌, nat_le, nat_lt, is_some, IsTrue}
 use Rattle.std.specs.List.{filter, flat_map}
 use Rattle.std.proofs.Common.{◌≡◌, inl, inr, ℕ, zero, suc, ◌+◌, ◌*◌, ◌<◌, ◌≤◌, Bool, true, false, not, ◌&&◌, ◌||◌, ◌==◌, List, [], ◌∷◌, ◌++◌, map, length, Option, Some, None, refl, sym, ap, subst, ◌∙◌, arith}
-use Rattle.std.proofs.lemmas.Bool.{cond-true, cond-false, cond_both, and_parts, or_parts, le-leb, lt-leb, le-ltb, eq-eqb, cases_lt}
+use Rattle.std.proofs.lemmas.Bool.{cond-true, cond-false, cond_both, and_parts, or_parts, le-leb, lt-leb, le-ltb, eq-eqb, cases_lt, not-false, both_ways}
 use Rattle.cfdp_status.specs.declared.transaction.TransactionId.{TransactionId}
 use Rattle.cfdp_pdus.specs.Values.{MetadataFields, FileDataFields}
 use Rattle.cfdp_pdus.specs.declared.header.Header.{Header}
 use Rattle.cfdp_pdus.specs.declared.eof.Eof.{Eof}
+use Rattle.cfdp_pdus.specs.Bits.{one_if}
 use Rattle.cfdp_directives.specs.Reading.{NakFields}
 use Rattle.cfdp_directives.specs.declared.ack.Ack.{Ack}
 use Rattle.cfdp_directives.specs.declared.prompt.Prompt.{Prompt}
 use Rattle.cfdp_directives.specs.declared.prompt.Prompt.TheVariants as prompts
 use Rattle.cfdp_retransmission.specs.Naks.{SegmentRequest, Nak, naks}
-use Rattle.cfdp_retransmission.specs.Coming.{continues, cover_count, one_if}
+use Rattle.cfdp_retransmission.specs.Coming.{continues, cover_count}
 use Rattle.cfdp_retransmission.specs.Timers.{restarted, passed}
 use Rattle.cfdp_retransmission.specs.declared.timer.Expiry.TheVariants.{Again}
 use Rattle.cfdp_retransmission.proofs.Arriving.{asked_once, not_asked}
 use Rattle.cfdp_retransmission.proofs.Sequences.{asks_for_all, few_naks}
 use Rattle.cfdp_sessions.specs.Sessions.{SessionFields, session_id}
 use Rattle.cfdp_sessions.specs.code.Sessions.{IsFound}
-use Rattle.cfdp_sessions.proofs.Names.{both_of, found_name, replaced_self}
+use Rattle.cfdp_sessions.proofs.Names.{found_name, replaced_self}
 use Rattle.cfdp_sessions.specs.declared.session.Stage.{Stage}
 use Rattle.cfdp_sessions.specs.declared.session.Stage.TheVariants.{Held, Known, Over, Waiting}
 use Rattle.cfdp_transactions.specs.Entry.{Entry, id_of, is_live, gaps, gaps_in, reach, reach_in, awaited}
@@ -44,7 +45,6 @@ use Rattle.cfdp_receiver.specs.Turning as Turning
 use Rattle.cfdp_receiver.specs.Laws.{due_name, session_name, touched_in, Asked, Asks_none, Asks_all, Asks_gaps, Asks_new, is_data, NaksAsk, requests_of_naks, ExactlyMissing, FewNakPdus, FewRequests}
 use Rattle.cfdp_receiver.proofs.SessionsAreKnown.{added_found, heard_stage}
 use Rattle.cfdp_receiver.proofs.TurnShapes.{IsDueOf, due_is}
-use Rattle.cfdp_receiver.proofs.AnswerParts.{not_false}
 
 -- ---- by the session
 
@@ -161,7 +161,7 @@ asked_metadata R V rs h m (Some s) here = asked_metadata_stage R V rs h m s s.st
 some_gaps : (low : ℕ) (e : Entry) → not (length (Turning.gaps_after low e) == 0) ≡ true → 1 ≤ length (Turning.gaps_after low e)
 some_gaps low e h = elim (cases_lt 0 (length (Turning.gaps_after low e))) [
   | inl some ↦ omega (arith, some)
-  | inr none ↦ absurd (both_of (not (length (Turning.gaps_after low e) == 0)) (ap not (eq-eqb (length (Turning.gaps_after low e)) 0 (omega (arith, none)))) h)
+  | inr none ↦ absurd (both_ways (not (length (Turning.gaps_after low e) == 0)) (ap not (eq-eqb (length (Turning.gaps_after low e)) 0 (omega (arith, none)))) h)
 ]
 
 asked_new_entry : (U : World) (N : State) (id : TransactionId) (s : SessionFields) (low : ℕ) (entry : Option Entry) → session_of N id ≡ Some s →
@@ -243,7 +243,7 @@ asked_eof R V rs h eof None here =
     let before = is_closed R (id_of h) || not (eof.condition == 0) in
     when_parts R V false (id_of h) (before || not h.acknowledged) kept (if is_full R then full else Turning.held_first R h eof) (λ e. Asks_none refl) (λ e.
     if_parts R V false (id_of h) (is_full R) full (Turning.held_first R h eof) (Asks_none refl)
-    (asked_holds R V h eof here (not_false h.acknowledged (or_parts before (not h.acknowledged) e).1)))
+    (asked_holds R V h eof here (not-false h.acknowledged (or_parts before (not h.acknowledged) e).1)))
 asked_eof R V rs h eof (Some s) here = asked_eof_stage R V rs h eof s s.stage here
 
 -- ---- ACK and Prompt
@@ -474,7 +474,7 @@ covers_after : (entry : Entry) (low i : ℕ) → continues entry.received low �
     (gaps entry)
 covers_after entry zero i h from = ap (cover_count i) (from_zero (gaps entry))
 covers_after entry (suc at) i h from =
-    covers_from (gaps entry) at i (λ inside. both_of (is_some (octet_at entry.received at)) (ap is_some (in_gap entry entry.phase at inside)) h) from
+    covers_from (gaps entry) at i (λ inside. both_ways (is_some (octet_at entry.received at)) (ap is_some (in_gap entry entry.phase at inside)) h) from
 
 pub exactly_missing : ExactlyMissing
 exactly_missing mib h entry low i some joined =

@@ -5,7 +5,7 @@ use Rattle.std.proofs.Common.{◌≡◌, ◌⊎◌, inl, inr, ℕ, ◌+◌, ◌<
 use Rattle.std.proofs.lemmas.Bool.{cond_both, cond-false, cases_Bool, le-leb, lt-ltb, le-ltb, eqb-true, ne_eqb}
 use Rattle.cfdp_status.specs.declared.transaction.TransactionId.{TransactionId}
 use Rattle.cfdp_directives.specs.Reading.{NakFields}
-use Rattle.cfdp_retransmission.specs.Coming.{continues, cover_count, one_if}
+use Rattle.cfdp_retransmission.specs.Coming.{continues, cover_count}
 use Rattle.cfdp_retransmission.specs.Naks.{SegmentRequest}
 use Rattle.cfdp_transactions.specs.Entry.{Entry, id_of, gaps, gaps_in, reach, awaited, progress}
 use Rattle.cfdp_transactions.specs.Received.{gaps_below}
@@ -16,6 +16,7 @@ use Rattle.cfdp_transactions.specs.World.{World, entry_of, index_of}
 use Rattle.cfdp_transactions.proofs.Received.OctetsAndGaps.{gaps_are_runs}
 use Rattle.cfdp_pdus.specs.Values.{FileDataFields}
 use Rattle.cfdp_pdus.specs.declared.header.Header.{Header}
+use Rattle.cfdp_pdus.specs.Bits.{one_if}
 use Rattle.cfdp_sessions.specs.Sessions.{SessionFields}
 use Rattle.cfdp_sessions.specs.declared.session.Stage.{Stage}
 use Rattle.cfdp_sessions.specs.declared.session.Stage.TheVariants.{Held, Known, Over, Waiting}

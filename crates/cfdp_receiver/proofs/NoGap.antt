@@ -2,7 +2,7 @@
 use Rattle.std.specs.Prelude.{nat_le, nat_lt, ◌==◌, is_some, slice_get}
 use Rattle.std.specs.List.{filter}
 use Rattle.std.proofs.Common.{◌≡◌, inl, inr, ℕ, zero, suc, ◌+◌, ◌<◌, ◌≤◌, Bool, true, false, not, ◌&&◌, ◌||◌, if◌then◌else◌, List, [], ◌∷◌, length, Option, Some, None, refl, sym, ap, subst, ◌∙◌, arith}
-use Rattle.std.proofs.lemmas.Bool.{cond_both, cond-true, cond-false, cases_Bool, cases_lt, ne_eqb}
+use Rattle.std.proofs.lemmas.Bool.{cond_both, cond-true, cond-false, cases_Bool, cases_lt, ne_eqb, both_ways}
 use Rattle.std.proofs.lemmas.Bool.Decides.{nat_tests}
 use Rattle.cfdp_actions.specs.Filestore.{Filestore}
 use Rattle.cfdp_directives.specs.Reading.{NakFields}
@@ -29,7 +29,7 @@ use Rattle.cfdp_receiver.specs.Due.{is_receiving_at}
 use Rattle.cfdp_receiver.specs.code.StateMachine.{begins_no_gap}
 use Rattle.cfdp_receiver.specs.Turning.{asks_at_once, asks_stage, gaps_at, is_immediate, progress_at}
 use Rattle.cfdp_receiver.proofs.OnlyKeepsData.{none_deferred}
-use Rattle.cfdp_receiver.proofs.Delivering.{neither, never_both, own_name, placed}
+use Rattle.cfdp_receiver.proofs.Delivering.{neither, own_name, placed}
 use Rattle.cfdp_retransmission.proofs.Losing.{brings_some}
 
 -- ---- octets
@@ -45,7 +45,7 @@ none_missing : (rs : Received) (at x : ℕ) (xs : List ℕ) (i : ℕ) → at ≤
 none_missing rs at x xs i from low high missing =
     let there = brings_some at (x ∷ xs) i (omega (arith, from, low)) (omega (arith, greatest_end rs at x xs, high, low)) in
     let none = (neither (octet_at rs i) (brought at (x ∷ xs) i) (sym (first_stays rs at (x ∷ xs) i) ∙ missing)).1 in
-    never_both (is_some (brought at (x ∷ xs) i)) there (ap is_some none)
+    both_ways (is_some (brought at (x ∷ xs) i)) (ap is_some none) there
 
 -- ---- gaps
 

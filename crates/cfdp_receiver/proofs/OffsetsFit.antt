@@ -1,6 +1,6 @@
 -- The offsets of a file that is received fit 32 bits, since its blocks fit the filestore.
 use Rattle.std.specs.Prelude.{replicate, unwrap_or, nat_le, if◌then◌else◌, All, IsTrue}
-use Rattle.std.proofs.Common.{◌≡◌, inl, inr, ℕ, ◌+◌, ◌-◌, ◌*◌, ◌^◌, ◌≤◌, ◌<◌, Bool, true, false, List, [], ◌∷◌, length, Option, Some, None, refl, sym, ap, subst, arith}
+use Rattle.std.proofs.Common.{◌≡◌, inl, inr, ℕ, ◌+◌, ◌-◌, ◌^◌, ◌≤◌, ◌<◌, Bool, true, false, List, [], ◌∷◌, length, Option, Some, None, refl, sym, ap, subst, arith}
 use Rattle.std.specs.Option.{option_map}
 use Rattle.std.specs.List.{filter}
 use Rattle.std.proofs.lemmas.Bool.{leb-true}
@@ -14,6 +14,8 @@ use Rattle.cfdp_retransmission.specs.Naks.{SegmentRequest}
 use Rattle.cfdp_states.specs.Alone.{stage}
 use Rattle.cfdp_states.proofs.NextItem.{blocks-le-peak}
 use Rattle.cfdp_actions.proofs.Weights.{blocks-stages}
+use Rattle.cfdp_actions.proofs.Growth.{blocks_of-zero}
+use Rattle.cfdp_actions.proofs.RowLaws.{blocks_of-fits}
 use Rattle.cfdp_transactions.specs.declared.phase.Phase.{Phase}
 use Rattle.cfdp_transactions.specs.declared.phase.Phase.TheVariants.{Receiving, Awaiting, Executing, Refused, Done, Ended}
 use Rattle.cfdp_transactions.specs.Entry.{Entry, takes_data, rest, gaps, gaps_in, reach, reach_in, progress, awaited}
@@ -26,14 +28,6 @@ use Rattle.cfdp_receiver.specs.code.StateMachine.{IsTaking}
 use Rattle.cfdp_receiver.specs.Turning.{progress_at, gaps_after}
 use Rattle.cfdp_transactions.proofs.Soundness.Needs.{data_live}
 use Rattle.cfdp_leases.proofs.Admitted.{some_is}
-
-blocks_fit : (n : ℕ) → n ≤ 120 * blocks_of n
-unfolding blocks_of
-blocks_fit n = omega arith
-
-no_blocks : blocks_of 0 ≡ 0
-unfolding blocks_of
-no_blocks = refl
 
 pub zeros : (n : ℕ) → length {A = ℕ} (replicate n 0) ≡ n
 zeros n = length-replicate n 0
@@ -58,8 +52,8 @@ small W id e sound few here taking =
     let grows = blocks-stages F e.slot x kept.slot in
     let empties = blocks-stages F e.slot [] kept.slot in
     let peaks = blocks-le-peak W.config.prefixes (stage F e.slot x) e.slot (rest e) in
-    let most : blocks_of (length x) ≤ 131072 = omega (arith, given, grows, empties, no_blocks, peaks, kept.promise.blocks, sound.room, few) in
-    let fits = blocks_fit (length x) in
+    let most : blocks_of (length x) ≤ 131072 = omega (arith, given, grows, empties, blocks_of-zero, peaks, kept.promise.blocks, sound.room, few) in
+    let fits = blocks_of-fits (length x) in
     (omega (arith, most, fits, kept.fits), omega (arith, most, fits, within W e e.phase refl taking kept.fits))
 
 pub fits_any : (large : Bool) (n : ℕ) → n < 2 ^ 32 → n < 256 ^ fss large

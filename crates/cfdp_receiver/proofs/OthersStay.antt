@@ -2,6 +2,7 @@
 use Rattle.std.specs.Prelude.{if◌then◌else◌}
 use Rattle.std.specs.List.{AllByRecursion}
 use Rattle.std.proofs.Common.{◌≡◌, ◌≢◌, Bool, true, false, ◌||◌, List, [], ◌∷◌, Option, Some, None, refl, sym, ap, ◌∙◌}
+use Rattle.std.proofs.lemmas.Bool.{both_ways}
 use Rattle.cfdp_status.specs.declared.transaction.TransactionId.{TransactionId}
 use Rattle.cfdp_leases.specs.Leases.{is_same}
 use Rattle.cfdp_pdus.specs.Values.{MetadataFields}
@@ -17,7 +18,7 @@ use Rattle.cfdp_transactions.specs.World.{World, next_runnable}
 use Rattle.cfdp_sessions.specs.Sessions.{SessionFields, session_id}
 use Rattle.cfdp_sessions.specs.declared.session.Stage.{Stage}
 use Rattle.cfdp_sessions.specs.declared.session.Stage.TheVariants.{Held, Known, Over as OverStage, Waiting}
-use Rattle.cfdp_sessions.proofs.Names.{both_of, found_name}
+use Rattle.cfdp_sessions.proofs.Names.{found_name}
 use Rattle.cfdp_receiver.specs.declared.mib.Handler.{Handler}
 use Rattle.cfdp_receiver.specs.declared.mib.Handler.TheVariants as handlers
 use Rattle.cfdp_receiver.specs.State.{State, Input, MetadataPdu, DataPdu, EofPdu, AckPdu, PromptPdu, OtherPdu, Expire, Work, Finish, CancelAsked, ForgetAsked, now_of, session_of, is_closed, is_full, at_of}
@@ -45,7 +46,7 @@ not_session id None es h = tt
 not_session id (Some s) es h = not_known id s.stage es h
 
 pub other_than : (n id : TransactionId) → is_same n id ≡ false → id ≢ n
-other_than n id other e = both_of (is_same n id) other (ap (is_same n) e ∙ same_itself n)
+other_than n id other e = both_ways (is_same n id) other (ap (is_same n) e ∙ same_itself n)
 
 not_metadata_stage : (id : TransactionId) (h : Header) (m : MetadataFields) (s : SessionFields) (stage : Stage) → id ≢ id_of h → session_id s ≡ id_of h →
     NotAbout id (Handing.metadata_in_stage h m s stage)

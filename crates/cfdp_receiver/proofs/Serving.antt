@@ -1,10 +1,9 @@
 -- Each timer that is due is served once.
 use Rattle.std.specs.Prelude.{if◌then◌else◌, nat_le}
 use Rattle.std.proofs.Common.{◌≡◌, ◌≢◌, inl, inr, ℕ, ◌+◌, ◌-◌, ◌≤◌, Bool, true, false, ◌&&◌, List, [], ◌∷◌, Option, Some, None, refl, sym, ap, ◌∙◌, arith}
-use Rattle.std.proofs.lemmas.Bool.{cond_both, cond-true, cond-false, cases_Bool, lt-ltb, lt-leb}
+use Rattle.std.proofs.lemmas.Bool.{cond_both, cond-true, cond-false, cases_Bool, lt-ltb, lt-leb, both_ways}
 use Rattle.cfdp_status.specs.declared.transaction.TransactionId.{TransactionId}
 use Rattle.cfdp_leases.specs.Leases.{is_same}
-use Rattle.cfdp_retransmission.specs.Coming.{one_if}
 use Rattle.cfdp_retransmission.specs.declared.timer.Expiry.{Expiry}
 use Rattle.cfdp_retransmission.specs.declared.timer.Expiry.TheVariants.{NotDue, Again, Limit}
 use Rattle.cfdp_retransmission.specs.declared.timer.Timer.{Timer}
@@ -13,7 +12,7 @@ use Rattle.cfdp_retransmission.proofs.Waiting.{Early, Due, Over, why}
 use Rattle.cfdp_sessions.specs.Sessions.{SessionFields, session_id, found, replaced, without_session, AreDistinct}
 use Rattle.cfdp_sessions.specs.declared.session.Stage.{Stage}
 use Rattle.cfdp_sessions.specs.declared.session.Stage.TheVariants.{Held, Known, Over as OverStage, Waiting}
-use Rattle.cfdp_sessions.proofs.Names.{both_of, no_some, IsMember, member_found}
+use Rattle.cfdp_sessions.proofs.Names.{no_some, IsMember, member_found}
 use Rattle.cfdp_transactions.specs.Config.{Config}
 use Rattle.cfdp_transactions.specs.Delivery.{checked, check_at}
 use Rattle.cfdp_transactions.specs.Ending.{cancelled, ended, ends}
@@ -43,6 +42,7 @@ use Rattle.cfdp_receiver.specs.Laws.{is_due, due_of, timers_due, ServedOnce}
 use Rattle.cfdp_receiver.proofs.FinishedSentAtMost.{stage_due, alive_due}
 use Rattle.cfdp_leases.proofs.Held.{same_itself}
 use Rattle.cfdp_leases.proofs.Admitted.{same_is}
+use Rattle.cfdp_pdus.specs.Bits.{one_if}
 
 -- ---- sums over sessions
 
@@ -73,7 +73,7 @@ first_is x xs s d (inr m) same =
 
 later_is : (x : SessionFields) (xs : List SessionFields) (s : SessionFields) → IsMember s (x ∷ xs) → is_same (session_id x) (session_id s) ≡ false →
     IsMember s xs
-later_is x xs s (inl e) other = absurd (both_of (is_same (session_id x) (session_id s)) other
+later_is x xs s (inl e) other = absurd (both_ways (is_same (session_id x) (session_id s)) other
     (ap (λ (y : SessionFields). is_same (session_id y) (session_id s)) e
     ∙ same_itself (session_id s)))
 later_is x xs s (inr m) other = m
@@ -228,7 +228,7 @@ alike_by R V t config entry =
     ap (λ (c : Config). due_at R t c.checks (at_of V t)) config ∙ ap (λ (o : Option Entry). due_at R t R.world.config.checks (at_stage t.stage o)) entry
 
 other_name : (t s : SessionFields) → is_same (session_id t) (session_id s) ≡ false → session_id t ≢ session_id s
-other_name t s other e = both_of (is_same (session_id t) (session_id s)) other (ap (λ (n : TransactionId). is_same n (session_id s)) e ∙ same_itself
+other_name t s other e = both_ways (is_same (session_id t) (session_id s)) other (ap (λ (n : TransactionId). is_same n (session_id s)) e ∙ same_itself
     (session_id s))
 
 alike_own : NextIsPromised → (R : State) (s : SessionFields) (es : List Event) → Sound R.world → Own es (session_id s) →

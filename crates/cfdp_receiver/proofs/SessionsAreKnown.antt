@@ -1,7 +1,7 @@
 -- A session is known exactly where the core has an entry of its name.
 use Rattle.std.specs.Prelude.{if◌then◌else◌, slice_get, is_some, ◌==◌}
 use Rattle.std.proofs.Common.{◌≡◌, inl, inr, ℕ, Bool, true, false, not, ◌&&◌, ◌||◌, List, [], ◌∷◌, ◌++◌, Option, Some, None, refl, sym, ap, subst, ◌∙◌}
-use Rattle.std.proofs.lemmas.Bool.{cond_both, cond-true, cond-false, cases_Bool}
+use Rattle.std.proofs.lemmas.Bool.{cond_both, cond-true, cond-false, cases_Bool, both_ways}
 use Rattle.cfdp_status.specs.declared.transaction.TransactionId.{TransactionId}
 use Rattle.cfdp_leases.specs.Leases.{is_same}
 use Rattle.cfdp_pdus.specs.Values.{MetadataFields, FileDataFields}
@@ -29,7 +29,7 @@ use Rattle.cfdp_retransmission.specs.declared.timer.Expiry.TheVariants.{Again}
 use Rattle.cfdp_sessions.specs.Sessions.{SessionFields, session_id, found, without_session, AreDistinct}
 use Rattle.cfdp_sessions.specs.declared.session.Stage.{Stage}
 use Rattle.cfdp_sessions.specs.declared.session.Stage.TheVariants.{Held, Known, Over as OverStage, Waiting}
-use Rattle.cfdp_sessions.proofs.Names.{both_of, found_name, gone, member_found, replaced_self}
+use Rattle.cfdp_sessions.proofs.Names.{found_name, gone, member_found, replaced_self}
 use Rattle.cfdp_receiver.specs.declared.answer.Became.TheVariants as became
 use Rattle.cfdp_receiver.specs.declared.answer.Word.TheVariants as words
 use Rattle.cfdp_receiver.specs.declared.mib.Handler.{Handler}
@@ -38,7 +38,7 @@ use Rattle.cfdp_receiver.specs.State.{State, begin, AnswerFields, Input, Metadat
 use Rattle.cfdp_receiver.specs.Due as Dues
 use Rattle.cfdp_receiver.specs.Handing as Handing
 use Rattle.cfdp_receiver.specs.Turning as Turning
-use Rattle.cfdp_receiver.specs.Laws.{nobody, due_name, session_name, touched_in, touched, is_known_session, knows, AreKnown, KnownIsEntry, is_work}
+use Rattle.cfdp_receiver.specs.Laws.{nobody, due_name, session_name, touched_in, touched, knows, AreKnown, KnownIsEntry, is_work}
 use Rattle.cfdp_receiver.proofs.Distinct.{distinct_after}
 use Rattle.cfdp_receiver.proofs.OthersStay.{other_than, others_keep_entries, run_sound}
 use Rattle.cfdp_receiver.proofs.TurnShapes.{others_stay}
@@ -47,6 +47,7 @@ use Rattle.cfdp_receiver.proofs.AnswerParts.{heard_name}
 use Rattle.cfdp_transactions.specs.Headline.{NextIsSound, NextIsPromised}
 use Rattle.cfdp_receiver.proofs.LimitsReached.{not_held}
 use Rattle.cfdp_receiver.proofs.Finishing.{waits_phase}
+use Rattle.cfdp_receiver.specs.Turning.{is_known}
 use Rattle.cfdp_leases.proofs.Held.{same_itself}
 use Rattle.cfdp_leases.proofs.Admitted.{same_is}
 
@@ -61,7 +62,7 @@ is_there W id = is_some (entry_of W id)
 
 -- an entry stays, but for Take
 stays_there : Laws → (W : World) (v : Event) → Sound W → is_take v ≡ false → is_there W (about v) ≡ true → is_there (next W v).0 (about v) ≡ true
-stays_there laws W v s other there = laws.only_take W v (about v) s (λ q. both_of (is_take v) other (ap is_take q)) there
+stays_there laws W v s other there = laws.only_take W v (about v) s (λ q. both_ways (is_take v) other (ap is_take q)) there
 
 -- ---- what is known, after one input
 
@@ -85,7 +86,7 @@ fits_keeps R id o a k = k.1 ∙ ap knows (sym k.0)
 -- the session changes, and is known exactly where the entry is there
 fits_put : (R : State) (id : TransactionId) (s : SessionFields) (es : List Event) (new : World → List Reply → SessionFields) (a : World → List Reply →
     AnswerFields) → session_of R id ≡ Some s →
-    ((V : World) (rs : List Reply) → session_id (new V rs) ≡ id) → is_there (run R.world es) id ≡ is_known_session
+    ((V : World) (rs : List Reply) → session_id (new V rs) ≡ id) → is_there (run R.world es) id ≡ is_known
     (new (run R.world es) (replies R.world es)).stage →
     Fits R id es (λ V rs. Turning.replaces_one R (new V rs) (a V rs))
 fits_put R id s es new a here name is =
@@ -102,18 +103,18 @@ fits_close R id s es a d name is = is ∙ ap knows (sym (ap (λ (n : Transaction
 -- an event of a session that is known leaves its entry there
 known_stays : Laws → (R : State) (s : SessionFields) (stage : Stage) (v : Event) → Sound R.world → s.stage ≡ stage → is_take v ≡ false → about v ≡ session_id s
     →
-    is_there R.world (session_id s) ≡ is_known_session s.stage →
-    is_there (run R.world (Handing.where_known stage (v ∷ []))) (session_id s) ≡ is_known_session s.stage
+    is_there R.world (session_id s) ≡ is_known s.stage →
+    is_there (run R.world (Handing.where_known stage (v ∷ []))) (session_id s) ≡ is_known s.stage
 known_stays laws R s Known v sound is kept of before =
-    let known : is_known_session s.stage ≡ true = ap is_known_session is in
+    let known : is_known s.stage ≡ true = ap is_known is in
     subst (λ (n : TransactionId). is_there (next R.world v).0 n ≡ true) of
     (stays_there laws R.world v sound kept (ap (is_there R.world) of ∙ before ∙ known)) ∙ sym known
 known_stays laws R s (Held eof) v sound is kept of before = before
 known_stays laws R s (OverStage ending) v sound is kept of before = before
 known_stays laws R s Waiting v sound is kept of before = before
 
-none_stays : (R : State) (s : SessionFields) (stage : Stage) → is_there R.world (session_id s) ≡ is_known_session s.stage →
-    is_there (run R.world (Handing.where_known stage [])) (session_id s) ≡ is_known_session s.stage
+none_stays : (R : State) (s : SessionFields) (stage : Stage) → is_there R.world (session_id s) ≡ is_known s.stage →
+    is_there (run R.world (Handing.where_known stage [])) (session_id s) ≡ is_known s.stage
 none_stays R s (Held eof) before = before
 none_stays R s Known before = before
 none_stays R s (OverStage ending) before = before
@@ -124,7 +125,7 @@ heard_stage R V s = cond_both (Turning.is_news R.world V s) (record s { timer = 
     (λ e. refl)
 
 -- a stage that is known where there is an entry
-stage_in_is : (o : Option Entry) (sent : Bool) (fault : ℕ) → is_some o ≡ is_known_session (Turning.stage_in o sent fault)
+stage_in_is : (o : Option Entry) (sent : Bool) (fault : ℕ) → is_some o ≡ is_known (Turning.stage_in o sent fault)
 stage_in_is None sent fault = refl
 stage_in_is (Some e) sent fault = refl
 
@@ -146,7 +147,7 @@ added_found (x ∷ xs) new id name none = added_by x xs new id (is_same (session
 
 fits_add : (R : State) (id : TransactionId) (es : List Event) (new : World → List Reply → SessionFields) (a : World → List Reply → AnswerFields) →
     session_of R id ≡ None →
-    ((V : World) (rs : List Reply) → session_id (new V rs) ≡ id) → is_there (run R.world es) id ≡ is_known_session
+    ((V : World) (rs : List Reply) → session_id (new V rs) ≡ id) → is_there (run R.world es) id ≡ is_known
     (new (run R.world es) (replies R.world es)).stage →
     Fits R id es (λ V rs. Turning.adds R (new V rs) (a V rs))
 fits_add R id es new a none name is =
@@ -180,11 +181,11 @@ fits_metadata_stage laws R h m s (Held eof) sound k is =
     (fits_keeps R (id_of h) (Some s) (Turning.said_word s words.Idle) k)
 fits_metadata_stage laws R h m s Known sound k is =
     let name = found_name R.sessions (id_of h) s k.0 in
-    let known : is_known_session s.stage ≡ true = ap is_known_session is in
+    let known : is_known s.stage ≡ true = ap is_known is in
     let before : is_there R.world (id_of h) ≡ true = k.1 ∙ known in
     fits_put R (id_of h) s (MetadataCame h m ∷ []) (λ V rs. Turning.heard_session R V s) (λ V rs. Turning.quiet (Turning.became_reply (id_of h) rs)) k.0
     (λ V rs. heard_name R V s ∙ name)
-    (stays_there laws R.world (MetadataCame h m) sound refl before ∙ sym known ∙ ap is_known_session
+    (stays_there laws R.world (MetadataCame h m) sound refl before ∙ sym known ∙ ap is_known
     (sym (heard_stage R (run R.world (MetadataCame h m ∷ [])) s)))
 fits_metadata_stage laws R h m s (OverStage ending) sound k is = fits_keeps R (id_of h) (Some s) (Turning.said_word s words.Duplicate) k
 fits_metadata_stage laws R h m s Waiting sound k is = fits_keeps R (id_of h) (Some s) (Turning.said_word s words.Duplicate) k
@@ -206,15 +207,15 @@ fits_heard : Laws → (R : State) (id : TransactionId) (s : SessionFields) (v : 
     Fits R id (v ∷ []) (λ V rs. Turning.replaces_one R (Turning.heard_session R V s) (a V rs))
 fits_heard laws R id s v a sound k is kept of =
     let name = found_name R.sessions id s k.0 in
-    let known : is_known_session s.stage ≡ true = ap is_known_session is in
+    let known : is_known s.stage ≡ true = ap is_known is in
     let now : is_there (next R.world v).0 id ≡ true =
     subst (λ (n : TransactionId). is_there (next R.world v).0 n ≡ true) of (stays_there laws R.world v sound kept (ap (is_there R.world) of ∙ k.1 ∙ known)) in
     fits_put R id s (v ∷ []) (λ V rs. Turning.heard_session R V s) a k.0 (λ V rs. heard_name R V s ∙ name)
-    (now ∙ sym known ∙ ap is_known_session (sym (heard_stage R (run R.world (v ∷ [])) s)))
+    (now ∙ sym known ∙ ap is_known (sym (heard_stage R (run R.world (v ∷ [])) s)))
 
 fits_data_stage : Laws → (R : State) (h : Header) (piece : FileDataFields) (s : SessionFields) (stage : Stage) → Sound R.world → Knows R (id_of h) (Some s) →
     s.stage ≡ stage →
-    Fits R (id_of h) (Handing.where_known stage (DataCame h piece ∷ [])) (λ V rs. if Turning.is_known stage then Turning.takes_piece R V rs h piece s
+    Fits R (id_of h) (Handing.where_known stage (DataCame h piece ∷ [])) (λ V rs. if is_known stage then Turning.takes_piece R V rs h piece s
     else Turning.keeps R (Turning.said_word s words.Idle))
 fits_data_stage laws R h piece s (Held eof) sound k is = fits_keeps R (id_of h) (Some s) (Turning.said_word s words.Idle) k
 fits_data_stage laws R h piece s Known sound k is = fits_heard laws R (id_of h) s (DataCame h piece)
@@ -232,8 +233,8 @@ fits_none_if : (R : State) (id : TransactionId) (b : Bool) (p q : Turning.Parts)
 fits_none_if R id true p q hp hq = hp
 fits_none_if R id false p q hp hq = hq
 
-fits_over : (R : State) (id : TransactionId) (s new : SessionFields) (a : AnswerFields) → Knows R id (Some s) → session_id new ≡ id → is_known_session s.stage
-    ≡ is_known_session new.stage → Fits R id [] (λ V rs. Turning.replaces_one R new a)
+fits_over : (R : State) (id : TransactionId) (s new : SessionFields) (a : AnswerFields) → Knows R id (Some s) → session_id new ≡ id → is_known s.stage
+    ≡ is_known new.stage → Fits R id [] (λ V rs. Turning.replaces_one R new a)
 fits_over R id s new a k name same = fits_put R id s [] (λ V rs. new) (λ V rs. a) k.0 (λ V rs. name) (k.1 ∙ same)
 
 fits_eof_stage : Laws → (R : State) (h : Header) (eof : Eof) (s : SessionFields) (stage : Stage) → Sound R.world → Knows R (id_of h) (Some s) → s.stage
@@ -243,7 +244,7 @@ fits_eof_stage laws R h eof s (Held kept) sound k is =
     fits_none_if R (id_of h) (eof.condition == 0) (Turning.keeps R (Turning.acks_only h eof Active words.Duplicate))
     (Turning.replaces_one R (Turning.ended_by h eof s) (Turning.acks_only h eof Active words.Faulted))
     (fits_keeps R (id_of h) (Some s) silent k)
-    (fits_over R (id_of h) s (Turning.ended_by h eof s) silent k (found_name R.sessions (id_of h) s k.0) (ap is_known_session is))
+    (fits_over R (id_of h) s (Turning.ended_by h eof s) silent k (found_name R.sessions (id_of h) s k.0) (ap is_known is))
 fits_eof_stage laws R h eof s Known sound k is = fits_heard laws R (id_of h) s (EofCame h eof)
     (λ V rs. (Turning.eof_stage R V rs h eof s Known).answer) sound k is refl refl
 fits_eof_stage laws R h eof s (OverStage ending) sound k is = fits_keeps R (id_of h) (Some s) silent k
@@ -269,7 +270,7 @@ fits_ack_stage R h ack s (OverStage ending) d k is = fits_keeps R (id_of h) (Som
 fits_ack_stage R h ack s Waiting d k is =
     fits_none_if R (id_of h) (ack.directive == 5) (Turning.closes R (session_id s) (Turning.said_of_header h words.Acknowledged))
     (Turning.keeps R (Turning.said_of_header h words.Idle))
-    (fits_close R (id_of h) s [] (λ V rs. Turning.said_of_header h words.Acknowledged) d (found_name R.sessions (id_of h) s k.0) (k.1 ∙ ap is_known_session is))
+    (fits_close R (id_of h) s [] (λ V rs. Turning.said_of_header h words.Acknowledged) d (found_name R.sessions (id_of h) s k.0) (k.1 ∙ ap is_known is))
     (fits_keeps R (id_of h) (Some s) silent k)
 
 fits_ack : (R : State) (h : Header) (ack : Ack) (o : Option SessionFields) → AreDistinct R.sessions → Knows R (id_of h) o →
@@ -278,10 +279,10 @@ fits_ack R h ack None d k = fits_keeps R (id_of h) None silent k
 fits_ack R h ack (Some s) d k = fits_ack_stage R h ack s s.stage d k refl
 
 roused_is : (R : State) (s : SessionFields) → (session_id (Turning.roused R s) ≡ session_id s) ×
-    (is_known_session s.stage ≡ is_known_session (Turning.roused R s).stage)
+    (is_known s.stage ≡ is_known (Turning.roused R s).stage)
 roused_is R s =
     cond_both (Dues.is_receiving_at (at_of R.world s)) (record s { timer = restarted R.now }) s (λ (t : SessionFields). (session_id t ≡ session_id s)
-    × (is_known_session s.stage ≡ is_known_session t.stage)) (λ e. (refl, refl)) (λ e. (refl, refl))
+    × (is_known s.stage ≡ is_known t.stage)) (λ e. (refl, refl)) (λ e. (refl, refl))
 
 fits_prompt : (R : State) (h : Header) (prompt : Prompt) (o : Option SessionFields) → Knows R (id_of h) o →
     Fits R (id_of h) [] (λ V rs. Turning.prompt_parts R h prompt o)
@@ -296,9 +297,9 @@ fits_prompt R h prompt (Some s) k =
 fits_cancel_stage : Laws → (R : State) (id : TransactionId) (s : SessionFields) (stage : Stage) → Sound R.world → Knows R id (Some s) → s.stage ≡ stage →
     Fits R id (Handing.where_known stage (Cancel id ∷ [])) (λ V rs. Turning.cancel_stage R rs s stage)
 fits_cancel_stage laws R id s (Held eof) sound k is = fits_over R id s (Turning.over_here R s 15) silent k (found_name R.sessions id s k.0)
-    (ap is_known_session is)
+    (ap is_known is)
 fits_cancel_stage laws R id s Known sound k is =
-    let known : is_known_session s.stage ≡ true = ap is_known_session is in
+    let known : is_known s.stage ≡ true = ap is_known is in
     stays_there laws R.world (Cancel id) sound refl (k.1 ∙ known) ∙ sym known ∙ ap knows (sym k.0)
 fits_cancel_stage laws R id s (OverStage ending) sound k is = fits_keeps R id (Some s) silent k
 fits_cancel_stage laws R id s Waiting sound k is = fits_keeps R id (Some s) silent k
@@ -310,14 +311,14 @@ fits_cancel laws R id (Some s) sound k = fits_cancel_stage laws R id s s.stage s
 
 -- ---- timers
 
-check_stays : Laws → (R : State) (s : SessionFields) (b : Bool) → Sound R.world → is_there R.world (session_id s) ≡ is_known_session s.stage →
-    is_there (run R.world (Handing.where_known s.stage (if b then Check (session_id s) ∷ [] else []))) (session_id s) ≡ is_known_session s.stage
+check_stays : Laws → (R : State) (s : SessionFields) (b : Bool) → Sound R.world → is_there R.world (session_id s) ≡ is_known s.stage →
+    is_there (run R.world (Handing.where_known s.stage (if b then Check (session_id s) ∷ [] else []))) (session_id s) ≡ is_known s.stage
 check_stays laws R s true sound before = known_stays laws R s s.stage (Check (session_id s)) sound refl refl refl before
 check_stays laws R s false sound before = none_stays R s s.stage before
 
 limit_stays : Laws → (R : State) (s : SessionFields) (checks : Bool) (how : Handler) → Sound R.world → is_there R.world (session_id s)
-    ≡ is_known_session s.stage →
-    is_there (run R.world (Handing.where_known s.stage (Handing.limit_events (session_id s) checks how))) (session_id s) ≡ is_known_session s.stage
+    ≡ is_known s.stage →
+    is_there (run R.world (Handing.where_known s.stage (Handing.limit_events (session_id s) checks how))) (session_id s) ≡ is_known s.stage
 limit_stays laws R s checks handlers.Ignore sound before = none_stays R s s.stage before
 limit_stays laws R s true handlers.Cancel sound before = known_stays laws R s s.stage (Check (session_id s)) sound refl refl refl before
 limit_stays laws R s false handlers.Cancel sound before = known_stays laws R s s.stage (Cancel (session_id s)) sound refl refl refl before
@@ -325,14 +326,14 @@ limit_stays laws R s true handlers.Abandon sound before = known_stays laws R s s
 limit_stays laws R s false handlers.Abandon sound before = known_stays laws R s s.stage (Cancel (session_id s)) sound refl refl refl before
 
 -- by how far it is: a session that is held or waits is not known
-at_held : (stage : Stage) (o : Option Entry) → at_stage stage o ≡ At_held → is_known_session stage ≡ false
+at_held : (stage : Stage) (o : Option Entry) → at_stage stage o ≡ At_held → is_known stage ≡ false
 at_held (Held eof) o e = refl
 at_held Known None e = absurd cc
 at_held Known (Some entry) e = absurd (not_held entry.phase e)
 at_held (OverStage ending) o e = refl
 at_held Waiting o e = refl
 
-at_waits : (stage : Stage) (o : Option Entry) → at_stage stage o ≡ At_waiting → is_known_session stage ≡ false
+at_waits : (stage : Stage) (o : Option Entry) → at_stage stage o ≡ At_waiting → is_known stage ≡ false
 at_waits (Held eof) o e = refl
 at_waits Known None e = absurd cc
 at_waits Known (Some entry) e = absurd (waits_phase entry.phase e)
@@ -343,7 +344,7 @@ at_waits Waiting o e = refl
 gives_by : (R : State) (s : SessionFields) (condition : ℕ) (how : Handler) (at : JointPhase) (es : List Event) → AreDistinct R.sessions → Knows R (session_id s)
     (Some s) →
     at_of R.world s ≡ at →
-    is_there (run R.world es) (session_id s) ≡ is_known_session s.stage → Fits R (session_id s) es (λ V rs. Turning.gives_up R s condition how at)
+    is_there (run R.world es) (session_id s) ≡ is_known s.stage → Fits R (session_id s) es (λ V rs. Turning.gives_up R s condition how at)
 gives_by R s condition handlers.Ignore at es d k is now = fits_put R (session_id s) s es (λ V rs. record s { timer = restarted R.now }) (λ V rs. silent) k.0
     (λ V rs. refl) now
 gives_by R s condition handlers.Cancel At_waiting es d k is now = fits_close R (session_id s) s es (λ V rs. silent) d refl (now
@@ -419,15 +420,15 @@ taken_there laws R s None sound here over = ap (λ (x : Option Entry). is_there 
 taken_there laws R s (Some e) sound here over = ap is_some (laws.takes R.world (session_id s) e sound here (phase_over e.phase over))
 
 finish_there : Laws → (R : State) (s : SessionFields) (stage : Stage) → Sound R.world → s.stage ≡ stage → is_there R.world (session_id s)
-    ≡ is_known_session s.stage →
+    ≡ is_known s.stage →
     Dues.is_over (at_of R.world s) ≡ true →
     is_there (run R.world (Handing.where_known stage (Take (session_id s) ∷ []))) (session_id s) ≡ false
-finish_there laws R s (Held eof) sound is before over = before ∙ ap is_known_session is
+finish_there laws R s (Held eof) sound is before over = before ∙ ap is_known is
 finish_there laws R s Known sound is before over =
     taken_there laws R s (entry_of R.world (session_id s)) sound refl (ap (λ (stage : Stage). Dues.is_over (at_stage stage (entry_of R.world (session_id s))))
     (sym is) ∙ over)
-finish_there laws R s (OverStage ending) sound is before over = before ∙ ap is_known_session is
-finish_there laws R s Waiting sound is before over = before ∙ ap is_known_session is
+finish_there laws R s (OverStage ending) sound is before over = before ∙ ap is_known is
+finish_there laws R s Waiting sound is before over = before ∙ ap is_known is
 
 fits_same_if : (R : State) (id : TransactionId) (es : List Event) (b : Bool) (p q : Turning.Parts) → Fits R id es (λ V rs. p) → Fits R id es (λ V rs. q) →
     Fits R id es (λ V rs. if b then p else q)

@@ -9,9 +9,9 @@ use Rattle.cfdp_transactions.specs.declared.phase.Phase.{Phase}
 use Rattle.cfdp_transactions.specs.declared.phase.Phase.TheVariants.{Receiving, Awaiting, Executing, Refused, Done, Ended}
 use Rattle.cfdp_transactions.specs.World.{entry_of}
 use Rattle.cfdp_receiver.specs.State.{State, session_of, at_of, at_phase, at_stage}
-use Rattle.cfdp_receiver.specs.Laws.{AreKnown, is_known_session, knows}
+use Rattle.cfdp_receiver.specs.Laws.{AreKnown, knows}
 use Rattle.cfdp_receiver.specs.code.StateMachine.{IsTaking}
-use Rattle.cfdp_receiver.specs.Turning.{takes_prompts}
+use Rattle.cfdp_receiver.specs.Turning.{takes_prompts, is_known}
 
 none_taken : (entry : Option Entry) → is_some entry ≡ false → IsTaking entry
 none_taken None e = tt
@@ -25,7 +25,7 @@ by_phase e Refused is takes = absurd cc
 by_phase e Done is takes = absurd cc
 by_phase e (Ended condition) is takes = absurd cc
 
-by_stage : (stage : Stage) (entry : Option Entry) → (is_some entry ≡ is_known_session stage) → takes_prompts (at_stage stage entry) ≡ true → IsTaking entry
+by_stage : (stage : Stage) (entry : Option Entry) → (is_some entry ≡ is_known stage) → takes_prompts (at_stage stage entry) ≡ true → IsTaking entry
 by_stage (Held eof) entry known takes = none_taken entry known
 by_stage Known None known takes = absurd cc
 by_stage Known (Some e) known takes = by_phase e e.phase refl takes

@@ -2,7 +2,7 @@
 use Rattle.std.specs.Prelude.{⊤, nat_le}
 use Rattle.std.proofs.Common.{◌≡◌, ◌⊎◌, inl, inr, ℕ, zero, suc, ◌≤◌, length, take, Bool, true, false, not, ◌&&◌, ◌||◌, ◌==◌, if◌then◌else◌, List, [], ◌∷◌, ◌++◌, Option, Some, None, refl, sym, ap, subst, ◌∙◌, append_assoc, arith}
 use Rattle.std.proofs.lemmas.List.{append-nil}
-use Rattle.std.proofs.lemmas.Bool.{cond_both, cases_Bool, or_left, or_right, or_cases, or_parts, le-leb}
+use Rattle.std.proofs.lemmas.Bool.{cond_both, cases_Bool, or_left, or_right, or_cases, or_parts, le-leb, false≢true}
 use Rattle.std.specs.List.{list_any}
 use Rattle.cfdp_status.specs.declared.transaction.TransactionId.{TransactionId}
 use Rattle.cfdp_leases.specs.Leases.{is_same}
@@ -373,9 +373,6 @@ taken_is (suc n) (x ∷ xs) id h = elim (or_cases (is_same x id) (closed_in (tak
   | inr later ↦ or_right (is_same x id) (closed_in xs id) (taken_is n xs id later)
 ]
 
-none_of_none : false ≡ true → ⊥
-none_of_none e = absurd cc
-
 -- R is the state after these inputs, from R0 on
 had_by : (R0 R : State) (inputs : List Input) (i : Input) (t : TransactionId) (p : Turning.Parts) → R.sessions ≡ (Turning.after_all R0 inputs).sessions →
     Shape R t p → Had R0 inputs R.closed.names → Had R0 (inputs ++ i ∷ []) p.closed.names
@@ -398,7 +395,7 @@ had_by R0 R inputs i t p same (Closes a was e) had id closed =
       | inr later ↦ had_more R0 inputs i id (had id later)
     ]
 had_by R0 R inputs i t p same (Forgets a e) had id closed =
-    absurd (none_of_none (sym (ap (λ (q : Turning.Parts). closed_in q.closed.names id) e) ∙ closed))
+    absurd (false≢true (sym (ap (λ (q : Turning.Parts). closed_in q.closed.names id) e) ∙ closed))
 
 had_all : (R0 : State) (done inputs : List Input) → Had R0 done (Turning.after_all R0 done).closed.names →
     Had R0 (done ++ inputs) (Turning.after_all R0 (done ++ inputs)).closed.names

@@ -48,13 +48,14 @@ use Rattle.cfdp_leases.specs.Leases.{is_same}
 use Rattle.cfdp_directives.specs.declared.ack.TransactionStatus.TheVariants.{Terminated, Unrecognized}
 use Rattle.cfdp_directives.specs.Reading.{NakFields}
 use Rattle.cfdp_directives.specs.declared.ack.Ack.{Ack}
-use Rattle.cfdp_retransmission.specs.Coming.{Piece, AreAllKept, BringsMissing, continues, cover_count, one_if}
+use Rattle.cfdp_retransmission.specs.Coming.{Piece, AreAllKept, BringsMissing, continues, cover_count}
 use Rattle.cfdp_retransmission.specs.declared.timer.Expiry.{Expiry}
 use Rattle.cfdp_retransmission.specs.declared.timer.Expiry.TheVariants.{NotDue, Again, Limit}
 use Rattle.cfdp_pdus.specs.Values.{MetadataFields}
 use Rattle.cfdp_pdus.specs.declared.header.Header.{Header}
 use Rattle.cfdp_pdus.specs.declared.eof.Eof.{Eof}
 use Rattle.cfdp_pdus.specs.Codes.{no_error, file_checksum_failure, finished_code}
+use Rattle.cfdp_pdus.specs.Bits.{one_if}
 use Rattle.cfdp_sessions.specs.Sessions.{SessionFields, session_id, AreDistinct}
 use Rattle.cfdp_sessions.specs.declared.session.Ending.{Ending}
 use Rattle.cfdp_sessions.specs.declared.session.Stage.{Stage}
@@ -76,7 +77,7 @@ use Rattle.cfdp_receiver.specs.declared.mib.Mib.{Mib}
 use Rattle.cfdp_receiver.specs.State.{State, begin, Input, MetadataPdu, DataPdu, EofPdu, AckPdu, PromptPdu, OtherPdu, Expire, Work, Finish, CancelAsked, ForgetAsked, now_of, status_of, session_of, is_closed, is_full}
 use Rattle.cfdp_receiver.specs.Due.{Due, Nothing_due, Stage_due, Alive_due, IsSet, expiry_of, is_alive_due, first_due, first_over}
 use Rattle.cfdp_receiver.specs.Handing.{is_ours, later, handed}
-use Rattle.cfdp_receiver.specs.Turning.{outcome_for, most_nak_requests, sequence, all_of, gaps_after, progress_at, is_immediate, parts, after_input, after_all, all_handed, acked}
+use Rattle.cfdp_receiver.specs.Turning.{outcome_for, most_nak_requests, sequence, all_of, gaps_after, progress_at, is_immediate, parts, after_input, after_all, all_handed, acked, is_known}
 
 abbrev pub HandsOn : Type 0
 HandsOn = (R : State) (inputs : List Input) → (after_all R inputs).world ≡ run R.world (all_handed R inputs)
@@ -145,13 +146,9 @@ UnrecognizedIsTrue =
     (R : State) (s : SessionFields) (id : TransactionId) (inputs : List Input) → session_of R id ≡ Some s →
     status_of (after_all R inputs) id ≢ Unrecognized
 
-abbrev pub is_known_session : Stage → Bool
-is_known_session Known = true
-is_known_session stage = false
-
 abbrev pub knows : Option SessionFields → Bool
 knows None = false
-knows (Some s) = is_known_session s.stage
+knows (Some s) = is_known s.stage
 
 abbrev pub AreKnown : State → Type 0
 AreKnown R = (id : TransactionId) → is_some (entry_of R.world id) ≡ knows (session_of R id)

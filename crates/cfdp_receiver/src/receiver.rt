@@ -69,6 +69,9 @@ pub enum NotWritten {
 /// Contracts see its state, of which each call makes one turn; no two of its sessions have one name, a session is known
 /// exactly where the core has an entry, and no transaction that is closed and remembered has a session
 /// ([`Receiver::whole`]).
+///
+/// The longest calls are those of [`Entity`] for the same event. What a receiver adds to them is small: some passes
+/// over the sessions of at most 64 transactions, and its timers. `docs/C.md`, 'The longest calls', has the figures.
 #[derive(Drop)]
 pub struct Receiver {
     machine: StateMachine,

@@ -3,11 +3,12 @@ use Rattle.std.proofs.Common.{◌≡◌, ◌⊎◌, inl, inr, ℕ, zero, suc, �
 use Rattle.std.specs.Prelude.{if◌then◌else◌, ◌&&◌, nat_le, nat_lt, Bool, true, false, Option, Some, None, is_some}
 use Rattle.std.proofs.lemmas.Bool.{cases_lt, lt-ltb, le-ltb}
 use Rattle.cfdp_transactions.specs.Received.{Received, kept_with, brought, pieces, pieces_from, gaps_below}
-use Rattle.cfdp_retransmission.specs.Coming.{Piece, keep, keep_all, AreAllKept, brings, BringsMissing, continues, AreJoined, zero_missing, AnsweredIsWhole, AnsweredInOrder, one_if, cover_count, AskedOnce, NotAsked}
+use Rattle.cfdp_retransmission.specs.Coming.{Piece, keep, keep_all, AreAllKept, brings, BringsMissing, continues, AreJoined, zero_missing, AnsweredIsWhole, AnsweredInOrder, cover_count, AskedOnce, NotAsked}
 use Rattle.cfdp_transactions.specs.ReceivedLaws.{octet_at, or_offset, IsIn, AreRuns}
 use Rattle.cfdp_retransmission.proofs.Sequences.{asks_for_all}
 use Rattle.std.proofs.lemmas.Bool.{le-leb, lt-leb}
 use Rattle.cfdp_transactions.proofs.Received.OctetsAndGaps.{first_stays, gaps_are_missing, gaps_are_runs, fewer_pieces}
+use Rattle.cfdp_pdus.specs.Bits.{one_if}
 
 -- all of it is kept --------------------------------------------------------------------
 

@@ -8,12 +8,13 @@ use Rattle.cfdp_transactions.specs.Received.{Received, kept_with, brought, piece
 use Rattle.cfdp_transactions.specs.ReceivedLaws.{octet_at, IsIn, AreRuns}
 use Rattle.cfdp_transactions.proofs.Received.OctetsAndGaps.{first_stays, gaps_are_missing, gaps_are_runs}
 use Rattle.cfdp_retransmission.specs.Naks.{SegmentRequest, Nak, naks}
-use Rattle.cfdp_retransmission.specs.Coming.{Piece, keep, keep_all, continues, zero_missing, one_if, all_asked}
+use Rattle.cfdp_retransmission.specs.Coming.{Piece, keep, keep_all, continues, zero_missing, all_asked}
 use Rattle.cfdp_retransmission.specs.Rounds.{Asking, Sending, Exchange, heard_requests, Covers, AnswersInOrder, IsExchange, arrived, lost, is_any_lost, lost_of, kept_after_round, asked_for, AreRounds, after_rounds, lost_in, spare_round, WholeAfterLosses}
 use Rattle.cfdp_retransmission.proofs.Sequences.{asks_for_all}
 use Rattle.cfdp_retransmission.proofs.Arriving.{kept_is, stays, room, whole_from, comes}
 use Rattle.cfdp_retransmission.proofs.Losing.{holes, few_parts, no_hole, brings_some, spare_is, no_spare, covers_rise, arrived_both, lost_both, from_start, in_rest, there_or_not, one_round}
 use Rattle.cfdp_transactions.proofs.Soundness.Receiving.{kept_within}
+use Rattle.cfdp_pdus.specs.Bits.{one_if}
 
 -- ---- the requests that are heard
 

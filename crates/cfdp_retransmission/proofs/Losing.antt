@@ -7,11 +7,13 @@ use Rattle.cfdp_transactions.specs.Received.{Received, kept_with, brought, piece
 use Rattle.cfdp_transactions.specs.ReceivedLaws.{octet_at, or_offset, IsIn, AreRuns}
 use Rattle.cfdp_transactions.proofs.Received.OctetsAndGaps.{first_stays, gaps_are_missing, gaps_are_runs}
 use Rattle.cfdp_retransmission.specs.Naks.{SegmentRequest}
-use Rattle.cfdp_retransmission.specs.Coming.{Piece, keep, keep_all, zero_missing, one_if}
+use Rattle.cfdp_retransmission.specs.Coming.{Piece, keep, keep_all, zero_missing}
 use Rattle.cfdp_retransmission.specs.Rounds.{Sending, Covers, AnswersInOrder, arrived, lost, spare_round}
 use Rattle.cfdp_retransmission.proofs.Arriving.{room, joins, comes}
 use Rattle.cfdp_transactions.proofs.Soundness.Receiving.{kept_within}
 use Rattle.cfdp_transactions.proofs.Received.Writing.{brought_before}
+use Rattle.cfdp_pdus.specs.Bits.{one_if}
+use Rattle.cfdp_pdus.proofs.CanonicalSteps.{one_if-small}
 
 -- `before`: the offset before was received, or there is none
 abbrev pub holes_from : Bool → ℕ → Received → ℕ
@@ -69,10 +71,6 @@ begins_not_there rs (suc i) h = and_right (is_some (octet_at rs i)) (not (is_som
 begins_not_inside : (rs : Received) (i : ℕ) → is_some (octet_at rs i) ≡ false → begins_from true rs (suc i) ≡ false
 begins_not_inside rs i h = and_left (is_some (octet_at rs i)) (not (is_some (octet_at rs (suc i)))) h
 
-one_at_most : (b : Bool) → one_if b ≤ 1
-one_at_most true = omega arith
-one_at_most false = omega arith
-
 begins_same : (rs ts : Received) (i : ℕ) → ((j : ℕ) → j < suc i → is_some (octet_at rs j) ≡ is_some (octet_at ts j)) → begins_from true rs i
     ≡ begins_from true ts i
 begins_same rs ts zero same = ap not (same 0 (omega arith))
@@ -117,7 +115,7 @@ over_missing rs x (suc l) h =
 
 over_missing_most : (rs : Received) (x l : ℕ) → ((i : ℕ) → x ≤ i → i < x + l → is_some (octet_at rs i) ≡ false) → holes (on l x) rs ≤ holes x rs + 1
 over_missing_most rs x zero h = omega arith
-over_missing_most rs x (suc l) h = omega (arith, over_missing rs x l h, one_at_most (begins_from true rs x))
+over_missing_most rs x (suc l) h = omega (arith, over_missing rs x l h, one_if-small (begins_from true rs x))
 
 -- a hole that began before goes on
 over_missing_on : (rs : Received) (x l : ℕ) → is_some (octet_at rs x) ≡ false → ((i : ℕ) → suc x ≤ i → i < suc x + suc l → is_some (octet_at rs i) ≡ false) →

@@ -17,6 +17,7 @@ use Rattle.std.specs.List.{flat_map}
 use Rattle.cfdp_transactions.specs.Received.{Received, kept_with, brought, pieces, gaps_below}
 use Rattle.cfdp_transactions.specs.ReceivedLaws.{octet_at}
 use Rattle.cfdp_retransmission.specs.Naks.{naks}
+use Rattle.cfdp_pdus.specs.Bits.{one_if}
 
 abbrev pub Piece : Type 0
 Piece = ℕ × List ℕ
@@ -59,10 +60,6 @@ AnsweredInOrder =
     (limit : ℕ) (rs : Received) (ps : List Piece) → pieces rs + zero_missing rs ≤ 32 → AreJoined rs ps →
     BringsMissing limit rs ps →
     gaps_below limit (keep_all rs ps) ≡ []
-
-abbrev pub one_if : Bool → ℕ
-one_if true = 1
-one_if false = 0
 
 abbrev pub cover_count : ℕ → List (ℕ × ℕ) → ℕ
 cover_count i [] = 0

@@ -20,7 +20,8 @@
 use Rattle.std.specs.Prelude.{◌≡◌, ⊤, ℕ, ◌+◌, ◌≤◌, ◌<◌, Bool, false, ◌||◌, if◌then◌else◌, nat_le, List, [], ◌∷◌, ◌++◌, map, length}
 use Rattle.cfdp_transactions.specs.Received.{Received, pieces, gaps_below}
 use Rattle.cfdp_retransmission.specs.Naks.{SegmentRequest, naks}
-use Rattle.cfdp_retransmission.specs.Coming.{Piece, keep_all, zero_missing, one_if}
+use Rattle.cfdp_retransmission.specs.Coming.{Piece, keep_all, zero_missing}
+use Rattle.cfdp_pdus.specs.Bits.{one_if}
 
 pub record Asking : Type 0 where
   pub requests : List SegmentRequest

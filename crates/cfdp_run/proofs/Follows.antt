@@ -36,10 +36,6 @@ plays_more R i is N a M before lines text e l p =
           ∙ ap (λ (Q : State). before ++ (turn_text R i ++ played Q is)) to;
     }
 
-pub ends_both : (R : State) (is js : List Input) → after_all R (is ++ js) ≡ after_all (after_all R is) js
-ends_both R [] js = refl
-ends_both R (i ∷ is) js = ends_both (after_input R i) is js
-
 pub played_both : (R : State) (is js : List Input) → played R (is ++ js) ≡ played R is ++ played (after_all R is) js
 played_both R [] js = refl
 played_both R (i ∷ is) js = ap (λ (t : List ℕ). turn_text R i ++ t) (played_both (after_input R i) is js)

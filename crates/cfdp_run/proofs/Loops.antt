@@ -5,8 +5,9 @@ use Rattle.cfdp_transactions.specs.World.{next_runnable}
 use Rattle.cfdp_receiver.specs.Due.{first_over}
 use Rattle.cfdp_receiver.specs.State.{State, Input, Expire, Work, Finish}
 use Rattle.cfdp_receiver.specs.Turning.{after_input, after_all, parts}
+use Rattle.cfdp_receiver.proofs.AfterInputs.{after_both}
 use Rattle.cfdp_run.specs.Playing.{Plays, played, next_settled, settled_by, settling, settled_after, is_nothing, passing}
-use Rattle.cfdp_run.proofs.Follows.{ends_both, played_both}
+use Rattle.cfdp_run.proofs.Follows.{played_both}
 
 -- some inputs are left, from the state R: with what was written they end and write what all of them do
 pub record Left (R : State) (inputs : List Input) (start : State) (all : List Input) (before text : List ℕ) : Type 0 where
@@ -20,7 +21,7 @@ left_start R all text = record { ends = refl; writes = refl }
 pub left_next : (R : State) (some more : List Input) (start : State) (all : List Input) (before text : List ℕ) (N : State) (later : List ℕ) →
     Left R (some ++ more) start all before text → Plays R some N text later → Left N more start all before later
 left_next R some more start all before text N later h p = record {
-  ends = ap (λ (Q : State). after_all Q more) p.ends ∙ sym (ends_both R some more) ∙ h.ends;
+  ends = ap (λ (Q : State). after_all Q more) p.ends ∙ sym (after_both R some more) ∙ h.ends;
   writes =
       ap (λ (t : List ℕ). t ++ played N more) p.writes
       ∙ append_assoc text (played R some) (played N more)

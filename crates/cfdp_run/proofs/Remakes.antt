@@ -3,23 +3,18 @@ use Rattle.std.proofs.Common.{◌≡◌, ℕ, suc, ◌+◌, ◌<◌, ◌≤◌, 
 use Rattle.std.proofs.Math.Seq.{drop-cons}
 use Rattle.std.proofs.lemmas.List.{get_or-map, drop_all}
 use Rattle.std.specs.Prelude.{Some, None, replicate}
-use Rattle.std.specs.List.{AllByRecursion}
 use Rattle.std.specs.FinMap as finite
-use Rattle.std.specs.FinMap.{same_map}
-use Rattle.cfdp_paths.specs.Paths.{Path, path_cmp, is_at_or_below}
-use Rattle.cfdp_paths.proofs.Comparing.{path_cmp-total}
-use Rattle.cfdp_paths.proofs.InOrder.{path_antisym}
-use Rattle.cfdp_actions.specs.Filestore.{Node, Directory, Filestore, node_at, tree_at}
+use Rattle.cfdp_paths.specs.Paths.{Path}
+use Rattle.cfdp_actions.specs.Filestore.{Node, Directory, Filestore, node_at}
 use Rattle.cfdp_actions.specs.Store.{listing_entry, listing_of}
 use Rattle.cfdp_actions.specs.declared.kind.Entry.{Entry}
-use Rattle.cfdp_leases.proofs.ReadFrame.{get_kept}
-use Rattle.cfdp_leases.proofs.Rooted.{Of, tree_at-of}
 use Rattle.cfdp_transactions.specs.Beginning.{start_with, with_node, put_fault}
 use Rattle.cfdp_transactions.specs.Config.{Config}
 use Rattle.cfdp_transactions.specs.Restart.{put_all, CanPutAll, PutBackIsSame}
 use Rattle.cfdp_transactions.specs.Sound.{Sound}
 use Rattle.cfdp_transactions.specs.World.{World, start}
 use Rattle.cfdp_transactions.specs.Entry.{Entry as TableEntry}
+use Rattle.cfdp_transactions.proofs.Beginnings.PutBack.{each_of}
 use Rattle.cfdp_run.specs.code.Reconfigured.{CanCopy}
 use Rattle.cfdp_run.proofs.Puts.{put_all-config, can_put_all-config}
 use Rattle.cfdp_uploads.proofs.Found.{each_at}
@@ -57,19 +52,6 @@ pub leaves_next : (W V : World) (e : Path × Node) (es : List (Path × Node)) (e
 leaves_next W V e es end left put = subst (λ (U : World). Leaves U es end) (sym put) (record { can = left.can.1; leads = left.leads })
 
 -- ---- what is listed
-
-module _ (F : Filestore) where
-  all_kept : finite.retain_keys F.nodes (λ q. is_at_or_below q []) ≡ F.nodes
-  all_kept = same_map path_cmp-total path_antisym _ F.nodes (λ q. get_kept F (λ q. is_at_or_below q []) q)
-
-  each_is : (es : List (Path × Node)) → AllByRecursion (Of F []) es → AllByRecursion (λ (e : Path × Node). node_at F e.0 ≡ Some e.1) es
-  each_is [] all = tt
-  each_is (e ∷ es) all = (all.0.1, each_is es all.1)
-
-  pub each_of : AllByRecursion (λ (e : Path × Node). node_at F e.0 ≡ Some e.1) (nodes_of F)
-  each_of =
-      subst (λ (nodes : finite.FinMap path_cmp Node). AllByRecursion (λ (e : Path × Node). node_at F e.0 ≡ Some e.1) (finite.entries nodes)) all_kept
-      (each_is (tree_at F []) (tree_at-of F []))
 
 length-map : {X Y : Type 0} (f : X → Y) (xs : List X) → length (map f xs) ≡ length xs
 length-map f [] = refl

@@ -1,4 +1,3 @@
 -- What only the proofs of the code need: no clause of a public function cites it.
 pub mod Reconfigured
-pub mod Scripts
 pub mod Stages

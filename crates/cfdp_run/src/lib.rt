@@ -26,7 +26,7 @@ mod wrong;
 pub use commands::{CommandFault, FileContent, HeadProgress, RunCommand};
 pub use head::Head;
 pub use play::Play;
-pub use player::Player;
+pub use player::{MOST_TIMERS, Player};
 pub use questions::{push_gaps_line, push_phase_line};
 pub use reading::read_command;
 pub use settings::{Key, default_mib, key_of};

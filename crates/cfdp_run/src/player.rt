@@ -19,7 +19,7 @@ use cfdp_transactions::MOST_SETTLED;
 use std::alloc::{AllocError, Global};
 
 /// How many timers are served at most at one moment: two for each of 64 sessions, and one that finds none due.
-const MOST_TIMERS: usize = 129;
+pub const MOST_TIMERS: usize = 129;
 
 /// A receiving entity, and room for a PDU that it sends.
 #[derive(Drop)]

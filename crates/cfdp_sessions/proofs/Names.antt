@@ -1,6 +1,6 @@
 -- Sessions by their names.
 use Rattle.std.proofs.Common.{◌≡◌, ◌⊎◌, inl, inr, Bool, true, false, ◌==◌, if◌then◌else◌, List, [], ◌∷◌, ◌++◌, Option, Some, None, refl, sym, ap, subst, ◌∙◌}
-use Rattle.std.proofs.lemmas.Bool.{cond-true, cond-false, cases_Bool}
+use Rattle.std.proofs.lemmas.Bool.{cond-true, cond-false, cases_Bool, both_ways}
 use Rattle.cfdp_status.specs.declared.transaction.TransactionId.{TransactionId}
 use Rattle.cfdp_leases.specs.Leases.{is_same}
 use Rattle.cfdp_sessions.specs.Sessions.{SessionFields, session_id, found, replaced, without_session, AreDistinct}
@@ -8,14 +8,10 @@ use Rattle.cfdp_sessions.specs.code.Sessions.{IsFound}
 use Rattle.cfdp_leases.proofs.Held.{same_itself}
 use Rattle.cfdp_leases.proofs.Admitted.{same_is}
 
-pub both_of : (b : Bool) → b ≡ false → b ≡ true → ⊥
-both_of true e h = absurd cc
-both_of false e h = absurd cc
-
 -- two names differ either way round
 turned_about : (a b : TransactionId) → is_same a b ≡ false → is_same b a ≡ false
 turned_about a b h = elim (cases_Bool (is_same b a)) [
-  | inl same ↦ absurd (both_of (is_same a b) h (ap (λ (n : TransactionId). is_same n b) (sym (same_is b a same)) ∙ same_itself b))
+  | inl same ↦ absurd (both_ways (is_same a b) h (ap (λ (n : TransactionId). is_same n b) (sym (same_is b a same)) ∙ same_itself b))
   | inr other ↦ other
 ]
 
@@ -266,7 +262,7 @@ replaced_self (x ∷ xs) new id f e =
           ap (λ (ys : List SessionFields). found ys id) (cond-false (is_same (session_id x) (session_id new)) (new ∷ xs) (x ∷ replaced xs new) there)
           ∙ cond-false (is_same (session_id x) id) (Some x) (found (replaced xs new) id) other
           ∙ elim (first_or_later x xs id f) [
-            | inl same ↦ absurd (both_of (is_same (session_id x) id) other same)
+            | inl same ↦ absurd (both_ways (is_same (session_id x) id) other same)
             | inr later ↦ replaced_self xs new id later e
           ]
     ]

@@ -138,6 +138,7 @@ impl Sessions {
     pub fn distinct(&self)
         ensures { AreDistinct self.now }
     {
+        // Read for the contract alone: it brings what is always true of the sessions.
         let _list = &self.list;
     }
 

@@ -163,7 +163,8 @@ fn text_of_work(
 ///
 /// # Errors
 ///
-/// Those of [`text_of_work`]; memory was refused, or a thread could not be started.
+/// It returns the faults of [`text_of_work`], and [`LinkFault::Memory`] out of memory or where a thread could not be
+/// started.
 fn run_files<R: Threads + Wait + Sync, G: Gate + Sync>(
     rt: &R,
     alloc: Global,

@@ -41,7 +41,7 @@ fn reserves<S: Filestore>(core: &Core<S>) -> i64 {
     sum
 }
 
-/// Those of one transaction: none where it is not live.
+/// The blocks that are reserved for one transaction: none where it is not live.
 fn reserve<S: Filestore>(core: &Core<S>, id: TransactionId) -> i64 {
     match (core.phase(id), core.grant(id), core.blocks_spent(id)) {
         (Some(phase), Some((blocks, _)), Some(spent)) if phase.is_live() => {

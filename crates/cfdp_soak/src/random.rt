@@ -8,7 +8,7 @@ pub struct SoakRandom {
 }
 
 impl SoakRandom {
-    /// Those of a seed.
+    /// The numbers that a seed gives: always the same ones for the same seed.
     pub fn new(seed: u64) -> SoakRandom {
         SoakRandom { state: seed }
     }

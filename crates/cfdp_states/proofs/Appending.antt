@@ -4,15 +4,13 @@ use Rattle.std.specs.List.{AllByRecursion}
 use Rattle.cfdp_paths.specs.Paths.{Path}
 use Rattle.cfdp_actions.specs.Filestore.{Node, Directory, File, Filestore, node_at, blocks}
 use Rattle.cfdp_actions.specs.Actions.{Item, Install, Installed, Answer, row}
+use Rattle.cfdp_actions.proofs.RowLaws.{max_three}
 use Rattle.cfdp_leases.specs.Items.{performed, step_bound}
 use Rattle.cfdp_leases.specs.Footprint.{Footprint, IsWithin}
 use Rattle.cfdp_states.specs.Alone.{Succeed, statuses, steps, peak, reached, alone, statuses_alone}
 use Rattle.cfdp_states.specs.Sketching.{extent_in}
 use Rattle.cfdp_states.specs.Views.{most_count, most_need, Sketch, size_of, length_in, only, IsViewOf, HasRun}
 use Rattle.cfdp_states.specs.Laws.{SucceedByStatuses, Appended, OnlyLeased, ViewBegins, ViewInstalls, ViewRefuses, ViewGoesOn, ViewBounds}
-
-twice_max : (b p q : ℕ) → max b (max p q) ≡ max (max b p) q
-twice_max b p q = omega arith
 
 pub grouped : (a b c : ℕ) → a + (b + c) ≡ (a + b) + c
 grouped a b c = omega arith
@@ -26,7 +24,7 @@ appended prefixes F slot (first ∷ items) item =
     let G = reached prefixes H slot items in (
       rest.0,
       ap (λ answers. (row prefixes F slot first).answer ∷ answers) rest.1,
-      ap (max (blocks F)) rest.2 ∙ twice_max (blocks F) (peak prefixes H slot items) (blocks (performed prefixes G slot item)),
+      ap (max (blocks F)) rest.2 ∙ max_three (blocks F) (peak prefixes H slot items) (blocks (performed prefixes G slot item)),
       ap (λ n. (1 + step_bound F first) + n) rest.3 ∙ grouped (1 + step_bound F first) (steps prefixes H slot items) (1 + step_bound G item),
     )
 
@@ -98,7 +96,7 @@ module _ (leased : OnlyLeased) where
       (steps prefixes H 0 (items ++ item ∷ []))) (sym same)
       (subst (λ (R : Filestore). IsViewOf w R start (max start (peak v.prefixes H 0 (items ++ item ∷ []))) (steps v.prefixes H 0 (items ++ item ∷ [])))
       (sym more.0)
-      (subst (λ n. IsViewOf w G start n (steps v.prefixes H 0 (items ++ item ∷ []))) (sym (twice_max start (peak v.prefixes H 0 items) (blocks G))
+      (subst (λ n. IsViewOf w G start n (steps v.prefixes H 0 (items ++ item ∷ []))) (sym (max_three start (peak v.prefixes H 0 items) (blocks G))
       ∙ ap (max start) (sym more.2))
       (subst (λ n. IsViewOf w G start (max (max start (peak v.prefixes H 0 items)) (blocks G)) n) (sym more.3) stated.1))))
 

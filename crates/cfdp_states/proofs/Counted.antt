@@ -19,12 +19,13 @@ use Rattle.cfdp_paths.proofs.Moving.{tree_all, tree_ordered}
 use Rattle.cfdp_states.specs.declared.extent.Extent.{Extent}
 use Rattle.cfdp_states.specs.Sketching.{Extents}
 use Rattle.cfdp_states.specs.code.Sketching.{extent_weight, weight_in, total_weight, total_blocks, AreSmall, IsCounted, rehomed}
-use Rattle.cfdp_actions.proofs.Order.{paths_total, same_path-true, same_path-refl}
+use Rattle.cfdp_actions.proofs.Order.{same_path-true, same_path-refl}
 use Rattle.cfdp_actions.proofs.Weights.{below_rest, sorted_rest, find_below, find_later, entries-remove, totals, weighed, totals-put, totals-without}
 use Rattle.cfdp_actions.proofs.Prefixes.{rebased-below, same_rebased}
+use Rattle.cfdp_actions.proofs.Truths.{by_truth}
 use Rattle.cfdp_paths.proofs.InOrder.{true_from_T, T_from_true, path_antisym}
-use Rattle.cfdp_leases.proofs.Sets.{by_truth}
 use Rattle.cfdp_paths.proofs.Below.{append_from_at_or_below}
+use Rattle.cfdp_paths.proofs.Comparing.{path_cmp-total}
 
 abbrev Entries : Type 0
 Entries = List (Path × Extent)
@@ -49,7 +50,7 @@ pub find-map : (es : Entries) → IsOrdered es → (p : Path) → get (from_sort
 find-map es s p = get-from_sorted path_cmp es p (T_from_true _ s)
 
 pub put_ordered : (k : Path) (v : Extent) (es : Entries) → IsOrdered es → IsOrdered (put path_cmp k v es)
-put_ordered k v es s = true_from_T _ (is_sorted-put path_cmp paths_total k v es (T_from_true _ s))
+put_ordered k v es s = true_from_T _ (is_sorted-put path_cmp path_cmp-total k v es (T_from_true _ s))
 
 where_ordered : (test : Path → Bool) (es : Entries) → IsOrdered es → IsOrdered (where_key path_cmp test es)
 where_ordered test es s = true_from_T _ (is_sorted-where_key path_cmp test es (T_from_true _ s))
@@ -57,7 +58,7 @@ where_ordered test es s = true_from_T _ (is_sorted-where_key path_cmp test es (T
 pub put_map : (k : Path) (v : Extent) (es : Entries) → IsOrdered es → from_sorted {R = path_cmp} (put path_cmp k v es) ≡ insert (from_sorted es) k v
 put_map k v es s =
     same_entries_map _ _ (entries-map (put path_cmp k v es) (put_ordered k v es s)
-    ∙ sym (entries-insert paths_total (from_sorted es) k v ∙ ap (put path_cmp k v) (entries-map es s)))
+    ∙ sym (entries-insert path_cmp-total (from_sorted es) k v ∙ ap (put path_cmp k v) (entries-map es s)))
 
 pub without_map : (k : Path) (es : Entries) → IsOrdered es → from_sorted {R = path_cmp} (without k es) ≡ remove (from_sorted es) k
 without_map k es s =
@@ -84,7 +85,7 @@ pub put_counted : (k : Path) (v : Extent) (es fs : Entries) (used now : ℕ) →
 put_counted k v es fs used now h small is sum =
     subst (λ fs. IsCounted fs now) (sym is) (record {
       ordered = put_ordered k v es h.ordered;
-      small = λ p. subst (λ (a : Option Extent). weight_in a ≤ 2 ^ 58) (sym (find-put path_cmp paths_total p k v es))
+      small = λ p. subst (λ (a : Option Extent). weight_in a ≤ 2 ^ 58) (sym (find-put path_cmp path_cmp-total p k v es))
           (small-cond (same_path p k) (Some v) (find path_cmp p es) small (h.small p));
       counted = omega (arith, sum, h.counted, total-put k v es h.ordered);
     })
@@ -144,7 +145,7 @@ find-puts : (es ms : Entries) (x : Path) → IsOrdered ms → find path_cmp x (p
 find-puts es [] x s = refl
 find-puts es (m ∷ ms) x s =
     find-puts (put path_cmp m.0 m.1 es) ms x (true_from_T _ (sorted_rest m ms (T_from_true _ s)))
-    ∙ ap (λ v. cond (is_some (find path_cmp x ms)) (find path_cmp x ms) v) (find-put path_cmp paths_total x m.0 m.1 es)
+    ∙ ap (λ v. cond (is_some (find path_cmp x ms)) (find path_cmp x ms) v) (find-put path_cmp path_cmp-total x m.0 m.1 es)
     ∙ elim (same_path x m.0) as (λ b. same_path x m.0 ≡ b →
     cond (is_some (find path_cmp x ms)) (find path_cmp x ms) (cond b (Some m.1) (find path_cmp x es))
     ≡ cond (is_some (cond b (Some m.1) (find path_cmp x ms))) (cond b (Some m.1) (find path_cmp x ms)) (find path_cmp x es)) [
@@ -258,7 +259,7 @@ total-puts es (m ∷ ms) s t apart =
   where
     others : (x : Path) → is_some (find path_cmp x ms) ≡ true → find path_cmp x (put path_cmp m.0 m.1 es) ≡ None
     others x there =
-        find-put path_cmp paths_total x m.0 m.1 es
+        find-put path_cmp path_cmp-total x m.0 m.1 es
         ∙ elim (same_path x m.0) as (λ b. same_path x m.0 ≡ b → cond b (Some m.1) (find path_cmp x es) ≡ None) [
           | true ↦ λ e. absurd (true≢false (sym there ∙ ap is_some (find_later m ms (T_from_true _ t) x e)))
           | false ↦ λ e. apart x (ap (λ b. is_some (cond b (Some m.1) (find path_cmp x ms))) e ∙ there)

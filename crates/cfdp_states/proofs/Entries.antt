@@ -1,9 +1,9 @@
 -- What is at and below a path in a filestore.
 --     below-at, below-trans, below-under      a path below one is at or below it, and below what that is below
 --     above                           of two paths above one, which is the higher
---     Entry, Found                    something below a path;  something at or below it whose path has n names
+--     HasBelow, Found                    something below a path;  something at or below it whose path has n names
 --     any-found, found-any            an entry whose path passes a test
---     deepest-most, deepest-there     no entry has more names than the deepest one, and one has as many
+--     deepest-there                   an entry has as many names as the deepest one
 --     kept_some                       what is kept is there, and passes
 --     has_entries-found, found-has_entries      a directory with entries
 --     TooDeep, too_deep-found, found-too_deep, deeper      what would have more than 8 names
@@ -15,10 +15,10 @@ use Rattle.std.specs.FinMap.Entries.{find}
 use Rattle.cfdp_paths.specs.Paths.{Path, path_cmp, same_path, is_at_or_below, is_below, rebased}
 use Rattle.cfdp_paths.proofs.Below.{at_or_below-itself, at_or_below-trans, at_or_below-antisym, prefixes_compare, is_below-Decides, length-rebased}
 use Rattle.cfdp_actions.specs.Filestore.{Node, Filestore, node_at, inside, has_entries, tree_at, deepest_of}
-use Rattle.cfdp_actions.specs.Actions.{is_tree_too_deep}
 use Rattle.cfdp_actions.proofs.Order.{same_path-true, same_path-refl, same_path-is}
 use Rattle.cfdp_actions.proofs.Moves.{find-tree_at}
 use Rattle.cfdp_paths.proofs.InOrder.{path_antisym}
+use Rattle.cfdp_paths.specs.PathMaps.{is_too_deep}
 
 -- ---- paths
 
@@ -53,7 +53,7 @@ above x c p a b apart =
 -- ---- what is below a path
 
 -- something below p
-pub record Entry (F : Filestore) (p : Path) : Type 0 where
+pub record HasBelow (F : Filestore) (p : Path) : Type 0 where
   pub path : Path
   pub below : is_below path p ≡ true
   pub there : is_some (node_at F path) ≡ true
@@ -106,7 +106,7 @@ kept_some false o s = absurd (true≢false (sym s))
 entries-any : (F : Filestore) (p : Path) → has_entries F p ≡ list_any (λ (e : Path × Node). true) (entries (inside F p))
 entries-any F p = ap (λ n. not (n == 0)) (len-entries (inside F p)) ∙ some_entry (entries (inside F p))
 
-pub has_entries-found : (F : Filestore) (p : Path) → has_entries F p ≡ true → Entry F p
+pub has_entries-found : (F : Filestore) (p : Path) → has_entries F p ≡ true → HasBelow F p
 has_entries-found F p h =
     let found = any-found (λ x. true) (entries (inside F p)) (sym (entries-any F p) ∙ h) in
     let kept = kept_some (is_below found.0 p) (node_at F found.0) (ap is_some (sym (find-inside F p found.0)) ∙ found.2) in
@@ -115,14 +115,6 @@ has_entries-found F p h =
 pub found-has_entries : (F : Filestore) (p x : Path) → is_below x p ≡ true → is_some (node_at F x) ≡ true → has_entries F p ≡ true
 found-has_entries F p x below there =
     entries-any F p ∙ found-any (λ x. true) (entries (inside F p)) x refl (ap is_some (find-inside F p x ∙ ap (λ b. cond b (node_at F x) None) below) ∙ there)
-
-pub deepest-most : (es : List (Path × Node)) (x : Path) → is_some (find path_cmp x es) ≡ true → length x ≤ deepest_of es
-deepest-most [] x h = absurd (true≢false (sym h))
-deepest-most (e ∷ es) x h =
-    elim (same_path x e.0) as (λ b. same_path x e.0 ≡ b → is_some (cond b (Some e.1) (find path_cmp x es)) ≡ true → length x ≤ deepest_of (e ∷ es)) [
-      | true ↦ λ same h. let long : length x ≡ length e.0 = ap length (same_path-true x e.0 same) in omega (arith, long)
-      | false ↦ λ other h. let rest = deepest-most es x h in omega (arith, rest)
-    ] refl h
 
 pub deepest-there : (es : List (Path × Node)) → 0 < deepest_of es → (x : Path) × (is_some (find path_cmp x es) ≡ true) × (length x ≡ deepest_of es)
 deepest-there [] h = absurd (omega arith)
@@ -139,7 +131,7 @@ deepest-there (e ∷ es) h = by_first (λ k. deepest-there es k) (cases_lt (leng
         let rest = later (omega arith) in
         (rest.0, shown (same_path rest.0 e.0) (find path_cmp rest.0 es) rest.1, let e = rest.2 in omega (arith, e, more))
 
-deep-any : (p q : Path) (es : List (Path × Node)) → is_tree_too_deep p q es ≡ list_any (λ (e : Path × Node). nat_lt 8 (length (rebased p q e.0))) es
+deep-any : (p q : Path) (es : List (Path × Node)) → is_too_deep p q es ≡ list_any (λ (e : Path × Node). nat_lt 8 (length (rebased p q e.0))) es
 deep-any p q [] = refl
 deep-any p q (e ∷ es) = ap (λ b. nat_lt 8 (length (rebased p q e.0)) || b) (deep-any p q es)
 
@@ -149,13 +141,13 @@ pub record TooDeep (F : Filestore) (p q : Path) : Type 0 where
   pub there : is_some (node_at F path) ≡ true
   pub deep : nat_lt 8 (length (rebased p q path)) ≡ true
 
-pub too_deep-found : (F : Filestore) (p q : Path) → is_tree_too_deep p q (tree_at F p) ≡ true → TooDeep F p q
+pub too_deep-found : (F : Filestore) (p q : Path) → is_too_deep p q (tree_at F p) ≡ true → TooDeep F p q
 too_deep-found F p q h =
     let found = any-found (λ x. nat_lt 8 (length (rebased p q x))) (tree_at F p) (sym (deep-any p q (tree_at F p)) ∙ h) in
     let kept = kept_some (is_at_or_below found.0 p) (node_at F found.0) (ap is_some (sym (find-tree_at F p found.0)) ∙ found.2) in
     record { path = found.0; at = kept.0; there = kept.1; deep = found.1 }
 
-pub found-too_deep : (F : Filestore) (p q : Path) → TooDeep F p q → is_tree_too_deep p q (tree_at F p) ≡ true
+pub found-too_deep : (F : Filestore) (p q : Path) → TooDeep F p q → is_too_deep p q (tree_at F p) ≡ true
 found-too_deep F p q d =
     deep-any p q (tree_at F p)
     ∙ found-any (λ x. nat_lt 8 (length (rebased p q x))) (tree_at F p) d.path d.deep

@@ -1,6 +1,7 @@
 -- The install of a delivered file, on a list of outlines and on a view.
 use Rattle.std.proofs.Common.{◌≡◌, ◌≢◌, refl, sym, ◌∙◌, ap, subst, Bool, true, false, cond, not, is_some, ◌&&◌, Option, Some, None, ℕ, ◌+◌, ◌-◌, ◌≤◌, min, max, List, [], ◌∷◌, length, sum_by, true≢false, if◌then◌else◌, arith}
 use Rattle.cfdp_paths.specs.Paths.{Path, same_path}
+use Rattle.cfdp_paths.proofs.Comparing.{path_cmp-total}
 use Rattle.cfdp_actions.specs.Filestore.{Node, Directory, File, Filestore, node_at, blocks_of, blocks, Change, Becomes, Stages, changed, after, parent_is_good}
 use Rattle.cfdp_actions.specs.Actions.{Install, Installed, NotInstalled, Outcome, unchanged, install, is_protected, free_row, row}
 use Rattle.cfdp_leases.specs.Items.{step_bound}
@@ -10,7 +11,7 @@ use Rattle.cfdp_states.specs.Alone.{alone}
 use Rattle.cfdp_states.specs.Sketching.{most_octets, extent_in, extent_at, Extents}
 use Rattle.cfdp_states.specs.code.Sketching.{total_blocks, bound_on, gives_way, can_install, IsOutline}
 use Rattle.cfdp_states.specs.Views.{most_count, most_need, Sketch, IsViewOf, TellsInstall}
-use Rattle.cfdp_actions.proofs.Order.{paths_total, node_at-becomes}
+use Rattle.cfdp_actions.proofs.Order.{node_at-becomes}
 use Rattle.cfdp_states.proofs.Sketched.{extent-cond, good_parent-is}
 use Rattle.cfdp_states.proofs.Counting.{enough, blocks-counted, bound-counted}
 use Rattle.cfdp_states.proofs.Viewing.{sketch, outlined, nothing_staged, needs, takes}
@@ -75,7 +76,7 @@ module _ (prefixes : List Path) (m : Extents) (F : Filestore) (h : IsOutline m F
       IsOutline (insert m p (extent.File size)) (changed (changed (alone F x) (Stages 0 [])) (Becomes p (Some (File x))))
   installed-outline size fits = record {
     found = λ q.
-        get-insert paths_total m p (extent.File size) q
+        get-insert path_cmp-total m p (extent.File size) q
         ∙ (λ i. cond (same_path q p) (Some (extent.File (sym fits i))) (h.found q i))
         ∙ sym (extent-cond (same_path q p) (Some (File x)) (node_at F q))
         ∙ ap extent_in (sym (node_at-becomes (changed (alone F x) (Stages 0 [])) p (Some (File x)) q));

@@ -11,11 +11,13 @@ use Rattle.std.specs.FinMap.{entries, entries_sorted, get-entries, retain_keys, 
 use Rattle.std.specs.FinMap.Entries.{below_all, is_sorted, find}
 use Rattle.cfdp_paths.specs.Paths.{Path, path_cmp, same_path, is_at_or_below, is_below, parent, rebased}
 use Rattle.cfdp_actions.specs.Filestore.{Node, Directory, File, Filestore, node_at, staged_in, blocks_of, weight, weights, blocks, Change, Becomes, Stages, changed, after, inside, has_entries, is_directory, is_good, is_root, parent_is_good, tree_at}
-use Rattle.cfdp_actions.specs.Actions.{vacating, arriving, is_tree_too_deep}
-use Rattle.cfdp_actions.proofs.Order.{paths_total, same_path-refl, node_at-becomes}
+use Rattle.cfdp_actions.specs.Actions.{vacating, arriving}
+use Rattle.cfdp_actions.proofs.Order.{same_path-refl, node_at-becomes}
 use Rattle.cfdp_actions.proofs.Weights.{below_rest, sorted_rest, below_less, find_below, find_later}
-use Rattle.cfdp_actions.proofs.Growth.{blocks_of-le}
+use Rattle.cfdp_actions.proofs.RowLaws.{blocks_of-mono}
 use Rattle.cfdp_paths.proofs.InOrder.{path_antisym}
+use Rattle.cfdp_paths.proofs.Comparing.{path_cmp-total}
+use Rattle.cfdp_paths.specs.PathMaps.{is_too_deep}
 
 pub data Longer : Option Node → Option Node → Type 0 where
   nothing : Longer None None
@@ -35,7 +37,7 @@ longer-is_directory (file le) = refl
 pub longer-weight : {a b : Option Node} → Longer a b → weight a ≤ weight b
 longer-weight nothing = le_refl 0
 longer-weight folder = le_refl 1
-longer-weight (file {xs = xs} {ys = ys} le) = let more = blocks_of-le (length xs) (length ys) le in omega (arith, more)
+longer-weight (file {xs = xs} {ys = ys} le) = let more = blocks_of-mono (length xs) (length ys) le in omega (arith, more)
 
 pub longer-itself : (a : Option Node) → Longer a a
 longer-itself None = nothing
@@ -66,7 +68,7 @@ longer_entries (e ∷ es) (f ∷ fs) sorted_e sorted_f longer =
     elim (path_cmp e.0 f.0) as (λ r. path_cmp e.0 f.0 ≡ r → LongerEntries (e ∷ es) (f ∷ fs)) [
       | Less ↦ λ p. absurd (true≢false (ap is_some (sym (find_here e es)) ∙ longer-is_some (longer e.0) ∙ ap is_some (missed e f fs p sorted_f)))
       | Greater ↦ λ p. absurd (true≢false (ap is_some (sym (find_here f fs)) ∙ sym (longer-is_some (longer f.0))
-          ∙ ap is_some (missed f e es (paths_total.antisymm f.0 e.0 ∙ ap ordering_reverse p) sorted_e)))
+          ∙ ap is_some (missed f e es (path_cmp-total.antisymm f.0 e.0 ∙ ap ordering_reverse p) sorted_e)))
       | Equal ↦ λ p.
           let keys : e.0 ≡ f.0 = path_antisym e.0 f.0 p in
           let there : find path_cmp e.0 (f ∷ fs) ≡ Some f.1 = ap (λ r. cond (is_eq r) (Some f.1) (find path_cmp e.0 fs)) p in (
@@ -97,7 +99,7 @@ longer-weights [] (f ∷ fs) h = absurd h
 longer-weights (e ∷ es) [] h = absurd h
 longer-weights (e ∷ es) (f ∷ fs) h = add-le-add (longer-weight h.1) (longer-weights es fs h.2)
 
-pub longer-depth : (p q : Path) (es fs : List (Path × Node)) → LongerEntries es fs → is_tree_too_deep p q es ≡ is_tree_too_deep p q fs
+pub longer-depth : (p q : Path) (es fs : List (Path × Node)) → LongerEntries es fs → is_too_deep p q es ≡ is_too_deep p q fs
 longer-depth p q [] [] h = refl
 longer-depth p q [] (f ∷ fs) h = absurd h
 longer-depth p q (e ∷ es) [] h = absurd h
@@ -224,7 +226,7 @@ module _ (slot other m n : ℕ) (F G : Filestore) (h : IsLonger slot other m n F
       subst (λ (v : Option Node). Longer (find path_cmp q (entries F.nodes)) v) (get-entries G.nodes q)
       (subst (λ (v : Option Node). Longer v (node_at G q)) (get-entries F.nodes q) (h.nodes q)))) in
       let own : blocks_of (length (staged_in F slot)) ≤ blocks_of (length (staged_in G other)) =
-      blocks_of-le (length (staged_in F slot)) (length (staged_in G other)) h.staged in
+      blocks_of-mono (length (staged_in F slot)) (length (staged_in G other)) h.staged in
       let one : staged_blocks F.staged ≡ m + blocks_of (length (staged_in F slot)) = h.others_F in
       let two : staged_blocks G.staged ≡ n + blocks_of (length (staged_in G other)) = h.others_G in
       omega arith

@@ -2,14 +2,15 @@
 -- step bound no less.
 use Rattle.std.proofs.Common.{◌≡◌, refl, sym, ap, subst, Bool, true, false, ◌&&◌, Option, Some, ℕ, ◌+◌, ◌*◌, ◌≤◌, List, [], ◌++◌, length, length-append, arith, if◌then◌else◌, le_refl, add-le-add}
 use Rattle.cfdp_paths.specs.Paths.{Path, same_path, is_at_or_below}
+use Rattle.cfdp_paths.specs.PathMaps.{is_too_deep}
 use Rattle.cfdp_status.specs.declared.action.Action.{Action}
 use Rattle.cfdp_status.specs.declared.action.Action.TheVariants as action
 use Rattle.cfdp_status.specs.declared.status.Status.{Status}
 use Rattle.cfdp_status.specs.declared.status.Status.TheVariants.{NotAllowed}
 use Rattle.cfdp_actions.specs.Filestore.{Node, Directory, File, Filestore, node_at, staged_in, parent_is_good, has_entries, tree_at}
-use Rattle.cfdp_actions.specs.Actions.{Request, CreateFile, DeleteFile, RenameFile, AppendFile, ReplaceFile, CreateDirectory, RemoveDirectory, DenyFile, DenyDirectory, Item, Install, Perform, Answer, Outcome, refused, succeeds, unchanged, vacating, arriving, is_tree_too_deep, create, delete_file, rename, append, replace, remove_directory, deny_file, deny_directory, install, table, free_row, is_barred, is_protected, denied, row}
+use Rattle.cfdp_actions.specs.Actions.{Request, CreateFile, DeleteFile, RenameFile, AppendFile, ReplaceFile, CreateDirectory, RemoveDirectory, DenyFile, DenyDirectory, Item, Install, Perform, Answer, Outcome, refused, succeeds, unchanged, vacating, arriving, create, delete_file, rename, append, replace, remove_directory, deny_file, deny_directory, install, table, free_row, is_barred, is_protected, denied, row}
+use Rattle.cfdp_actions.proofs.RowLaws.{blocks_of-mono}
 use Rattle.cfdp_leases.specs.Items.{performed, content, step_bound}
-use Rattle.cfdp_actions.proofs.Growth.{blocks_of-le}
 use Rattle.cfdp_states.proofs.Longer.{Longer, nothing, folder, file, longer-is_some, longer-weight, longer-itself, LongerEntries, longer-depth, LongerChanges, longer-append, longer-vacated, longer-arriving, IsLonger, longer-after, parent-longer, tree-longer, entries-longer}
 
 pub record IsLongerOutcome (slot other : ℕ) (o r : Outcome) : Type 0 where
@@ -94,8 +95,8 @@ module _ (slot other : ℕ) where
 
   moves-longer : (p q : Path) (es fs : List (Path × Node)) → LongerEntries es fs →
       IsLongerOutcome slot other
-      (if is_tree_too_deep p q es then refused (NotAllowed action.RenameFile) else succeeds action.RenameFile (vacating es ++ arriving p q es) 0 0 0)
-      (if is_tree_too_deep p q fs then refused (NotAllowed action.RenameFile) else succeeds action.RenameFile (vacating fs ++ arriving p q fs) 0 0 0)
+      (if is_too_deep p q es then refused (NotAllowed action.RenameFile) else succeeds action.RenameFile (vacating es ++ arriving p q es) 0 0 0)
+      (if is_too_deep p q fs then refused (NotAllowed action.RenameFile) else succeeds action.RenameFile (vacating fs ++ arriving p q fs) 0 0 0)
   moves-longer p q es fs kept =
       let moved : IsLongerOutcome slot other (succeeds action.RenameFile (vacating es ++ arriving p q es) 0 0 0)
       (succeeds action.RenameFile (vacating fs ++ arriving p q fs) 0 0 0) =
@@ -104,11 +105,11 @@ module _ (slot other : ℕ) where
         changes = longer-append slot other (vacating es) (vacating fs) (arriving p q es) (arriving p q fs)
             (longer-vacated slot other es fs kept) (longer-arriving slot other p q es fs kept);
       } in
-      subst (λ deep. IsLongerOutcome slot other (if is_tree_too_deep p q es then refused (NotAllowed action.RenameFile)
+      subst (λ deep. IsLongerOutcome slot other (if is_too_deep p q es then refused (NotAllowed action.RenameFile)
       else succeeds action.RenameFile (vacating es ++ arriving p q es) 0 0 0) (if deep then refused (NotAllowed action.RenameFile)
       else succeeds action.RenameFile (vacating fs ++ arriving p q fs) 0 0 0))
       (longer-depth p q es fs kept)
-      (elim (is_tree_too_deep p q es) as (λ deep. IsLongerOutcome slot other (if deep then refused (NotAllowed action.RenameFile)
+      (elim (is_too_deep p q es) as (λ deep. IsLongerOutcome slot other (if deep then refused (NotAllowed action.RenameFile)
       else succeeds action.RenameFile (vacating es ++ arriving p q es) 0 0 0) (if deep then refused (NotAllowed action.RenameFile)
       else succeeds action.RenameFile (vacating fs ++ arriving p q fs) 0 0 0)) [
         | true ↦ refused-longer slot other (NotAllowed action.RenameFile)
@@ -204,7 +205,7 @@ module _ (slot other m n : ℕ) (F G : Filestore) (h : IsLonger slot other m n F
       of_node : {a b : Option Node} → Longer a b → content a ≤ content b
       of_node nothing = le_refl 0
       of_node folder = le_refl 0
-      of_node (file {xs = xs} {ys = ys} le) = blocks_of-le (length xs) (length ys) le
+      of_node (file {xs = xs} {ys = ys} le) = blocks_of-mono (length xs) (length ys) le
 
   pub step_bound-longer : (item : Item) → step_bound F item ≤ step_bound G item
   unfolding step_bound

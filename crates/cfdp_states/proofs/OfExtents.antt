@@ -9,12 +9,12 @@ use Rattle.std.proofs.lemmas.List.{length-replicate}
 use Rattle.std.specs.FinMap.{get, from_entries, entries, get-entries, get-from_entries}
 use Rattle.std.specs.FinMap.Entries.{find}
 use Rattle.cfdp_paths.specs.Paths.{Path, path_cmp, same_path}
+use Rattle.cfdp_paths.proofs.Comparing.{path_cmp-total}
 use Rattle.cfdp_actions.specs.Filestore.{Node, Directory, File, Filestore, node_at, weight, blocks}
 use Rattle.cfdp_states.specs.declared.extent.Extent.{Extent}
 use Rattle.cfdp_states.specs.declared.extent.Extent.TheVariants as extent
 use Rattle.cfdp_states.specs.Sketching.{most_octets, extent_in, Extents}
 use Rattle.cfdp_states.specs.Sparse.{AreAlike}
-use Rattle.cfdp_actions.proofs.Order.{paths_total}
 use Rattle.cfdp_states.proofs.Trees.{short, weights-small}
 use Rattle.cfdp_states.proofs.Counting.{enough}
 use Rattle.cfdp_actions.proofs.StoreLaws.{weight-found}
@@ -45,7 +45,7 @@ find-nodes (e ∷ es) p =
 pub node_at-filestore_of : (m : Extents) (p : Path) → node_at (filestore_of m) p ≡ node_in (get m p)
 unfolding filestore_of
 node_at-filestore_of m p =
-    get-from_entries paths_total (map {B = Path × Node} (λ (e : Path × Extent). (e.0, node_of e.1)) (entries m)) p
+    get-from_entries path_cmp-total (map {B = Path × Node} (λ (e : Path × Extent). (e.0, node_of e.1)) (entries m)) p
     ∙ find-nodes (entries m) p ∙ ap node_in (sym (get-entries m p))
 
 pub fits : (a : Option Node) → extent_in (node_in (extent_in a)) ≡ extent_in a

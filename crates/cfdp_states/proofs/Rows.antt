@@ -1,11 +1,12 @@
 -- Each row: its growth, and its ticks against the step bound.
 use Rattle.std.proofs.Common.{◌≡◌, refl, ap, Bool, true, false, Option, Some, None, ℕ, ◌+◌, ◌*◌, ◌<◌, ◌≤◌, min, List, [], ◌++◌, length, arith, if◌then◌else◌, zero-le, le_refl}
 use Rattle.cfdp_paths.specs.Paths.{Path, same_path, is_at_or_below}
+use Rattle.cfdp_paths.specs.PathMaps.{is_too_deep}
 use Rattle.cfdp_status.specs.declared.action.Action.{Action}
 use Rattle.cfdp_status.specs.declared.action.Action.TheVariants as action
 use Rattle.cfdp_status.specs.declared.status.Status.TheVariants.{NotAllowed}
 use Rattle.cfdp_actions.specs.Filestore.{Node, Directory, File, Filestore, node_at, staged_in, blocks_of, weight, parent_is_good, has_entries, tree_at, IsRooted}
-use Rattle.cfdp_actions.specs.Actions.{Request, CreateFile, DeleteFile, RenameFile, AppendFile, ReplaceFile, CreateDirectory, RemoveDirectory, DenyFile, DenyDirectory, Item, Install, Perform, Outcome, ticks, refused, succeeds, vacating, arriving, is_tree_too_deep, create, delete_file, rename, append, replace, remove_directory, deny_file, deny_directory, install, table, free_row, is_barred, denied, row}
+use Rattle.cfdp_actions.specs.Actions.{Request, CreateFile, DeleteFile, RenameFile, AppendFile, ReplaceFile, CreateDirectory, RemoveDirectory, DenyFile, DenyDirectory, Item, Install, Perform, Outcome, ticks, refused, succeeds, vacating, arriving, create, delete_file, rename, append, replace, remove_directory, deny_file, deny_directory, install, table, free_row, is_barred, denied, row}
 use Rattle.cfdp_leases.specs.Items.{content, step_bound}
 use Rattle.cfdp_actions.proofs.Growth.{Grows, create-grows, delete_file-grows, remove_directory-grows, deny_file-grows, deny_directory-grows, append-grows, replace-grows, install-grows, blocks_of-zero}
 use Rattle.cfdp_actions.proofs.Moves.{rename-grows}
@@ -71,7 +72,7 @@ rename-ticks p q (Some node) (Some other) good below es = le_refl 0
 rename-ticks p q (Some node) None false below es = le_refl 0
 rename-ticks p q (Some node) None true true es = le_refl 0
 rename-ticks p q (Some node) None true false es =
-    elim (is_tree_too_deep p q es) as (λ deep. ticks (if deep then refused (NotAllowed action.RenameFile)
+    elim (is_too_deep p q es) as (λ deep. ticks (if deep then refused (NotAllowed action.RenameFile)
     else succeeds action.RenameFile (vacating es ++ arriving p q es) 0 0 0) ≤ 0) [ true ↦ le_refl 0 | false ↦ le_refl 0 ]
 
 -- to append n octets to m takes no more blocks than n octets do

@@ -11,19 +11,20 @@ use Rattle.std.specs.Ordering.{is_lt}
 use Rattle.std.specs.FinMap.{entries, entries_sorted, get, get-entries, len-entries}
 use Rattle.std.specs.FinMap.Entries.{below_all, is_sorted, find, where_key, same_entries}
 use Rattle.cfdp_paths.specs.Paths.{Path, path_cmp, parent, same_path, is_at_or_below, is_below, rebased}
-use Rattle.cfdp_paths.specs.PathMaps.{any_below, tree_in, is_too_deep as is_deep}
+use Rattle.cfdp_paths.specs.PathMaps.{any_below, tree_in, is_too_deep}
 use Rattle.cfdp_status.specs.declared.status.Status.{Status}
-use Rattle.cfdp_actions.specs.Filestore.{Node, Directory, File, Filestore, node_at, inside, Change, Becomes, changed, after, has_entries, is_directory, is_good, parent_is_good, tree_at}
-use Rattle.cfdp_actions.specs.Actions.{Request, Performed, Outcome, vacating, arriving, is_tree_too_deep, table}
+use Rattle.cfdp_actions.specs.Filestore.{Node, Directory, File, Filestore, node_at, inside, Change, Becomes, after, has_entries, is_directory, is_good, parent_is_good, tree_at}
+use Rattle.cfdp_actions.specs.Actions.{Request, Performed, Outcome, vacating, arriving, table}
 use Rattle.cfdp_states.specs.declared.extent.Extent.{Extent}
 use Rattle.cfdp_states.specs.Sketching.{extent_of, extent_in, extent_at, Extents}
 use Rattle.cfdp_states.specs.code.Sketching.{rehomed, is_folder, good_among, good_parent, IsOutline, Does}
-use Rattle.cfdp_actions.proofs.Order.{paths_total, node_at-becomes, same_path-true}
+use Rattle.cfdp_actions.proofs.Order.{node_at-becomes, same_path-true}
 use Rattle.cfdp_actions.proofs.Weights.{entries-retain_keys}
 use Rattle.cfdp_actions.proofs.Prefixes.{rebased-below}
-use Rattle.cfdp_actions.proofs.Moves.{after-append, tree_at-all, tree_at-sorted, find-tree_at, node_at-vacated, node_at-arriving, node_at-arriving_apart, moved}
+use Rattle.cfdp_actions.proofs.Moves.{after-append, tree_at-all, tree_at-sorted, find-tree_at, node_at-vacated, node_at-arriving, node_at-arriving_apart, moved, staged-moved}
 use Rattle.cfdp_states.proofs.Counted.{get-rehomed}
 use Rattle.cfdp_paths.proofs.InOrder.{path_antisym}
+use Rattle.cfdp_paths.proofs.Comparing.{path_cmp-total}
 
 -- ---- the extent of a node
 
@@ -70,7 +71,7 @@ where-outlines test (e ∷ es) =
       | false ↦ where-outlines test es
     ]
 
-deep-outlines : (p q : Path) (es : List (Path × Node)) → is_deep p q (outlines es) ≡ is_tree_too_deep p q es
+deep-outlines : (p q : Path) (es : List (Path × Node)) → is_too_deep p q (outlines es) ≡ is_too_deep p q es
 deep-outlines p q [] = refl
 deep-outlines p q (e ∷ es) = ap (λ b. nat_lt 8 (length (rebased p q e.0)) || b) (deep-outlines p q es)
 
@@ -86,7 +87,7 @@ any-outlines test (e ∷ es) =
 
 pub entries-outlined : (m : Extents) (F : Filestore) → IsOutline m F → entries m ≡ outlines (entries F.nodes)
 entries-outlined m F h =
-    same_entries path_cmp paths_total path_antisym _ _ (entries_sorted m) (subst T (sym (sorted-outlines (entries F.nodes))) (entries_sorted F.nodes))
+    same_entries path_cmp path_cmp-total path_antisym _ _ (entries_sorted m) (subst T (sym (sorted-outlines (entries F.nodes))) (entries_sorted F.nodes))
     (λ x. sym (get-entries m x) ∙ h.found x ∙ ap extent_in (get-entries F.nodes x) ∙ sym (find-outlines x (entries F.nodes)))
 
 module _ (m : Extents) (F : Filestore) (h : IsOutline m F) where
@@ -104,15 +105,15 @@ module _ (m : Extents) (F : Filestore) (h : IsOutline m F) where
   entries-is p =
       ap (any_below p) (entries-outlined m F h)
       ∙ any-outlines (λ q. is_below q p) (entries F.nodes)
-      ∙ ap (λ es. not (length es == 0)) (sym (entries-retain_keys paths_total path_antisym F.nodes (λ q. is_below q p)))
+      ∙ ap (λ es. not (length es == 0)) (sym (entries-retain_keys path_cmp-total path_antisym F.nodes (λ q. is_below q p)))
       ∙ ap (λ n. not (n == 0)) (sym (len-entries (inside F p)))
 
-  pub depth-is : (p q : Path) → is_deep p q (tree_in p (entries m)) ≡ is_tree_too_deep p q (tree_at F p)
+  pub depth-is : (p q : Path) → is_too_deep p q (tree_in p (entries m)) ≡ is_too_deep p q (tree_at F p)
   depth-is p q =
-      ap (λ es. is_deep p q (tree_in p es)) (entries-outlined m F h)
-      ∙ ap (is_deep p q) (where-outlines (λ x. is_at_or_below x p) (entries F.nodes))
+      ap (λ es. is_too_deep p q (tree_in p es)) (entries-outlined m F h)
+      ∙ ap (is_too_deep p q) (where-outlines (λ x. is_at_or_below x p) (entries F.nodes))
       ∙ deep-outlines p q (where_key path_cmp (λ x. is_at_or_below x p) (entries F.nodes))
-      ∙ ap (is_tree_too_deep p q) (sym (entries-retain_keys paths_total path_antisym F.nodes (λ x. is_at_or_below x p)))
+      ∙ ap (is_too_deep p q) (sym (entries-retain_keys path_cmp-total path_antisym F.nodes (λ x. is_at_or_below x p)))
 
 -- ---- no change, and one path that changes
 
@@ -190,18 +191,6 @@ moved_where F p q x =
           | true ↦ gone (node_at F x)
           | false ↦ refl
         ]
-
-staged-vacated : (F : Filestore) (es : List (Path × Node)) → (after F (vacating es)).staged ≡ F.staged
-staged-vacated F [] = refl
-staged-vacated F (e ∷ es) = staged-vacated (changed F (Becomes e.0 None)) es
-
-staged-arriving : (p q : Path) (F : Filestore) (es : List (Path × Node)) → (after F (arriving p q es)).staged ≡ F.staged
-staged-arriving p q F [] = refl
-staged-arriving p q F (e ∷ es) = staged-arriving p q (changed F (Becomes (rebased p q e.0) (Some e.1))) es
-
-pub staged-moved : (F : Filestore) (p q : Path) → (moved F p q).staged ≡ F.staged
-staged-moved F p q = ap (λ (G : Filestore). G.staged) (after-append F (vacating (tree_at F p)) (arriving p q (tree_at F p)))
-    ∙ staged-arriving p q (after F (vacating (tree_at F p))) (tree_at F p) ∙ staged-vacated F (tree_at F p)
 
 pub follows-moved : (m : Extents) (F : Filestore) (o : Outcome) (stated : Status) (p q : Path) → IsOutline m F → Performed stated ≡ o.answer → o.changes
     ≡ vacating (tree_at F p) ++ arriving p q (tree_at F p) → Follows (rehomed p q m) F o stated

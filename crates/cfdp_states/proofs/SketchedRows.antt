@@ -3,6 +3,7 @@
 use Rattle.std.proofs.Common.{◌≡◌, refl, sym, ◌∙◌, ap, subst, ◌⊎◌, inl, inr, Bool, true, false, cond, is_some, is_none, if◌then◌else◌, Option, Some, None, ℕ, ◌+◌, min, [], ◌∷◌, ◌++◌, length, length-append, true≢false, arith}
 use Rattle.std.specs.FinMap.{get, insert, remove, get-insert, get-remove}
 use Rattle.cfdp_paths.specs.Paths.{Path, same_path}
+use Rattle.cfdp_paths.proofs.Comparing.{path_cmp-total}
 use Rattle.cfdp_status.specs.declared.status.Status.TheVariants.{Successful}
 use Rattle.cfdp_actions.specs.Filestore.{Node, Directory, File, Filestore, node_at, Becomes, is_file, octets_in, file_octets_at}
 use Rattle.cfdp_actions.specs.Actions.{Request, CreateFile, DeleteFile, RenameFile, AppendFile, ReplaceFile, CreateDirectory, RemoveDirectory, DenyFile, DenyDirectory, action_in, Performed, Outcome, table}
@@ -11,7 +12,7 @@ use Rattle.cfdp_states.specs.declared.extent.Extent.{Extent}
 use Rattle.cfdp_states.specs.declared.extent.Extent.TheVariants as extent
 use Rattle.cfdp_states.specs.Sketching.{most_octets, extent_in, extent_at, Extents}
 use Rattle.cfdp_states.specs.code.Sketching.{size_in, resized, rehomed, IsOutline, Does}
-use Rattle.cfdp_actions.proofs.Order.{paths_total, same_path-true}
+use Rattle.cfdp_actions.proofs.Order.{same_path-true}
 use Rattle.cfdp_states.proofs.Sketched.{Follows, does-at, follows-same, follows-one, follows-moved, kept}
 
 size-in : (o : Option Node) → size_in (extent_in o) ≡ min (length (octets_in o)) most_octets
@@ -39,7 +40,7 @@ module _ (m : Extents) (request : Request) (allowed : (F : Filestore) → IsOutl
   created m' p node c makes is now = does-at m m' request (Successful (action_in request)) (λ F h.
       let row = (makes F (allowed F h)).row in
       follows-one m m' F (table F request) (Successful (action_in request)) p (Some node) h (answer F h) row.changes
-      (λ x. ap (λ m'. get m' x) now ∙ get-insert paths_total m p c x ∙ ap (λ c. cond (same_path x p) c (get m x)) is))
+      (λ x. ap (λ m'. get m' x) now ∙ get-insert path_cmp-total m p c x ∙ ap (λ c. cond (same_path x p) c (get m x)) is))
 
   pub file-created : (m' : Extents) (p : Path) → request ≡ CreateFile p → m' ≡ insert m p (extent.File 0) → Does m m' request (Successful (action_in request))
   file-created m' p e = created m' p (File []) (extent.File 0) (λ F h. file_made F request p h e) refl
@@ -55,13 +56,13 @@ module _ (m : Extents) (request : Request) (allowed : (F : Filestore) → IsOutl
       o.changes ≡ (if absent then [] else Becomes p None ∷ []) → Follows m' F o (Successful (action_in request))
   removes m' p now F h o answer true none changes =
       follows-same m' F o (Successful (action_in request)) answer changes (kept m m' F p None h (nothing (node_at F p) none) (λ x. ap (λ m'. get m' x) now
-      ∙ get-remove paths_total m p x))
+      ∙ get-remove path_cmp-total m p x))
     where
       nothing : (o : Option Node) → is_none o ≡ true → extent_in o ≡ None
       nothing None e = refl
       nothing (Some node) e = absurd (true≢false (sym e))
   removes m' p now F h o answer false some changes =
-      follows-one m m' F o (Successful (action_in request)) p None h answer changes (λ x. ap (λ m'. get m' x) now ∙ get-remove paths_total m p x)
+      follows-one m m' F o (Successful (action_in request)) p None h answer changes (λ x. ap (λ m'. get m' x) now ∙ get-remove path_cmp-total m p x)
 
   goes : (m' : Extents) (p : Path) → (request ≡ DeleteFile p) ⊎ (request ≡ RemoveDirectory p) → m' ≡ remove m p → Does m m' request
       (Successful (action_in request))
@@ -97,7 +98,7 @@ module _ (m : Extents) (request : Request) (allowed : (F : Filestore) → IsOutl
   at_size m' F p n h file now x =
       ap (λ m'. get m' x) now
       ∙ ap (λ c. get (if is_some c then insert m p (extent.File n) else m) x) (h.found p ∙ file-extent (node_at F p) file)
-      ∙ get-insert paths_total m p (extent.File n) x
+      ∙ get-insert path_cmp-total m p (extent.File n) x
 
   pub appends : (m' : Extents) (p q : Path) (n : ℕ) → request ≡ AppendFile p q → n ≡ min (size_in (get m p) + size_in (get m q)) most_octets → m'
       ≡ resized p n m → Does m m' request (Successful (action_in request))

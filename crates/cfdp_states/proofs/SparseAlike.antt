@@ -6,11 +6,11 @@ use Rattle.std.proofs.Common.{◌≡◌, refl, sym, ◌∙◌, ap, inl, inr, Boo
 use Rattle.std.proofs.lemmas.Bool.{cases_Bool}
 use Rattle.cfdp_paths.specs.Paths.{Path, same_path, is_at_or_below, is_below, parent}
 use Rattle.cfdp_paths.proofs.Below.{at_or_below-antisym, parent_at_or_below, parent_below, below_parent, length-child, is_below-Decides}
+use Rattle.cfdp_paths.specs.PathMaps.{is_too_deep}
 use Rattle.cfdp_actions.specs.Filestore.{Filestore, node_at, has_entries, is_good, is_root, parent_is_good, tree_at}
-use Rattle.cfdp_actions.specs.Actions.{is_tree_too_deep}
-use Rattle.cfdp_leases.proofs.Sets.{by_truth}
 use Rattle.cfdp_states.specs.Sparse.{Hides, IsSparseSubstitute, Knows}
 use Rattle.cfdp_actions.proofs.Order.{same_path-true, same_path-is}
+use Rattle.cfdp_actions.proofs.Truths.{by_truth}
 use Rattle.cfdp_states.proofs.LikeNodes.{Like, like, like-is_some, like-is_directory}
 use Rattle.cfdp_states.proofs.Entries.{below-at, below-trans, below-under, Found, has_entries-found, found-has_entries, too_deep-found, found-too_deep, deeper}
 
@@ -125,8 +125,8 @@ module _ (known visible : Path → Bool) (F G : Filestore) (h : IsSparseSubstitu
       let f = there_here 0 p r.path (omega arith) (λ c up. knows_any (known c)) seen (below-at r.path p r.below) r.there in
       found-has_entries F p f.path (f.below r.below) f.there)
 
-  pub depth_seen : (p q : Path) → ((c : Path) → is_at_or_below c p ≡ true → known c ≡ true) → visible p ≡ true → is_tree_too_deep p q (tree_at F p)
-      ≡ is_tree_too_deep p q (tree_at G p)
+  pub depth_seen : (p q : Path) → ((c : Path) → is_at_or_below c p ≡ true → known c ≡ true) → visible p ≡ true → is_too_deep p q (tree_at F p)
+      ≡ is_too_deep p q (tree_at G p)
   depth_seen p q movable seen = by_truth _ _
       (λ e. let d = too_deep-found F p q e in
       let f = here_there (length d.path) p d.path (le_refl (length d.path)) (λ c up. knows_all (known c) (movable c up) (length d.path)) seen d.at d.there in

@@ -9,11 +9,11 @@ use Rattle.std.proofs.lemmas.Bool.{cases_Bool, or_cases, and_parts, and_from, fa
 use Rattle.std.specs.List.{list_any}
 use Rattle.std.specs.FinMap.{entries, get-entries, get-retain_keys, len-entries, insert}
 use Rattle.std.specs.FinMap.Entries.{find}
-use Rattle.cfdp_paths.specs.Paths.{Path, path_cmp, same_path, is_at_or_below, is_below, parent}
-use Rattle.cfdp_paths.proofs.Below.{at_or_below-itself, at_or_below-trans, prefixes_compare, below_parent, is_below-Decides, length-at_or_below, length-child}
+use Rattle.cfdp_paths.specs.Paths.{Path, path_cmp, same_path, is_at_or_below, is_below}
+use Rattle.cfdp_paths.proofs.Below.{at_or_below-itself, at_or_below-trans, prefixes_compare, is_below-Decides}
 use Rattle.cfdp_actions.specs.Filestore.{Node, Filestore, node_at, is_root, is_beside, inside_beside, has_beside, deepest_beside}
 use Rattle.cfdp_leases.specs.Footprint.{Footprint, is_exclusive, is_shared, is_covered}
-use Rattle.cfdp_leases.proofs.Sets.{by_truth, any_at, any_from, any_in-from, any_in-at}
+use Rattle.cfdp_leases.proofs.Sets.{any_at, any_from, any_in-from, any_in-at}
 use Rattle.cfdp_states.specs.declared.extent.Extent.TheVariants as extent
 use Rattle.cfdp_states.specs.Alone.{alone}
 use Rattle.cfdp_states.specs.Sketching.{Extents}
@@ -21,25 +21,20 @@ use Rattle.cfdp_states.specs.Views.{only}
 use Rattle.cfdp_states.specs.Sparse.{Hides, Knows}
 use Rattle.cfdp_states.specs.code.Sparse.{is_shown, shows, children, IsUnseenBelow, FillsAt, unfilled, filled, HoldsLeased}
 use Rattle.cfdp_actions.proofs.Order.{same_path-true, same_path-is}
-use Rattle.cfdp_states.proofs.Entries.{deepest-most, deepest-there, any-found, found-any, some_entry, kept_some, below-at, below-under}
+use Rattle.cfdp_actions.proofs.BesideLaws.{below_longer}
+use Rattle.cfdp_actions.proofs.Truths.{by_truth}
+use Rattle.cfdp_actions.proofs.RowLaws.{deepest-most}
+use Rattle.cfdp_states.proofs.Entries.{deepest-there, any-found, found-any, some_entry, kept_some, below-at, below-under}
 use Rattle.cfdp_states.proofs.MovedPaths.{not_both}
 use Rattle.cfdp_states.proofs.SparseLists.{take-at_or_below, front_above, shows_above, shows-parts}
 use Rattle.cfdp_paths.proofs.InOrder.{path_antisym}
 
 -- ---- the child on the way to a path
 
-pub below_length : (x u : Path) → is_below x u ≡ true → length u + 1 ≤ length x
-below_length [] [] h = absurd (true≢false (sym h))
-below_length [] (n ∷ u) h = absurd (true≢false (sym h))
-below_length (m ∷ x) u h =
-    let le = length-at_or_below (parent (m ∷ x)) u (below_parent (m ∷ x) u h) in
-    let long : length (m ∷ x) ≡ length (parent (m ∷ x)) + 1 = length-child (m ∷ x) (parent (m ∷ x)) (omega arith) refl in
-    omega (arith, le, long)
-
 pub same_long : (c y : Path) → is_at_or_below c y ≡ true → length c ≤ length y → c ≡ y
 same_long c y at le = elim (cases_Bool (same_path c y)) [
   | inl e ↦ same_path-true c y e
-  | inr f ↦ let more = below_length c y ((is_below-Decides c y).1 (at, λ e. true≢false (sym (same_path-is c y e) ∙ f))) in absurd (omega (arith, more, le))
+  | inr f ↦ let more = below_longer c y ((is_below-Decides c y).1 (at, λ e. true≢false (sym (same_path-is c y e) ∙ f))) in absurd (omega (arith, more, le))
 ]
 
 below_rooted : (x u : Path) → is_below x u ≡ true → is_root x ≡ false
@@ -50,7 +45,7 @@ below_rooted (m ∷ x) u h = refl
 module _ (paths : List Path) (u : Path) (few : length u < 8) where
   module _ (x : Path) (below : is_below x u ≡ true) where
     child-length : length (take (suc (length u)) x) ≡ suc (length u)
-    child-length = let more = below_length x u below in omega (arith, more, length-take (suc (length u)) x)
+    child-length = let more = below_longer x u below in omega (arith, more, length-take (suc (length u)) x)
 
     child-below : is_below (take (suc (length u)) x) u ≡ true
     child-below =
@@ -63,7 +58,7 @@ module _ (paths : List Path) (u : Path) (few : length u < 8) where
     child-above : (y : Path) → is_at_or_below x y ≡ true → is_below y u ≡ true → is_at_or_below y (take (suc (length u)) x) ≡ true
     child-above y at under = elim (prefixes_compare x y (take (suc (length u)) x) at (front_above (suc (length u)) x)) [
       | inl h ↦ h
-      | inr h ↦ let more = below_length y u under in
+      | inr h ↦ let more = below_longer y u under in
           subst (λ z. is_at_or_below y z ≡ true) (sym (same_long (take (suc (length u)) x) y h (omega (arith, more, child-length)))) (at_or_below-itself y)
     ]
 
@@ -171,7 +166,7 @@ module _ (paths : List Path) (u : Path) (few : length u < 8) (F G : Filestore)
   beside_deep h =
       let b = beside_there h in
       let most = deepest-most (entries (inside_beside F u (children u paths))) b.0 b.3 in
-      let more = below_length b.0 u (beside-hidden paths u few b.0 b.1).0 in
+      let more = below_longer b.0 u (beside-hidden paths u few b.0 b.1).0 in
       omega (arith, most, more)
 
   -- so has the directory that is put there

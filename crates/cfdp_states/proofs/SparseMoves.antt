@@ -6,13 +6,13 @@ use Rattle.std.proofs.lemmas.Bool.{cases_Bool, or_cases, or_parts, false_from_ne
 use Rattle.std.proofs.lemmas.List.{append-nil}
 use Rattle.cfdp_paths.specs.Paths.{Path, same_path, is_at_or_below, is_below, rebased}
 use Rattle.cfdp_paths.proofs.Below.{at_or_below-itself, at_or_below-trans, is_below-Decides, length-at_or_below, rebased-append}
+use Rattle.cfdp_paths.specs.PathMaps.{is_too_deep}
 use Rattle.cfdp_actions.specs.Filestore.{Node, Filestore, node_at, blocks, has_entries, tree_at}
-use Rattle.cfdp_actions.specs.Actions.{RenameFile, is_tree_too_deep}
+use Rattle.cfdp_actions.specs.Actions.{RenameFile}
 use Rattle.cfdp_states.specs.Sparse.{passes_after, Hides, IsSparseSubstitute, Knows, AreAlike}
 use Rattle.cfdp_actions.proofs.Order.{same_path-true, same_path-is}
 use Rattle.cfdp_actions.proofs.Prefixes.{rebased-below, rebased_back}
-use Rattle.cfdp_actions.proofs.Moves.{none_unless, moved, blocks-moved_free}
-use Rattle.cfdp_states.proofs.Sketched.{staged-moved}
+use Rattle.cfdp_actions.proofs.Moves.{none_unless, moved, blocks-moved_free, staged-moved}
 use Rattle.cfdp_states.proofs.LikeNodes.{nothing, alike, like-none}
 use Rattle.cfdp_states.proofs.Entries.{below-at, above, found-has_entries, found-too_deep}
 use Rattle.cfdp_states.proofs.MovedPaths.{not_both, at-moved, below-moved, length-moved, moved-here, moved-gone, moved-else}
@@ -46,7 +46,7 @@ longer x y at short = false_from_ne_true _ (λ t.
 -- ---- a filestore in which nothing is at or below q
 
 module _ (visible : Path → Bool) (F : Filestore) (p q : Path) (seen_p : visible p ≡ true) (apart : is_at_or_below q p ≡ false)
-    (shallow : is_tree_too_deep p q (tree_at F p) ≡ false) (empty : (x : Path) → is_at_or_below x q ≡ true → node_at F x ≡ None) where
+    (shallow : is_too_deep p q (tree_at F p) ≡ false) (empty : (x : Path) → is_at_or_below x q ≡ true → node_at F x ≡ None) where
   -- what moves has no more than 8 names then
   short_then : (y : Path) → is_at_or_below y p ≡ true → is_some (node_at F y) ≡ true → nat_lt 8 (length (rebased p q y)) ≡ false
   short_then y at there = false_from_ne_true _ (λ t.
@@ -195,7 +195,7 @@ nothing_at F q absent bare x at =
 
 module _ (known visible : Path → Bool) (F G : Filestore) (h : IsSparseSubstitute known visible F G) (p q : Path) (seen_p : visible p ≡ true)
     (seen_q : visible q ≡ true) (movable : (c : Path) → is_at_or_below c p ≡ true → known c ≡ true) (apart : is_at_or_below q p ≡ false)
-    (shallow_F : is_tree_too_deep p q (tree_at F p) ≡ false) (shallow_G : is_tree_too_deep p q (tree_at G p) ≡ false)
+    (shallow_F : is_too_deep p q (tree_at F p) ≡ false) (shallow_G : is_too_deep p q (tree_at G p) ≡ false)
     (absent : node_at G q ≡ None) (bare : has_entries G q ≡ false) where
   empty_G : (x : Path) → is_at_or_below x q ≡ true → node_at G x ≡ None
   empty_G x at = nothing_at G q absent bare x at

@@ -22,14 +22,16 @@ use Rattle.std.specs.FinMap.Entries.{find-put}
 use Rattle.cfdp_paths.specs.Paths.{Path, path_cmp, same_path, is_at_or_below, is_below}
 use Rattle.cfdp_paths.specs.PathMaps.{tree_in}
 use Rattle.cfdp_paths.proofs.Below.{at_or_below-trans}
+use Rattle.cfdp_paths.proofs.Comparing.{path_cmp-total}
 use Rattle.cfdp_actions.specs.Filestore.{Filestore, deepest_beside, deepest_of, has_beside, is_beside, is_root}
-use Rattle.cfdp_actions.proofs.Order.{paths_total, same_path-true, same_path-is}
+use Rattle.cfdp_actions.proofs.Order.{same_path-true, same_path-is}
 use Rattle.cfdp_actions.specs.Actions.{Item}
+use Rattle.cfdp_actions.proofs.BesideLaws.{below_longer}
 use Rattle.cfdp_leases.specs.Footprint.{Footprint}
 use Rattle.cfdp_leases.proofs.Sets.{exists, exists-append_left, exists-append_right, exists-append_cases, exists_from_contains, any_at, any_from}
 use Rattle.cfdp_states.specs.code.Sparse.{AreSame, HoldsLeased, PassAbove, SeesBy, children, is_shown, moved_back, paths_in, with_origin}
 use Rattle.cfdp_states.proofs.SparseLists.{front_above, origin_else, shows_from, shows-parts, take-at_or_below}
-use Rattle.cfdp_states.proofs.SparseFillers.{below_length, same_long}
+use Rattle.cfdp_states.proofs.SparseFillers.{same_long}
 
 -- ---- the same paths
 
@@ -99,7 +101,7 @@ found (e ∷ es) x = elim (same_path x e.0) as (λ b. (b || list_any (same_path 
 ]
 
 pub put_same : {X : Type 0} (p : Path) (v : X) (es : List (Path × X)) → AreSame (paths_in (put path_cmp p v es)) (paths_in es ++ p ∷ [])
-put_same {X} p v es x = found (put path_cmp p v es) x ∙ ap is_some (find-put path_cmp paths_total x p v es)
+put_same {X} p v es x = found (put path_cmp p v es) x ∙ ap is_some (find-put path_cmp path_cmp-total x p v es)
     ∙ one (same_path x p) (find path_cmp x es) (list_any (same_path x) (paths_in es)) (found es x)
     ∙ sym (list_any-append (same_path x) (paths_in es) (p ∷ []))
   where
@@ -156,7 +158,7 @@ module _ {X : Type 0} (p : Path) (es : List (Path × X)) (i : ℕ) (sofar : List
       | inl old ↦ f.long c old
       | inr new ↦ elim (or_cases (same_path c (take (suc (length p)) e.0)) false new) [
         | inl same ↦ ap length (same_path-true c (take (suc (length p)) e.0) same)
-            ∙ (let more = below_length e.0 p below in omega (arith, more, length-take (suc (length p)) e.0))
+            ∙ (let more = below_longer e.0 p below in omega (arith, more, length-take (suc (length p)) e.0))
         | inr bad ↦ absurd (true≢false (sym bad))
       ]
     ];

@@ -9,12 +9,13 @@ use Rattle.std.proofs.lemmas.Bool.{cases_Bool, and_parts}
 use Rattle.std.specs.List.{list_all}
 use Rattle.cfdp_paths.specs.Paths.{Path, same_path, is_at_or_below, parent}
 use Rattle.cfdp_paths.proofs.Below.{at_or_below-itself}
+use Rattle.cfdp_paths.specs.PathMaps.{is_too_deep}
 use Rattle.cfdp_status.specs.declared.action.Action.TheVariants as action
 use Rattle.cfdp_status.specs.declared.status.Status.{Status}
 use Rattle.cfdp_status.specs.declared.status.Status.TheVariants.{NotAllowed}
 use Rattle.cfdp_status.specs.Codes.{is_successful}
 use Rattle.cfdp_actions.specs.Filestore.{Node, Directory, File, Filestore, node_at, blocks_of, weight, blocks, Change, Becomes, Stages, changed, after, has_entries, is_root, parent_is_good, tree_at}
-use Rattle.cfdp_actions.specs.Actions.{Request, CreateFile, DeleteFile, RenameFile, AppendFile, ReplaceFile, CreateDirectory, RemoveDirectory, DenyFile, DenyDirectory, Install, Perform, Outcome, refused, succeeds, vacating, arriving, is_tree_too_deep, create, rename, remove_directory, deny_directory, table, free_row, bars, denied, succeeded, row}
+use Rattle.cfdp_actions.specs.Actions.{Request, CreateFile, DeleteFile, RenameFile, AppendFile, ReplaceFile, CreateDirectory, RemoveDirectory, DenyFile, DenyDirectory, Install, Perform, Outcome, refused, succeeds, vacating, arriving, create, rename, remove_directory, deny_directory, table, free_row, bars, denied, succeeded, row}
 use Rattle.cfdp_leases.specs.Items.{step_bound}
 use Rattle.cfdp_states.specs.Alone.{alone}
 use Rattle.cfdp_states.specs.Sparse.{Hides, IsSparseSubstitute, KnowsMove, passes_after, sees_path, named_in, AreAlike}
@@ -107,10 +108,10 @@ goes_sparse known visible F G p h seen (becomes {a = a} {b = b} same) = record {
 
 data RenamesBoth (p q : Path) (below : Bool) (d : Option Node) (es fs : List (Path × Node)) : Outcome → Outcome → Type 0 where
   refuses_both : (status : Status) → is_successful status ≡ false → RenamesBoth p q below d es fs (refused status) (refused status)
-  moves_both : below ≡ false → d ≡ None → is_tree_too_deep p q es ≡ false → is_tree_too_deep p q fs ≡ false → RenamesBoth p q below d es fs
+  moves_both : below ≡ false → d ≡ None → is_too_deep p q es ≡ false → is_too_deep p q fs ≡ false → RenamesBoth p q below d es fs
       (succeeds action.RenameFile (vacating es ++ arriving p q es) 0 0 0) (succeeds action.RenameFile (vacating fs ++ arriving p q fs) 0 0 0)
 
-by_depths : (p q : Path) (es fs : List (Path × Node)) (a b : Bool) → is_tree_too_deep p q es ≡ a → is_tree_too_deep p q fs ≡ b → a ≡ b →
+by_depths : (p q : Path) (es fs : List (Path × Node)) (a b : Bool) → is_too_deep p q es ≡ a → is_too_deep p q fs ≡ b → a ≡ b →
     RenamesBoth p q false None es fs
     (if a then refused (NotAllowed action.RenameFile) else succeeds action.RenameFile (vacating es ++ arriving p q es) 0 0 0)
     (if b then refused (NotAllowed action.RenameFile) else succeeds action.RenameFile (vacating fs ++ arriving p q fs) 0 0 0)
@@ -119,8 +120,8 @@ by_depths p q es fs true false d e same = absurd (true≢false same)
 by_depths p q es fs false true d e same = absurd (true≢false (sym same))
 by_depths p q es fs false false d e same = moves_both refl refl d e
 
-rename_both : (p q : Path) {a b c d : Option Node} (good below : Bool) (es fs : List (Path × Node)) → Like a b → Like c d → is_tree_too_deep p q es
-    ≡ is_tree_too_deep p q fs →
+rename_both : (p q : Path) {a b c d : Option Node} (good below : Bool) (es fs : List (Path × Node)) → Like a b → Like c d → is_too_deep p q es
+    ≡ is_too_deep p q fs →
     RenamesBoth p q below d es fs (rename p q a c good below es) (rename p q b d good below fs)
 unfolding rename
 rename_both p q good below es fs nothing more same = refuses_both _ refl
@@ -128,12 +129,12 @@ rename_both p q good below es fs folder folder same = refuses_both _ refl
 rename_both p q good below es fs folder (file e) same = refuses_both _ refl
 rename_both p q false below es fs folder nothing same = refuses_both _ refl
 rename_both p q true true es fs folder nothing same = refuses_both _ refl
-rename_both p q true false es fs folder nothing same = by_depths p q es fs (is_tree_too_deep p q es) (is_tree_too_deep p q fs) refl refl same
+rename_both p q true false es fs folder nothing same = by_depths p q es fs (is_too_deep p q es) (is_too_deep p q fs) refl refl same
 rename_both p q good below es fs (file e) folder same = refuses_both _ refl
 rename_both p q good below es fs (file e) (file f) same = refuses_both _ refl
 rename_both p q false below es fs (file e) nothing same = refuses_both _ refl
 rename_both p q true true es fs (file e) nothing same = refuses_both _ refl
-rename_both p q true false es fs (file e) nothing same = by_depths p q es fs (is_tree_too_deep p q es) (is_tree_too_deep p q fs) refl refl same
+rename_both p q true false es fs (file e) nothing same = by_depths p q es fs (is_too_deep p q es) (is_too_deep p q fs) refl refl same
 
 -- ---- a request
 

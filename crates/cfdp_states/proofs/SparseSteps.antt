@@ -19,7 +19,7 @@ use Rattle.cfdp_leases.specs.Footprint.{Footprint, covers, is_covered, is_exclus
 use Rattle.cfdp_leases.specs.declared.lease.Lease.{Lease}
 use Rattle.cfdp_leases.specs.declared.lease.Lease.TheVariants.{Exclusive, Shared}
 use Rattle.cfdp_actions.specs.Actions.{Request}
-use Rattle.cfdp_leases.proofs.Sets.{by_truth, any_at, any_from, any_in-from, any_in-at}
+use Rattle.cfdp_leases.proofs.Sets.{any_at, any_from, any_in-from, any_in-at}
 use Rattle.cfdp_states.specs.Alone.{alone}
 use Rattle.cfdp_states.specs.Sketching.{Extents, extent_at, extent_in}
 use Rattle.cfdp_states.specs.code.Sketching.{AddsWhere}
@@ -27,6 +27,7 @@ use Rattle.cfdp_states.specs.Views.{only}
 use Rattle.cfdp_states.specs.code.Sparse.{is_shown, shows, is_moved, IsSparseSurvey, FillsAt, unfilled, HoldsLeased, PassAbove, paths_in}
 use Rattle.cfdp_actions.proofs.Order.{same_path-true, same_path-is}
 use Rattle.cfdp_actions.proofs.Moves.{none_unless}
+use Rattle.cfdp_actions.proofs.Truths.{by_truth}
 use Rattle.cfdp_states.proofs.Fillers.{prefix_take}
 use Rattle.cfdp_states.proofs.Surveys.{adds_none}
 use Rattle.cfdp_states.proofs.Entries.{found-has_entries, kept_some}

@@ -8,6 +8,7 @@ use Rattle.std.proofs.lemmas.Bool.{cases_lt, cases_Bool, or_parts, or_right, and
 use Rattle.std.specs.FinMap.{get, empty, insert, get-insert, get-empty}
 use Rattle.cfdp_paths.specs.Paths.{Path, path_cmp, same_name, same_path, is_at_or_below, is_below}
 use Rattle.cfdp_paths.proofs.Below.{at_or_below-itself, prefixes_compare, is_below-Decides}
+use Rattle.cfdp_paths.proofs.Comparing.{path_cmp-total}
 use Rattle.cfdp_actions.specs.Filestore.{Node, Filestore, node_at, blocks}
 use Rattle.cfdp_actions.specs.Actions.{Item}
 use Rattle.cfdp_leases.specs.Footprint.{Footprint}
@@ -19,7 +20,7 @@ use Rattle.cfdp_states.specs.code.Sketching.{AddsWhere, total_blocks, IsOutline}
 use Rattle.cfdp_states.specs.Views.{most_count, most_need, only}
 use Rattle.cfdp_states.specs.Sparse.{Hides, IsSparseSubstitute, IsSparseViewOf, KnowsMoves, Sees, Knows, AreAlike}
 use Rattle.cfdp_states.specs.code.Sparse.{HidesIn, IsSparseSurvey, FillsAt, unfilled, filled}
-use Rattle.cfdp_actions.proofs.Order.{paths_total, same_path-true, same_path-refl, same_path-is}
+use Rattle.cfdp_actions.proofs.Order.{same_path-true, same_path-refl, same_path-is}
 use Rattle.cfdp_states.proofs.Counting.{blocks-counted}
 use Rattle.cfdp_states.proofs.Viewing.{sketch, nothing_staged}
 use Rattle.cfdp_states.proofs.Surveyed.{only-small, none_yet}
@@ -27,7 +28,7 @@ use Rattle.cfdp_states.proofs.MovedPaths.{not_both}
 use Rattle.cfdp_states.proofs.OfExtents.{node_in, node_of, filestore_of, node_at-filestore_of, fits, in_there, like_node, node-small, total-is}
 use Rattle.cfdp_states.proofs.SparseLists.{front_above}
 
-or_none : (a b : Bool) → b ≡ false → (a || b) ≡ a
+pub or_none : (a b : Bool) → b ≡ false → (a || b) ≡ a
 or_none true b e = refl
 or_none false b e = e
 
@@ -144,16 +145,16 @@ module _ (known visible : Path → Bool) where
 
     visible_same : {m2 : Extents} → FillsAt visible known F u m1 m2 → (p : Path) → visible p ≡ true → get m2 p ≡ get m1 p
     visible_same (unfilled none) p seen = refl
-    visible_same (filled d below hidden over most) p seen = get-insert paths_total m1 d extent.Directory p
+    visible_same (filled d below hidden over most) p seen = get-insert path_cmp-total m1 d extent.Directory p
         ∙ ap (λ b. cond b (Some extent.Directory) (get m1 p))
         (false_from_ne_true (same_path p d) (λ e. true≢false (sym seen ∙ ap visible (same_path-true p d e) ∙ hidden d (at_or_below-itself d) below)))
 
     fill_kept : {m2 : Extents} → FillsAt visible known F u m1 m2 → (p : Path) → Kept p m2
     fill_kept (unfilled none) p = put_kept p
     fill_kept (filled d below hidden over most) p = elim (cases_Bool (same_path p d)) [
-      | inl e ↦ inr (inl (get-insert paths_total m1 d extent.Directory p ∙ ap (λ b. cond b (Some extent.Directory) (get m1 p)) e))
+      | inl e ↦ inr (inl (get-insert path_cmp-total m1 d extent.Directory p ∙ ap (λ b. cond b (Some extent.Directory) (get m1 p)) e))
       | inr f ↦ still_kept p m1 (insert m1 d extent.Directory)
-          (get-insert paths_total m1 d extent.Directory p ∙ ap (λ b. cond b (Some extent.Directory) (get m1 p)) f) (put_kept p)
+          (get-insert path_cmp-total m1 d extent.Directory p ∙ ap (λ b. cond b (Some extent.Directory) (get m1 p)) f) (put_kept p)
     ]
 
     fill_to : {m2 : Extents} → FillsAt visible known F u m1 m2 → (n : ℕ) → Knows (known u) n → Hides visible F u n → HidesIn visible m2 u n
@@ -163,7 +164,7 @@ module _ (known visible : Path → Bool) where
       path = d;
       below = below;
       hidden = hidden;
-      there = ap is_some (get-insert paths_total m1 d extent.Directory d ∙ ap (λ b. cond b (Some extent.Directory) (get m1 d)) (same_path-refl d));
+      there = ap is_some (get-insert path_cmp-total m1 d extent.Directory d ∙ ap (λ b. cond b (Some extent.Directory) (get m1 d)) (same_path-refl d));
       deep = most n k r;
     }
 
@@ -178,7 +179,8 @@ module _ (known visible : Path → Bool) where
         path = r.path;
         below = r.below;
         hidden = r.hidden;
-        there = ap is_some (sym (get-insert paths_total m1 d extent.Directory r.path ∙ ap (λ b. cond b (Some extent.Directory) (get m1 r.path)) f)) ∙ r.there;
+        there = ap is_some (sym (get-insert path_cmp-total m1 d extent.Directory r.path
+            ∙ ap (λ b. cond b (Some extent.Directory) (get m1 r.path)) f)) ∙ r.there;
         deep = r.deep;
       }))
     ]
@@ -206,7 +208,8 @@ module _ (known visible : Path → Bool) where
         path = r.path;
         below = r.below;
         hidden = r.hidden;
-        there = ap is_some (sym (get-insert paths_total m1 d extent.Directory r.path ∙ ap (λ b. cond b (Some extent.Directory) (get m1 r.path)) f)) ∙ r.there;
+        there = ap is_some (sym (get-insert path_cmp-total m1 d extent.Directory r.path
+            ∙ ap (λ b. cond b (Some extent.Directory) (get m1 r.path)) f)) ∙ r.there;
         deep = r.deep;
       }
     ]
@@ -221,7 +224,7 @@ module _ (known visible : Path → Bool) where
       path = r.path;
       below = r.below;
       hidden = r.hidden;
-      there = ap is_some (get-insert paths_total m1 d extent.Directory r.path) ∙ grows (same_path r.path d) (get m1 r.path) r.there;
+      there = ap is_some (get-insert path_cmp-total m1 d extent.Directory r.path) ∙ grows (same_path r.path d) (get m1 r.path) r.there;
       deep = r.deep;
     }
 

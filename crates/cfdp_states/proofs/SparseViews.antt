@@ -12,9 +12,8 @@ use Rattle.cfdp_actions.specs.Actions.{Request, CreateFile, DeleteFile, RenameFi
 use Rattle.cfdp_leases.specs.Items.{performed}
 use Rattle.cfdp_states.specs.Alone.{alone}
 use Rattle.cfdp_states.specs.Views.{Sketch, IsViewOf, Tells, TellsInstall}
-use Rattle.cfdp_states.specs.Sparse.{TellsSparse, TellsSparseInstall, passes_after}
+use Rattle.cfdp_states.specs.Sparse.{TellsSparse, TellsSparseInstall, passes_after, joins_at}
 use Rattle.cfdp_states.specs.Sketching.{extent_in}
-use Rattle.cfdp_states.specs.code.Sparse.{joins_at}
 use Rattle.cfdp_states.proofs.Sketched.{entries-is}
 use Rattle.cfdp_states.proofs.Installing.{staged_more}
 use Rattle.cfdp_states.proofs.SparseRows.{Bare, request_sparse, bound_sparse, install_sparse, install_bound_sparse}

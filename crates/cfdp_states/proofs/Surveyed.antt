@@ -12,20 +12,20 @@ use Rattle.cfdp_states.specs.Alone.{alone}
 use Rattle.cfdp_states.specs.Sketching.{extent_in, Extents}
 use Rattle.cfdp_states.specs.code.Sketching.{total_blocks, IsOutline, AddsWhere, IsSurvey}
 use Rattle.cfdp_states.specs.Views.{most_count, most_need, only, IsViewOf}
-use Rattle.cfdp_actions.proofs.Order.{paths_total}
 use Rattle.cfdp_actions.proofs.Weights.{entries-retain_keys}
 use Rattle.cfdp_states.proofs.Counting.{enough, blocks-counted}
 use Rattle.cfdp_states.proofs.Viewing.{sketch, nothing_staged}
 use Rattle.cfdp_states.proofs.Trees.{weights-kept}
 use Rattle.cfdp_states.proofs.Surveys.{below_one, one_of, adds_as, surveyed}
 use Rattle.cfdp_paths.proofs.InOrder.{path_antisym}
+use Rattle.cfdp_paths.proofs.Comparing.{path_cmp-total}
 
 -- the paths of a footprint, as it lends them
 covered-lent : (xs ys : List Path) (fp : Footprint) (p : Path) → set.from_list xs ≡ fp.exclusive → set.from_list ys ≡ fp.shared → is_covered fp p
     ≡ (below_one xs p || list_any (same_path p) ys)
 covered-lent xs ys fp p exclusive shared =
     (λ i. any_in (sym exclusive i) (λ e. is_at_or_below p e) || set.contains (sym shared i) p)
-    ∙ (λ i. any_in-from_list (λ e. is_at_or_below p e) xs i || set.contains-from_list paths_total ys p i)
+    ∙ (λ i. any_in-from_list (λ e. is_at_or_below p e) xs i || set.contains-from_list path_cmp-total ys p i)
 
 -- all that the footprint covers
 pub whole_survey : (xs ys : List Path) (fp : Footprint) (F : Filestore) (m : Extents) → set.from_list xs ≡ fp.exclusive → set.from_list ys ≡ fp.shared →
@@ -38,7 +38,7 @@ pub only-small : (fp : Footprint) (F : Filestore) → blocks F ≤ 65536 → blo
 unfolding blocks
 only-small fp F le =
     let kept : weights (entries (retain_keys F.nodes (λ p. is_covered fp p))) ≡ weights (where_key path_cmp (λ p. is_covered fp p) (entries F.nodes)) =
-    ap weights (entries-retain_keys paths_total path_antisym F.nodes (λ p. is_covered fp p)) in
+    ap weights (entries-retain_keys path_cmp-total path_antisym F.nodes (λ p. is_covered fp p)) in
     let fewer : weights (where_key path_cmp (λ p. is_covered fp p) (entries F.nodes)) ≤ weights (entries F.nodes) =
     weights-kept (λ p. is_covered fp p) (entries F.nodes) in
     let none = nothing_staged in

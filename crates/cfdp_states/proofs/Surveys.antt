@@ -11,11 +11,12 @@ use Rattle.std.proofs.lemmas.Slice.{between_to_end}
 use Rattle.std.proofs.lemmas.List.Folds.{list_any_more, list_any-append}
 use Rattle.cfdp_paths.specs.Paths.{Path, path_cmp, same_path, is_at_or_below}
 use Rattle.cfdp_paths.proofs.Below.{at_or_below-trans}
+use Rattle.cfdp_paths.proofs.Comparing.{path_cmp-total}
 use Rattle.cfdp_actions.specs.Filestore.{Filestore}
 use Rattle.cfdp_states.specs.declared.extent.Extent.{Extent}
 use Rattle.cfdp_states.specs.Sketching.{extent_at, Extents}
 use Rattle.cfdp_states.specs.code.Sketching.{AddsWhere, IsSurvey}
-use Rattle.cfdp_actions.proofs.Order.{paths_total, same_path-true}
+use Rattle.cfdp_actions.proofs.Order.{same_path-true}
 
 abbrev pub below_one : List Path → Path → Bool
 below_one roots p = list_any (λ root. is_at_or_below p root) roots
@@ -55,7 +56,7 @@ adds_both A B C F l m n one two same p =
 
 pub adds_one : (F : Filestore) (m : Extents) (path : Path) (e : Extent) → extent_at F path ≡ Some e → AddsWhere (λ p. same_path p path) F m (insert m path e)
 adds_one F m path e here p =
-    get-insert paths_total m path e p
+    get-insert path_cmp-total m path e p
     ∙ elim (same_path p path) as (λ b. same_path p path ≡ b → cond b (Some e) (get m p) ≡ seen b (extent_at F p) (get m p)) [
       | true ↦ λ t. sym (ap (λ v. seen true v (get m p)) (ap (extent_at F) (same_path-true p path t) ∙ here))
       | false ↦ λ t. refl

@@ -11,10 +11,10 @@ use Rattle.cfdp_actions.specs.Store.{existing_node, existing_nodes_at}
 use Rattle.cfdp_states.specs.declared.extent.Extent.TheVariants as extent
 use Rattle.cfdp_states.specs.Sketching.{most_octets, extent_of, extent_in, Extents}
 use Rattle.cfdp_states.specs.code.Sketching.{extent_of_existing, added, AddsWhere}
-use Rattle.cfdp_actions.proofs.Order.{paths_total}
 use Rattle.cfdp_actions.proofs.Weights.{entries-retain_keys, sorted_rest, find_later}
 use Rattle.cfdp_actions.proofs.Moves.{tree_at-sorted, find-tree_at}
 use Rattle.cfdp_paths.proofs.InOrder.{path_antisym}
+use Rattle.cfdp_paths.proofs.Comparing.{path_cmp-total}
 
 pub short : (n : ℕ) → 1 + blocks_of n ≤ 65536 → n ≡ min n most_octets
 unfolding blocks_of
@@ -35,7 +35,7 @@ get-added (e ∷ es) le s m x =
     let first : weight (Some e.1) ≤ 65536 = omega (arith, le) in
     let v = extent_of_existing (existing_node e) in
     get-added es (omega (arith, le)) (sorted_rest e es s) (insert m e.0 v) x
-    ∙ ap (λ c. cond (is_some (find path_cmp x es)) (extent_in (find path_cmp x es)) c) (get-insert paths_total m e.0 v x)
+    ∙ ap (λ c. cond (is_some (find path_cmp x es)) (extent_in (find path_cmp x es)) c) (get-insert path_cmp-total m e.0 v x)
     ∙ elim (same_path x e.0) as (λ b. same_path x e.0 ≡ b →
     cond (is_some (find path_cmp x es)) (extent_in (find path_cmp x es)) (cond b (Some v) (get m x))
     ≡ cond (is_some (cond b (Some e.1) (find path_cmp x es))) (extent_in (cond b (Some e.1) (find path_cmp x es))) (get m x)) [
@@ -61,7 +61,7 @@ tree-small : (F : Filestore) (root : Path) → blocks F ≤ 65536 → weights (t
 tree-small F root le =
     let test = λ (q : Path). is_at_or_below q root in
     let kept : weights (tree_at F root) ≡ weights (where_key path_cmp test (entries F.nodes)) =
-    ap weights (entries-retain_keys paths_total path_antisym F.nodes test) in
+    ap weights (entries-retain_keys path_cmp-total path_antisym F.nodes test) in
     let fewer = weights-kept test (entries F.nodes) in
     let all = weights-small F le in
     omega (arith, kept, fewer, all)

@@ -16,10 +16,14 @@
 --     IsSparseSubstitute known visible F G   F and G are alike at the visible paths, and hide something below the same
 --                                     ones: as deep in both where that is known
 --     IsSparseViewOf v items F start peak taken      the view describes F, as far as the items see it
+--     joins_at m request              something is to move to a path at which the map has nothing, but below it: what
+--                                     such a view can't say
 --     TellsSparse, TellsSparseInstall how such a view goes on with the next item
-use Rattle.std.specs.Prelude.{◌≡◌, ⊤, ℕ, ◌+◌, ◌≤◌, max, Bool, true, false, ◌&&◌, ◌||◌, nat_lt, if◌then◌else◌, IsTrue, IsFalse, IsSome, ◌↔◌, List, [], ◌∷◌, ◌++◌, length, Option, Some, None}
+use Rattle.std.specs.Prelude.{◌≡◌, ⊤, ℕ, ◌+◌, ◌≤◌, max, Bool, true, false, not, ◌&&◌, ◌||◌, nat_lt, if◌then◌else◌, IsTrue, IsFalse, IsSome, is_some, ◌↔◌, List, [], ◌∷◌, ◌++◌, length, Option, Some, None}
 use Rattle.std.specs.List.{list_all}
+use Rattle.std.specs.FinMap as finite
 use Rattle.cfdp_paths.specs.Paths.{Path, is_at_or_below, is_below, parent, rebased}
+use Rattle.cfdp_paths.specs.PathMaps.{any_below}
 use Rattle.cfdp_status.specs.declared.status.Status.{Status}
 use Rattle.cfdp_status.specs.Codes.{is_successful}
 use Rattle.cfdp_actions.specs.Filestore.{Node, Directory, File, Filestore, node_at, blocks, is_root}
@@ -28,6 +32,7 @@ use Rattle.cfdp_leases.specs.Footprint.{exclusive_in, read_in}
 use Rattle.cfdp_leases.specs.Items.{performed, step_bound}
 use Rattle.cfdp_states.specs.Alone.{alone}
 use Rattle.cfdp_states.specs.Views.{Sketch, IsViewOf, installed_if}
+use Rattle.cfdp_states.specs.Sketching.{Extents}
 
 abbrev pub passes_after : Request → (Path → Bool) → Path → Bool
 passes_after (RenameFile p q) test x =
@@ -115,6 +120,17 @@ pub record IsSparseViewOf (v : Sketch) (items : List Item) (F : Filestore) (star
   pub moves : KnowsMoves known items
   pub gap : blocks F + first ≡ blocks seen + start
   pub peaks : peak + first ≡ most + start
+
+abbrev pub joins_at : Extents → Request → Bool
+joins_at m (RenameFile p q) = any_below q (finite.entries m) && not (is_some (finite.get m q))
+joins_at m (CreateFile p) = false
+joins_at m (DeleteFile p) = false
+joins_at m (AppendFile p q) = false
+joins_at m (ReplaceFile p q) = false
+joins_at m (CreateDirectory p) = false
+joins_at m (RemoveDirectory p) = false
+joins_at m (DenyFile p) = false
+joins_at m (DenyDirectory p) = false
 
 -- as `Tells` has it of a view, for the next request of a list, which goes on if that is successful
 abbrev pub TellsSparse : Sketch → Sketch → Request → Status → Type 0

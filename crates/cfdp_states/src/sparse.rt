@@ -5,8 +5,7 @@ ghost use Rattle.std.specs.Option.{option_copied};
 ghost use Rattle.cfdp_actions.specs.Filestore.{blocks};
 ghost use Rattle.cfdp_leases.specs.Items.{items_of};
 ghost use Rattle.cfdp_states.specs.Alone.{alone};
-ghost use Rattle.cfdp_states.specs.Sparse.{IsSparseViewOf, TellsSparse, TellsSparseInstall};
-ghost use Rattle.cfdp_states.specs.code.Sparse.{joins_at};
+ghost use Rattle.cfdp_states.specs.Sparse.{IsSparseViewOf, TellsSparse, TellsSparseInstall, joins_at};
 ghost use Rattle.cfdp_states.specs.Views.{only};
 
 use crate::origins::shown;

@@ -1,3 +1,4 @@
+//! The nine actions, and their octets.
 ghost use Rattle.std.specs.Prelude.{◌≡◌, ℕ, ◌<◌, Some};
 ghost use Rattle.cfdp_status.specs.Codes.{beside, actions, code_of, has_second};
 

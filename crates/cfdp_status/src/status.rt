@@ -1,3 +1,4 @@
+//! The statuses, and their octets.
 ghost use Rattle.std.specs.Prelude.{◌≡◌, ℕ, Some};
 ghost use Rattle.cfdp_status.specs.Codes.{beside, status_octets, octet_of, status_code_of, not_allowed_code_of, action_of, is_successful};
 ghost use Rattle.cfdp_status.specs.declared.status.Status.TheVariants.{Successful, NotAllowed, NotPerformed};

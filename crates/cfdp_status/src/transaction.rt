@@ -1,3 +1,4 @@
+//! The names of transactions.
 ghost use Rattle.std.specs.Prelude.{◌≡◌, Some};
 ghost use Rattle.cfdp_status.specs.Transaction.{transaction_name};
 

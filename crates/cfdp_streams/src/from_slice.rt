@@ -37,7 +37,6 @@ impl<'a> ScriptIn for FromSlice<'a> {
     }
 
     fn has_failed(&self) -> bool {
-        let _octets = self.octets;
         false
     }
 }

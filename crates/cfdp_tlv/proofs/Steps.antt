@@ -16,10 +16,10 @@ pub guard_ok : {A F : Type 0} (b : Bool) (fault : F) (x y : A) → cond b (Err f
 guard_ok true fault x y e = absurd cc
 guard_ok false fault x y e = (refl, cc)
 
-abbrev done : {A : Type 0} → A → Result A TlvFault
+abbrev done : {A F : Type 0} → A → Result A F
 done x = Ok x
 
-pub ok_is : {A : Type 0} (x y : A) → done x ≡ done y → x ≡ y
+pub ok_is : {A F : Type 0} (x y : A) → done {F = F} x ≡ done y → x ≡ y
 ok_is x y e = cc
 
 pub whole_ok : {A : Type 0} (value : A) (octets : List ℕ) (y : A) → all_read value octets ≡ Ok y → (octets ≡ []) × (value ≡ y)

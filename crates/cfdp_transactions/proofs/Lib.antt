@@ -12,3 +12,4 @@ pub mod Received
 pub mod Examples
 pub mod KeptTable
 pub mod EqualityLaws
+pub mod Runs

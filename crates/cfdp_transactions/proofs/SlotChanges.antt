@@ -1,9 +1,8 @@
 -- Changes and slots: which slots a change leaves alone.
-use Rattle.std.proofs.Common.{◌≡◌, ◌≢◌, ℕ, ◌+◌, ◌<◌, List, [], ◌∷◌, length, refl, ◌∙◌, arith, get_or-set_other, length-set}
+use Rattle.std.proofs.Common.{◌≡◌, ◌≢◌, ℕ, List, [], ◌∷◌, length, refl, ◌∙◌, get_or-set_other, length-set}
 use Rattle.std.specs.Prelude.{⊤}
 use Rattle.std.specs.List.{AllByRecursion}
-use Rattle.std.proofs.lemmas.List.Sums.{sum_by-set}
-use Rattle.cfdp_actions.specs.Filestore.{Filestore, staged_in, blocks_of, blocks, Change, Becomes, Stages, changed, after}
+use Rattle.cfdp_actions.specs.Filestore.{Filestore, staged_in, Change, Becomes, Stages, changed, after}
 
 -- a change of a path, or of this slot
 abbrev pub IsInSlot : ℕ → Change → Type 0
@@ -23,8 +22,3 @@ after-elsewhere F slot other (Stages at octets ∷ cs) own ne =
     after-elsewhere (changed F (Stages at octets)) slot other cs own.1 ne ∙ get_or-set_other F.staged at other octets [] (λ e. ne (e ∙ own.0))
 
 -- blocks, by what is staged ------------------------------------------------------
-
-pub blocks-staged : (F : Filestore) (slot : ℕ) (octets : List ℕ) → slot < length F.staged →
-    blocks (changed F (Stages slot octets)) + blocks_of (length (staged_in F slot)) ≡ blocks F + blocks_of (length octets)
-unfolding blocks
-blocks-staged F slot octets h = omega (arith, sum_by-set (λ (x : List ℕ). blocks_of (length x)) F.staged slot octets [] h)

@@ -4,8 +4,8 @@ ghost use Rattle.std.specs.Prelude.{◌≡◌, ◌<◌, ◌≤◌, ℕ, None, Is
 ghost use Rattle.cfdp_leases.specs.Footprint.{footprint_of};
 ghost use Rattle.cfdp_leases.specs.Leases.{first_conflict};
 ghost use Rattle.cfdp_quota.specs.Budget.{IsOpen, spare};
-ghost use Rattle.cfdp_transactions.specs.Entry.{Receiving, id_of, has_file, is_live};
-ghost use Rattle.cfdp_transactions.specs.World.{bound, free_slot};
+ghost use Rattle.cfdp_transactions.specs.Entry.{Receiving, id_of, is_live};
+ghost use Rattle.cfdp_transactions.specs.World.{free_slot};
 ghost use Rattle.cfdp_transactions.specs.Sound.{Sound};
 ghost use Rattle.cfdp_transactions.specs.code.Adding.{AddsEntry, IsRuled};
 ghost use Rattle.cfdp_transactions.specs.Admission.{is_known_checksum, metadata_came, new_entry, proposal_of, refused_entry};
@@ -15,6 +15,7 @@ ghost use Rattle.cfdp_transactions.specs.code.Books.{Carries, IsBooked, world_of
 ghost use Rattle.cfdp_transactions.specs.code.TableEntries.{kept_index};
 
 use crate::books::Books;
+use crate::declared_file::{bound_of, names_file};
 use crate::table_entry::TableEntry;
 use crate::{Config, Phase, Reply};
 use cfdp_actions::Filestore;
@@ -101,32 +102,11 @@ pub(crate) fn record<S: Filestore>(
     }
 }
 
-/// Whether the transaction has a file: its destination file name is not empty.
-pub(crate) fn names_file(metadata: &Metadata) -> bool
-    ensures { result ≡ has_file metadata.now }
-{
-    !metadata.destination_name.is_empty()
-}
-
 /// Whether this entity computes the checksum, or need not.
 fn is_known_checksum(checksum_type: u8) -> bool
     ensures { result ≡ is_known_checksum checksum_type }
 {
     checksum_type == MODULAR_CHECKSUM || checksum_type == NULL_CHECKSUM
-}
-
-/// How many octets the transaction's file may have: none without a file, the declared size, or the cap where that is 0,
-/// which says that the size is unbounded.
-pub(crate) fn bound_of(config: &Config, metadata: &Metadata) -> u64
-    ensures { result ≡ bound config.now metadata.now }
-{
-    if !names_file(metadata) {
-        0
-    } else if metadata.size == 0 {
-        config.cap()
-    } else {
-        metadata.size
-    }
 }
 
 /// The verdict on the list of requests and its file.

@@ -11,8 +11,8 @@ ghost use Rattle.cfdp_transactions.specs.Delivery.{eof_came, whole};
 ghost use Rattle.cfdp_transactions.specs.Books.{IsAnswered};
 ghost use Rattle.cfdp_transactions.specs.code.Books.{AnswersAt, IsBooked, IsLiveAt, IsSteady, world_of};
 
-use crate::admission::{bound_of, names_file};
 use crate::books::Books;
+use crate::declared_file::{bound_of, names_file};
 use crate::phase_changes::{end, finish, turn};
 use crate::table_entry::TableEntry;
 use crate::{Config, Phase, Reply};

@@ -15,8 +15,8 @@ ghost use Rattle.cfdp_transactions.specs.PieceLaws.{ArePieces};
 ghost use Rattle.cfdp_transactions.specs.Pieces.{received_in, with_range};
 ghost use Rattle.cfdp_transactions.specs.Received.{staged_of};
 
-use crate::admission::bound_of;
 use crate::books::Books;
+use crate::declared_file::bound_of;
 use crate::delivery::judge;
 use crate::phase_changes::end;
 use crate::ranges::Ranges;

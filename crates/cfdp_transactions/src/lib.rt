@@ -10,6 +10,7 @@ mod admission;
 mod books;
 mod config;
 mod copying;
+mod declared_file;
 mod delivery;
 mod equality;
 mod event;

@@ -61,6 +61,7 @@ pub(crate) fn turn<S: Filestore>(
         (world_of (S.state store.now) books.new) index phase eof complete }
     ensures booked { IsBooked (S.state store.now) books.new }
 {
+    // Read for its contract alone: the transaction is in the table.
     let _entry = books.table.at(index);
     books.table.turn(index, phase, eof, complete);
 }

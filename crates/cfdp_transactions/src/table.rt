@@ -3,7 +3,7 @@
 ghost use Rattle.std.specs.Prelude.{◌≡◌, ◌≤◌, ◌<◌, pos, negsuc, ◌≤ℤ◌, Some, None, [], IfSome, IfNone, IfOk, OnOk, OnErr, ◌∷◌, ◌++◌, length, map, slice_get, remove};
 ghost use Rattle.std.specs.Option.{option_copied};
 ghost use Rattle.cfdp_transactions.specs.code.TableEntries.{first_executing, first_entry_over, kept_name, kept_index, entry_ended, entry_stepped, entry_stored, entry_turned};
-ghost use Rattle.cfdp_transactions.specs.code.TableChanges.{Becomes, CanAdvance, CanStore};
+ghost use Rattle.cfdp_transactions.specs.code.TableChanges.{ChangesAt, CanAdvance, CanStore};
 
 use crate::Phase;
 use crate::item::ItemDone;
@@ -126,7 +126,7 @@ impl Table {
         requires within { index < length self.old }
         requires least { IfSome (slice_get self.old index) (λ r. negsuc 65535 ≤ℤ r.blocks_spent) }
         requires most { IfSome (slice_get self.old index) (λ r. r.blocks_spent ≤ℤ pos 65536) }
-        ensures { Becomes self.old self.new index (λ r. entry_ended r condition by_eof given) }
+        ensures { ChangesAt self.old self.new index (λ r. entry_ended r condition by_eof given) }
     {
         self.entries
             .get_index_mut(index)
@@ -137,7 +137,7 @@ impl Table {
     /// The transaction at an index moves to another phase.
     pub(crate) fn turn(&mut self, index: usize, phase: Phase, eof: Option<Eof>, complete: bool)
         requires { index < length self.old }
-        ensures { Becomes self.old self.new index (λ r. entry_turned r phase eof complete) }
+        ensures { ChangesAt self.old self.new index (λ r. entry_turned r phase eof complete) }
     {
         self.entries
             .get_index_mut(index)
@@ -164,7 +164,7 @@ impl Table {
         requires within { index < length self.old }
         requires next { done.next < 255 }
         requires fits { IfSome (slice_get self.old index) (λ r. CanAdvance r done.install done.ticks) }
-        ensures { Becomes self.old self.new index (λ r. entry_stepped r done.next done.last done.install done.before
+        ensures { ChangesAt self.old self.new index (λ r. entry_stepped r done.next done.last done.install done.before
             done.after done.ticks) }
     {
         self.entries.get_index_mut(index).unwrap().advance(done);
@@ -174,7 +174,7 @@ impl Table {
     pub(crate) fn store(&mut self, index: usize, start: u64, end: u64, taken: u32)
         requires within { index < length self.old }
         requires fits { IfSome (slice_get self.old index) (λ r. CanStore r start end) }
-        ensures { Becomes self.old self.new index (λ r. entry_stored r start end taken) }
+        ensures { ChangesAt self.old self.new index (λ r. entry_stored r start end taken) }
     {
         self.entries
             .get_index_mut(index)

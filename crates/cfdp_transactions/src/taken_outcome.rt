@@ -15,8 +15,8 @@ ghost use Rattle.cfdp_transactions.specs.Sound.{Sound};
 ghost use Rattle.cfdp_transactions.specs.code.TakenOutcome.{answered_by, statuses_of, status_by, fault_by};
 ghost use Rattle.cfdp_transactions.specs.Writable.{IsWritable};
 
-use crate::admission::names_file;
 use crate::books::Books;
+use crate::declared_file::names_file;
 use crate::finished_in_buffer::{ShortBuffer, TakenFinished, put_finished};
 use crate::outcome::{Outcome, SharedOutcome};
 use crate::table_entry::TableEntry;

@@ -147,6 +147,7 @@ impl<S: Filestore> Core<S> {
     pub fn sound(&self)
         ensures { Sound self.now.world }
     {
+        // Read for the contract alone: it brings what is always true of the core.
         let _books = &self.books;
     }
 

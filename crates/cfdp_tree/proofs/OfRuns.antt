@@ -1,9 +1,9 @@
 -- Runs of blocks, and the octets in them.
 pub mod OctetsInLists
-pub mod Counts
 pub mod BlockLaws
 pub mod RunLaws
 pub mod HeldLaws
+pub mod WriteLaws
 pub mod FrontLaws
 pub mod GrowLaws
 pub mod BegunLaws

@@ -1,6 +1,7 @@
 -- What only the proofs of the code need: no clause of a public function cites it.
 --     Block        what a block of the arena says of itself, and its payload
 --     Runs         runs of blocks, and the octets that they hold
+--     Frames       what stays as it was where octets of a run are written, or others are held
 --     Ways         the ways back in runs, by which their blocks are found
 --     Contents     the octets of a file or of a staged list, which are in a run
 --     NodeFields   a node: what is at one path, and its links
@@ -24,6 +25,7 @@ pub mod Changes
 pub mod Contents
 pub mod Entries
 pub mod Files
+pub mod Frames
 pub mod Index
 pub mod Kept
 pub mod Lists

@@ -6,7 +6,8 @@ ghost use Rattle.cfdp_actions.specs.Store.{extended, overwritten};
 ghost use Rattle.cfdp_checksum.specs.Checksum.{checksum_at};
 ghost use Rattle.cfdp_tree.specs.code.Nodes.{nodes_in};
 ghost use Rattle.cfdp_tree.specs.code.Runs.{IsAt, Apart, Spares, nth};
-ghost use Rattle.cfdp_tree.specs.code.Ways.{HasWays, KeepsWays};
+ghost use Rattle.cfdp_tree.specs.code.Frames.{ChangesOnly};
+ghost use Rattle.cfdp_tree.specs.code.Ways.{HasWays};
 ghost use Rattle.cfdp_tree.specs.code.Contents.{IsFilled, contents_in};
 ghost use Rattle.cfdp_tree.specs.code.Kept.{contents_of_fields, file_of};
 ghost use Rattle.cfdp_tree.specs.code.NodeFields.{node_fields_of, kind_of_octet};
@@ -88,18 +89,13 @@ impl Contents {
         requires longer { self.old.size ≤ size }
         requires most { size ≤ 7864320 }
         requires room { blocks_of size ≤ free_count arena.old + blocks_of self.old.size }
-        ensures filled { IsFilled arena.new self.new }
+        ensures only { ChangesOnly arena.old arena.new ways.old ways.new self.old self.new }
         ensures size { self.new.size ≡ size }
         ensures sum { self.new.sum ≡ self.old.sum }
         ensures octets { contents_in arena.new self.new ≡ extended (contents_in arena.old self.old) size }
         ensures taken { free_count arena.new + blocks_of size ≡ free_count arena.old + blocks_of self.old.size }
-        ensures capacity { length arena.new ≡ length arena.old }
-        ensures spares { Spares arena.old arena.new self.old.run self.new.run }
         ensures sequence { (k : ℕ) → k < self.old.run.count →
             nth arena.new self.new.run.first k ≡ nth arena.old self.old.run.first k }
-        ensures nodes { nodes_in arena.new ≡ nodes_in arena.old }
-        ensures ways { HasWays arena.new ways.new self.new.run }
-        ensures other_ways { KeepsWays arena.old arena.new ways.old ways.new self.old.run }
     {
         let mut run = self.run;
         run.grow_to(arena, ways, blocks_of(size));
@@ -185,7 +181,7 @@ impl Contents {
         requires ways { HasWays arena.old ways.old self.old.run }
         requires most { self.old.size + more ≤ 7864320 }
         requires room { blocks_of (self.old.size + more) ≤ free_count arena.old + blocks_of self.old.size }
-        ensures filled { IsFilled arena.new self.new }
+        ensures only { ChangesOnly arena.old arena.new ways.old ways.new self.old self.new }
         ensures size { self.new.size ≡ self.old.size + more }
         ensures sum { self.new.sum ≡ self.old.sum }
         ensures octets { contents_in arena.new self.new ≡ extended (contents_in arena.old self.old) (self.old.size
@@ -193,11 +189,6 @@ impl Contents {
         ensures cursor { IsAt arena.new self.new.run result }
         ensures taken { free_count arena.new + blocks_of (self.old.size + more)
             ≡ free_count arena.old + blocks_of self.old.size }
-        ensures capacity { length arena.new ≡ length arena.old }
-        ensures spares { Spares arena.old arena.new self.old.run self.new.run }
-        ensures nodes { nodes_in arena.new ≡ nodes_in arena.old }
-        ensures ways { HasWays arena.new ways.new self.new.run }
-        ensures other_ways { KeepsWays arena.old arena.new ways.old ways.new self.old.run }
     {
         let tail = self.run.tail();
         let none = self.run.count == 0;
@@ -213,17 +204,12 @@ impl Contents {
         requires apart { Apart self.old.run source.now.run }
         requires most { self.old.size + source.now.size ≤ 7864320 }
         requires room { blocks_of (self.old.size + source.now.size) ≤ free_count arena.old + blocks_of self.old.size }
-        ensures filled { IsFilled arena.new self.new }
+        ensures only { ChangesOnly arena.old arena.new ways.old ways.new self.old self.new }
         ensures size { self.new.size ≡ self.old.size + source.now.size }
         ensures octets { contents_in arena.new self.new ≡ contents_in arena.old self.old
             ++ contents_in arena.old source.now }
         ensures taken { free_count arena.new + blocks_of (self.old.size + source.now.size)
             ≡ free_count arena.old + blocks_of self.old.size }
-        ensures capacity { length arena.new ≡ length arena.old }
-        ensures spares { Spares arena.old arena.new self.old.run self.new.run }
-        ensures nodes { nodes_in arena.new ≡ nodes_in arena.old }
-        ensures ways { HasWays arena.new ways.new self.new.run }
-        ensures other_ways { KeepsWays arena.old arena.new ways.old ways.new self.old.run }
     {
         if source.size == 0 {
             return;
@@ -242,17 +228,12 @@ impl Contents {
         requires ways { HasWays arena.old ways.old self.old.run }
         requires most { 2 * self.old.size ≤ 7864320 }
         requires room { blocks_of (2 * self.old.size) ≤ free_count arena.old + blocks_of self.old.size }
-        ensures filled { IsFilled arena.new self.new }
+        ensures only { ChangesOnly arena.old arena.new ways.old ways.new self.old self.new }
         ensures size { self.new.size ≡ 2 * self.old.size }
         ensures octets { contents_in arena.new self.new ≡ contents_in arena.old self.old
             ++ contents_in arena.old self.old }
         ensures taken { free_count arena.new + blocks_of (2 * self.old.size)
             ≡ free_count arena.old + blocks_of self.old.size }
-        ensures capacity { length arena.new ≡ length arena.old }
-        ensures spares { Spares arena.old arena.new self.old.run self.new.run }
-        ensures nodes { nodes_in arena.new ≡ nodes_in arena.old }
-        ensures ways { HasWays arena.new ways.new self.new.run }
-        ensures other_ways { KeepsWays arena.old arena.new ways.old ways.new self.old.run }
     {
         let size = self.size;
         let added = self.sum_at(arena, size);
@@ -270,16 +251,11 @@ impl Contents {
         requires apart { Apart self.old.run source.now.run }
         requires most { source.now.size ≤ 7864320 }
         requires room { blocks_of source.now.size ≤ free_count arena.old + blocks_of self.old.size }
-        ensures filled { IsFilled arena.new self.new }
+        ensures only { ChangesOnly arena.old arena.new ways.old ways.new self.old self.new }
         ensures size { self.new.size ≡ source.now.size }
         ensures octets { contents_in arena.new self.new ≡ contents_in arena.old source.now }
         ensures taken { free_count arena.new + blocks_of source.now.size
             ≡ free_count arena.old + blocks_of self.old.size }
-        ensures capacity { length arena.new ≡ length arena.old }
-        ensures spares { Spares arena.old arena.new self.old.run self.new.run }
-        ensures nodes { nodes_in arena.new ≡ nodes_in arena.old }
-        ensures ways { HasWays arena.new ways.new self.new.run }
-        ensures other_ways { KeepsWays arena.old arena.new ways.old ways.new self.old.run }
     {
         self.release(arena);
         *self = Contents::empty();

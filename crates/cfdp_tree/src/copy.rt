@@ -1,9 +1,8 @@
 //! Octets from run to run, by slices of a block.
 ghost use Rattle.std.specs.Prelude.{◌≡◌, ℕ, ◌+◌, ◌*◌, ◌<◌, ◌≤◌, take, length, slice_range};
-ghost use Rattle.cfdp_arena.specs.Arena.{free_count};
 ghost use Rattle.cfdp_actions.specs.Store.{overwritten};
-ghost use Rattle.cfdp_tree.specs.code.Nodes.{nodes_in};
-ghost use Rattle.cfdp_tree.specs.code.Runs.{IsHeld, IsAt, OtherRunsStay, KeepsFront, octets_of_run, nth};
+ghost use Rattle.cfdp_tree.specs.code.Frames.{WritesOnly};
+ghost use Rattle.cfdp_tree.specs.code.Runs.{IsHeld, IsAt, KeepsFront, octets_of_run};
 
 use crate::header::PAYLOAD_OCTETS;
 use crate::runs::Run;
@@ -29,17 +28,11 @@ impl Run {
         requires from { IsAt arena.old source.now from.now.cursor }
         requires from_within { from.now.cursor.index < source.now.count }
         requires from_fits { from.now.at + len ≤ 120 }
-        ensures held { IsHeld arena.new self.now }
+        ensures only { WritesOnly arena.old arena.new self.now }
         ensures octets { let start = 120 * from.now.cursor.index + from.now.at in
             octets_of_run arena.new self.now ≡ overwritten (octets_of_run arena.old self.now)
             (120 * to.now.cursor.index + to.now.at) (slice_range (octets_of_run arena.old source.now) start
             (start + len)) }
-        ensures sequence { (k : ℕ) → k ≤ self.now.count → nth arena.new self.now.first k
-            ≡ nth arena.old self.now.first k }
-        ensures free { free_count arena.new ≡ free_count arena.old }
-        ensures size { length arena.new ≡ length arena.old }
-        ensures others { OtherRunsStay arena.old arena.new self.now }
-        ensures nodes { nodes_in arena.new ≡ nodes_in arena.old }
     {
         arena.copy_payload(from.cursor.block, from.at, to.cursor.block, to.at, len);
     }
@@ -59,17 +52,11 @@ impl Run {
         requires from_within { from.now.index < source.now.count }
         requires few { count ≤ 120 }
         requires some { 0 < count }
-        ensures held { IsHeld arena.new self.now }
+        ensures only { WritesOnly arena.old arena.new self.now }
         ensures octets { let start = 120 * from.now.index in
             octets_of_run arena.new self.now ≡ overwritten (octets_of_run arena.old self.now)
             (120 * to.now.cursor.index + to.now.at) (slice_range (octets_of_run arena.old source.now) start (start
             + count)) }
-        ensures sequence { (k : ℕ) → k ≤ self.now.count → nth arena.new self.now.first k
-            ≡ nth arena.old self.now.first k }
-        ensures free { free_count arena.new ≡ free_count arena.old }
-        ensures size { length arena.new ≡ length arena.old }
-        ensures others { OtherRunsStay arena.old arena.new self.now }
-        ensures nodes { nodes_in arena.new ≡ nodes_in arena.old }
     {
         let room = PAYLOAD_OCTETS - to.at;
         let whole = Spot {
@@ -102,19 +89,13 @@ impl Run {
         requires to { IsAt arena.old self.now to }
         requires within { at + len ≤ 120 * self.now.count }
         requires there { len ≤ 120 * source.now.count }
-        ensures held { IsHeld arena.new self.now }
+        ensures only { WritesOnly arena.old arena.new self.now }
         ensures octets { octets_of_run arena.new self.now
             ≡ overwritten (octets_of_run arena.old self.now) at (take len (octets_of_run arena.old source.now)) }
-        ensures sequence { (k : ℕ) → k ≤ self.now.count → nth arena.new self.now.first k
-            ≡ nth arena.old self.now.first k }
-        ensures free { free_count arena.new ≡ free_count arena.old }
-        ensures size { length arena.new ≡ length arena.old }
-        ensures others { OtherRunsStay arena.old arena.new self.now }
-        ensures nodes { nodes_in arena.new ≡ nodes_in arena.old }
     {
         let mut target = self.seek(arena, to, (at / PAYLOAD_OCTETS) as u32);
         let mut from = source.start();
-        for index in 0..(len + PAYLOAD_OCTETS - 1) / PAYLOAD_OCTETS {
+        for index in 0..len.div_ceil(PAYLOAD_OCTETS) {
             let count = PAYLOAD_OCTETS.min(len - index * PAYLOAD_OCTETS);
             let spot = Spot {
                 cursor: target,

@@ -5,9 +5,10 @@ ghost use Rattle.cfdp_actions.specs.Filestore.{blocks_of};
 ghost use Rattle.cfdp_tree.specs.code.Block.{block_header};
 ghost use Rattle.cfdp_tree.specs.code.NodeFields.{node_fields_of};
 ghost use Rattle.cfdp_tree.specs.code.Nodes.{nodes_in};
-ghost use Rattle.cfdp_tree.specs.code.Runs.{IsHeld, Apart, RunsStay, Spares};
-ghost use Rattle.cfdp_tree.specs.code.Ways.{HasWays, KeepsWays};
+ghost use Rattle.cfdp_tree.specs.code.Runs.{IsHeld, Apart, RunsStay};
+ghost use Rattle.cfdp_tree.specs.code.Ways.{HasWays};
 ghost use Rattle.cfdp_tree.specs.code.Contents.{IsFilled, contents_in};
+ghost use Rattle.cfdp_tree.specs.code.Frames.{ChangesOnly};
 ghost use Rattle.cfdp_tree.specs.code.Tree.{IsNode, IsTree, node_fields_at, name_at, path_of_node};
 ghost use Rattle.cfdp_tree.specs.code.Index.{IsIndex};
 ghost use Rattle.cfdp_tree.specs.code.Orders.{IsInOrders};
@@ -68,17 +69,12 @@ impl FoundFile {
         requires most { self.now.contents.size + source.now.contents.size ≤ 7864320 }
         requires room { blocks_of (self.now.contents.size + source.now.contents.size)
             ≤ free_count arena.old + blocks_of self.now.contents.size }
-        ensures filled { IsFilled arena.new result }
+        ensures only { ChangesOnly arena.old arena.new ways.old ways.new self.now.contents result }
         ensures size { result.size ≡ self.now.contents.size + source.now.contents.size }
         ensures octets { contents_in arena.new result
             ≡ contents_in arena.old self.now.contents ++ contents_in arena.old source.now.contents }
         ensures taken { free_count arena.new + blocks_of (self.now.contents.size + source.now.contents.size)
             ≡ free_count arena.old + blocks_of self.now.contents.size }
-        ensures capacity { length arena.new ≡ length arena.old }
-        ensures spares { Spares arena.old arena.new self.now.contents.run result.run }
-        ensures nodes { nodes_in arena.new ≡ nodes_in arena.old }
-        ensures ways { HasWays arena.new ways.new result.run }
-        ensures other_ways { KeepsWays arena.old arena.new ways.old ways.new self.now.contents.run }
     {
         let mut contents = self.contents;
         if self.node == source.node {

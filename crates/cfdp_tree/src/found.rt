@@ -25,7 +25,7 @@ impl TreeStore {
     }
 
     /// Copies a file's octets from offset `at` on to the front of the buffer, as many as there are and as fit, and
-    /// answers how many; `None` where no file is at the path of these names. Takes no memory. In expected time
+    /// returns how many; `None` where no file is at the path of these names. Takes no memory. In expected time
     /// linear in the octets of the names and in those that are copied, and logarithmic in the blocks of the file.
     pub fn read_at(&self, names: Names<'_>, at: u64, buffer: &mut [u8]) -> Option<usize>
         requires { All IsName names }

@@ -8,6 +8,7 @@ ghost use Rattle.cfdp_tree.specs.code.Nodes.{nodes_in};
 ghost use Rattle.cfdp_tree.specs.code.Runs.{Spares};
 ghost use Rattle.cfdp_tree.specs.code.Ways.{HasWays, KeepsWays};
 ghost use Rattle.cfdp_tree.specs.code.Contents.{IsFilled, contents_in};
+ghost use Rattle.cfdp_tree.specs.code.Frames.{ChangesOnly};
 ghost use Rattle.cfdp_tree.specs.code.Slots.{no_gap, IsBlank, IsUnwrittenSlot, IsSoundSlot, IsFreshSlot};
 
 use crate::contents::Contents;
@@ -64,18 +65,13 @@ impl Slot {
         requires longer { self.old.contents.size ≤ size }
         requires most { size ≤ 7864320 }
         requires room { blocks_of size ≤ free_count arena.old + blocks_of self.old.contents.size }
-        ensures filled { IsFilled arena.new self.new.contents }
+        ensures only { ChangesOnly arena.old arena.new ways.old ways.new self.old.contents self.new.contents }
         ensures sound { IsSoundSlot arena.new self.new }
         ensures size { self.new.contents.size ≡ size }
         ensures octets { contents_in arena.new self.new.contents
             ≡ extended (contents_in arena.old self.old.contents) size }
         ensures taken { free_count arena.new + blocks_of size ≡ free_count arena.old
             + blocks_of self.old.contents.size }
-        ensures capacity { length arena.new ≡ length arena.old }
-        ensures spares { Spares arena.old arena.new self.old.contents.run self.new.contents.run }
-        ensures nodes { nodes_in arena.new ≡ nodes_in arena.old }
-        ensures ways { HasWays arena.new ways.new self.new.contents.run }
-        ensures other_ways { KeepsWays arena.old arena.new ways.old ways.new self.old.contents.run }
     {
         let within = self.cursor.index < self.contents.run.count;
         self.contents.extend(arena, ways, size);

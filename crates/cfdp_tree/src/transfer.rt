@@ -1,9 +1,8 @@
 //! Octets into a run and out of it, by slices of a block.
 ghost use Rattle.std.specs.Prelude.{◌≡◌, ℕ, ◌+◌, ◌*◌, ◌/◌, ◌<◌, ◌≤◌, length, slice_range};
-ghost use Rattle.cfdp_arena.specs.Arena.{free_count};
 ghost use Rattle.cfdp_actions.specs.Store.{overwritten};
-ghost use Rattle.cfdp_tree.specs.code.Nodes.{nodes_in};
-ghost use Rattle.cfdp_tree.specs.code.Runs.{IsHeld, IsAt, OtherRunsStay, octets_of_run, nth};
+ghost use Rattle.cfdp_tree.specs.code.Frames.{WritesOnly};
+ghost use Rattle.cfdp_tree.specs.code.Runs.{IsHeld, IsAt, octets_of_run};
 ghost use Rattle.cfdp_tree.specs.code.Ways.{HasWays};
 
 use crate::header::PAYLOAD_OCTETS;
@@ -19,15 +18,9 @@ impl Run {
         requires cursor { IsAt arena.old self.now cursor.now }
         requires within { cursor.now.index < self.now.count }
         requires fits { at + length part.now ≤ 120 }
-        ensures held { IsHeld arena.new self.now }
+        ensures only { WritesOnly arena.old arena.new self.now }
         ensures octets { octets_of_run arena.new self.now
             ≡ overwritten (octets_of_run arena.old self.now) (120 * cursor.now.index + at) part.now }
-        ensures sequence { (k : ℕ) → k ≤ self.now.count → nth arena.new self.now.first k
-            ≡ nth arena.old self.now.first k }
-        ensures free { free_count arena.new ≡ free_count arena.old }
-        ensures size { length arena.new ≡ length arena.old }
-        ensures others { OtherRunsStay arena.old arena.new self.now }
-        ensures nodes { nodes_in arena.new ≡ nodes_in arena.old }
     {
         put_part(arena.bytes_mut(cursor.block), at, part);
     }
@@ -54,16 +47,10 @@ impl Run {
         requires first { IsAt arena.old self.now first }
         requires index { first.index ≡ at / 120 }
         requires range { at + length octets.now ≤ 120 * self.now.count }
-        ensures held { IsHeld arena.new self.now }
+        ensures only { WritesOnly arena.old arena.new self.now }
         ensures octets { octets_of_run arena.new self.now ≡ overwritten
             (octets_of_run arena.old self.now) at octets.now }
         ensures cursor { IsAt arena.new self.now result }
-        ensures sequence { (k : ℕ) → k ≤ self.now.count → nth arena.new self.now.first k
-            ≡ nth arena.old self.now.first k }
-        ensures free { free_count arena.new ≡ free_count arena.old }
-        ensures size { length arena.new ≡ length arena.old }
-        ensures others { OtherRunsStay arena.old arena.new self.now }
-        ensures nodes { nodes_in arena.new ≡ nodes_in arena.old }
     {
         let mut block_offset = at % PAYLOAD_OCTETS;
         let mut rest = octets;

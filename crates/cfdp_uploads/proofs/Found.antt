@@ -3,7 +3,7 @@ use Rattle.std.proofs.Common.{◌≡◌, ℕ, zero, suc, ◌+◌, ◌<◌, List,
 use Rattle.std.specs.List.{AllByRecursion, position_or_len, range_with_len}
 use Rattle.std.proofs.lemmas.List.FromFn.{length-range_with_len, get_or-range_with_len}
 use Rattle.std.proofs.lemmas.List.Sums.{position_or_len_is, fails_before_first}
-use Rattle.std.proofs.lemmas.Bool.{lt-ltb, le-ltb, ltb-false}
+use Rattle.std.proofs.lemmas.Bool.{lt-ltb, le-ltb, ltb-false, not-false}
 
 pub found_at : {X : Type 0} (p : X → Bool) (xs : List X) (i : ℕ) (d : X) → i < length xs → ((k : ℕ) → k < i → p (get_or xs k d) ≡ false)
     → p (get_or xs i d) ≡ true → position p xs ≡ Some i
@@ -75,10 +75,6 @@ pub each_weaker : {X : Type 0} (P Q : X → Type 0) → ((x : X) → P x → Q x
 each_weaker P Q weaker [] all = tt
 each_weaker P Q weaker (x ∷ xs) all = (weaker x all.0, each_weaker P Q weaker xs all.1)
 
-not_false : (b : Bool) → not b ≡ false → b ≡ true
-not_false true e = refl
-not_false false e = absurd cc
-
 before_by : (first long k : ℕ) (b : Bool) → ltb first long ≡ b → cond b (Some first) None ≡ None → k < long → k < first
 before_by first long k true is none lt = absurd cc
 before_by first long k false is none lt = omega (arith, ltb-false first long is)
@@ -96,4 +92,4 @@ each_passes f count none k lt =
     let e : get_or (range_with_len 0 count) k 0 ≡ k = get_or-range_with_len 0 count k 0 lt ∙ (let z : 0 + k ≡ k = omega arith in z) in
     let fails : not (f (get_or (range_with_len 0 count) k 0)) ≡ false =
     nowhere_fails (λ n. not (f n)) (range_with_len 0 count) k 0 none (omega (arith, length-range_with_len 0 count)) in
-    not_false (f k) (sym (ap (λ n. not (f n)) e) ∙ fails)
+    not-false (f k) (sym (ap (λ n. not (f n)) e) ∙ fails)

@@ -18,6 +18,7 @@ use Rattle.cfdp_pdus.proofs.WriteSteps.{file_data_len}
 use Rattle.cfdp_uploads.specs.Uploads.{UploadFields, IsUpload, piece_count, pieces_of, piece_of, piece_pdu, eof_of, upload_pdus, sent_octets, is_sent}
 use Rattle.cfdp_uploads.specs.Laws.{ReadBack, IsPart, PartsOfFile, WholeFile}
 use Rattle.cfdp_uploads.proofs.Found.{each_weaker}
+use Rattle.cfdp_status.proofs.Appended.{all-append}
 
 -- ---- how many pieces there are
 
@@ -56,10 +57,6 @@ pub piece_len : (u : UploadFields) (index : ℕ) → length (piece_of u index).o
 piece_len u index = omega (arith, length-take u.segment (drop (u.segment * index) u.file))
 
 -- ---- lists
-
-pub each_append : {X : Type 0} (P : X → Type 0) (xs ys : List X) → AllByRecursion P xs → AllByRecursion P ys → AllByRecursion P (xs ++ ys)
-each_append P [] ys all rest = rest
-each_append P (x ∷ xs) ys all rest = (all.0, each_append P xs ys all.1 rest)
 
 pub each_map : {X Y : Type 0} (P : Y → Type 0) (f : X → Y) (xs : List X) → AllByRecursion (λ x. P (f x)) xs → AllByRecursion P (map f xs)
 each_map P f [] all = tt
@@ -105,7 +102,7 @@ read_back u is = (
   pdu_spelled false (pdus.Metadata u.header u.metadata) (metadata_field u.header.large u.metadata) is.header
       (metadata_short u.header.large u.metadata is.fits)
       (metadata_spelled u.header u.metadata is.sized is.answerable),
-  each_append (λ pdu. SpellsPdu (sent_octets pdu) pdu) (map (piece_pdu u) u.order) (pdus.Eof u.header (eof_of u) ∷ [])
+  all-append (λ pdu. SpellsPdu (sent_octets pdu) pdu) (map (piece_pdu u) u.order) (pdus.Eof u.header (eof_of u) ∷ [])
       (each_map (λ pdu. SpellsPdu (sent_octets pdu) pdu) (piece_pdu u) u.order
       (each_weaker (λ index. index < pieces_of u) _ (piece_spelled u is) u.order is.within)) (
         pdu_spelled false (pdus.Eof u.header (eof_of u)) (eof_field u.header (eof_of u)) is.header (eof_short u.header (eof_of u) is.header)

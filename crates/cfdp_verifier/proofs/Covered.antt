@@ -5,10 +5,11 @@ use Rattle.std.specs.List.{AllByRecursion}
 use Rattle.cfdp_paths.specs.Paths.{Path}
 use Rattle.cfdp_actions.specs.Filestore.{Filestore, node_at}
 use Rattle.cfdp_actions.specs.Actions.{Item, Install, Perform, Outcome, succeeded}
+use Rattle.cfdp_actions.proofs.Order.{get_kept}
 use Rattle.cfdp_leases.specs.Footprint.{Footprint, footprint_of, is_covered, IsWithin}
 use Rattle.cfdp_leases.specs.Laws.{IsAlike}
 use Rattle.cfdp_leases.proofs.Conflict.{own_footprint}
-use Rattle.cfdp_leases.proofs.ReadFrame.{frame_of_reads, get_kept}
+use Rattle.cfdp_leases.proofs.ReadFrame.{frame_of_reads}
 use Rattle.cfdp_leases.proofs.ChangeFrame.{own_changes}
 use Rattle.cfdp_states.specs.Alone.{alone, statuses_alone, need_alone, steps_alone}
 use Rattle.cfdp_states.specs.Views.{only}

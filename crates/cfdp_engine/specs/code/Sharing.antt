@@ -8,7 +8,7 @@ use Rattle.cfdp_engine.specs.Seats.{Receipt}
 use Rattle.cfdp_engine.specs.declared.stop.Stop.{Stop}
 use Rattle.cfdp_engine.specs.declared.stop.Stop.TheVariants as stops
 
-abbrev pub receipt_of : (place : ℕ) → Event → Reply → Result Receipt Stop
-receipt_of place event Reply.Memory = Err stops.Memory
-receipt_of place event Reply.JournalFull = Err stops.JournalFull
-receipt_of place event reply = Ok (record { place = place; event = event; reply = reply })
+abbrev pub receipt_of : (index : ℕ) → Event → Reply → Result Receipt Stop
+receipt_of index event Reply.Memory = Err stops.Memory
+receipt_of index event Reply.JournalFull = Err stops.JournalFull
+receipt_of index event reply = Ok (record { place = index; event = event; reply = reply })

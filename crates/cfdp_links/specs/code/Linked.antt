@@ -15,11 +15,12 @@ use Rattle.cfdp_engine.specs.Seats.{IsReconciled}
 use Rattle.cfdp_engine.specs.declared.stop.Stop.{Stop}
 use Rattle.cfdp_engine.specs.declared.stop.Stop.TheVariants as stops
 use Rattle.cfdp_engine.specs.declared.working.Worked.{Worked}
+use Rattle.cfdp_links.specs.Linked.{IsFaultWhere}
 use Rattle.cfdp_links.specs.Links.{Said, said_of, Reading, link_answer}
 use Rattle.cfdp_commands.specs.Replay.{ReplayStage}
 use Rattle.cfdp_lines.specs.Report.{line_answer}
 use Rattle.cfdp_lines.specs.declared.faults.LinkFault.{LinkFault}
-use Rattle.cfdp_lines.specs.declared.faults.LinkFault.TheVariants.{Memory, BadLine, JournalFull, ReceiptsDiffer}
+use Rattle.cfdp_lines.specs.declared.faults.LinkFault.TheVariants.{Memory, JournalFull, ReceiptsDiffer}
 
 -- a line moved the stage on, and what it says came after what was there
 pub record AddsLine (from to : ReplayStage) (line : List ℕ) (before after : List Said) : Type 0 where
@@ -28,9 +29,7 @@ pub record AddsLine (from to : ReplayStage) (line : List ℕ) (before after : Li
   pub appended : after ≡ before ++ said
 
 abbrev pub IsBadLine : Result Reading ℕ → (file : ℕ) → LinkFault → Type 0
-IsBadLine read file Memory = ⊤
-IsBadLine read file (BadLine named line) = (named ≡ file) × (read ≡ Err line)
-IsBadLine read file fault = ⊥
+IsBadLine read file fault = IsFaultWhere (λ named line. (named ≡ file) × (read ≡ Err line)) ⊥ fault
 
 abbrev pub IsRunFault : LinkFault → Type 0
 IsRunFault Memory = ⊤

@@ -8,7 +8,6 @@
 --     shown_before request paths      what is to be shown before a request, where these are after it
 --     HoldsLeased paths fp            all that the footprint leases is among the paths
 --     moves_at request x, is_moved    x is at or below the path that a request moves, or one of the requests
---     joins_at m request              something is to move to a path at which the map has nothing, but below it
 --     children p paths                the children of p at or above one of the paths
 --     IsFiller p n d                  d is below p and has n names
 --     IsUnseenBelow paths p n d       d is below p and has n names, and no path is at or below its child of p
@@ -16,12 +15,11 @@
 --     IsSparseSurvey known visible m done F      the map says what is in F at the visible paths that pass the test, and
 --                                     hides as much as F below each of them, as far as that is known
 --     FillsAt visible known F p m m'  the map with one directory more, if F hides something below p
-use Rattle.std.specs.Prelude.{◌≡◌, ℕ, suc, ◌+◌, ◌≤◌, Bool, false, not, ◌&&◌, IsTrue, IsFalse, IsSome, is_some, ◌↔◌, ◌⊎◌, if◌then◌else◌, List, [], ◌∷◌, ◌++◌, length, map, take, Option, Some, None}
+use Rattle.std.specs.Prelude.{◌≡◌, ℕ, suc, ◌+◌, ◌≤◌, Bool, false, not, ◌&&◌, IsTrue, IsFalse, IsSome, ◌↔◌, ◌⊎◌, if◌then◌else◌, List, [], ◌∷◌, ◌++◌, length, map, take, Option, Some, None}
 use Rattle.std.specs.List.{list_any}
 use Rattle.std.specs.FinMap as finite
 use Rattle.std.specs.FinSet as set
 use Rattle.cfdp_paths.specs.Paths.{Path, same_path, is_at_or_below, is_below, rebased}
-use Rattle.cfdp_paths.specs.PathMaps.{any_below}
 use Rattle.cfdp_actions.specs.Filestore.{Filestore, is_root}
 use Rattle.cfdp_actions.specs.Actions.{Request, CreateFile, DeleteFile, RenameFile, AppendFile, ReplaceFile, CreateDirectory, RemoveDirectory, DenyFile, DenyDirectory, Item, Perform}
 use Rattle.cfdp_leases.specs.Footprint.{Footprint}
@@ -91,17 +89,6 @@ moves_at (DenyDirectory p) x = false
 
 abbrev pub is_moved : List Request → Path → Bool
 is_moved requests x = list_any (λ r. moves_at r x) requests
-
-abbrev pub joins_at : Extents → Request → Bool
-joins_at m (RenameFile p q) = any_below q (finite.entries m) && not (is_some (finite.get m q))
-joins_at m (CreateFile p) = false
-joins_at m (DeleteFile p) = false
-joins_at m (AppendFile p q) = false
-joins_at m (ReplaceFile p q) = false
-joins_at m (CreateDirectory p) = false
-joins_at m (RemoveDirectory p) = false
-joins_at m (DenyFile p) = false
-joins_at m (DenyDirectory p) = false
 
 abbrev pub children : Path → List Path → List Path
 children p [] = []

@@ -15,7 +15,6 @@ use Rattle.cfdp_paths.specs.Paths.{Name, Path, path_cmp, same_path, is_at_or_bel
 use Rattle.cfdp_paths.proofs.Comparing.{path_cmp-total, same_path-Decides}
 use Rattle.cfdp_paths.proofs.InOrder.{path_antisym, less_by, less_itself, true_from_T}
 use Rattle.cfdp_actions.specs.Filestore.{Node, Filestore, node_at, empty_filestore, weight, weights, blocks, Becomes, changed, is_directory, is_root, is_good, parent_is_good, IsRooted, tree_at}
-use Rattle.cfdp_leases.proofs.ReadFrame.{get_kept}
 use Rattle.cfdp_leases.proofs.ChangeFrame.{node_at-changed}
 use Rattle.cfdp_leases.proofs.Rooted.{Of, tree_at-of}
 use Rattle.cfdp_transactions.specs.Config.{Config}
@@ -23,7 +22,7 @@ use Rattle.cfdp_transactions.specs.Beginning.{start_with}
 use Rattle.cfdp_transactions.specs.Restart.{put_all, CanPutAll, PutBackIsSame}
 use Rattle.cfdp_transactions.proofs.Beginnings.Starting.{blocks-empty, nowhere}
 use Rattle.cfdp_transactions.proofs.Beginnings.PutThere.{CanPut, no_fault, no_root, grown}
-use Rattle.cfdp_actions.proofs.Order.{same_path-refl}
+use Rattle.cfdp_actions.proofs.Order.{same_path-refl, get_kept}
 
 abbrev Entry : Type 0
 Entry = Path × Node
@@ -141,7 +140,7 @@ module _ (F : Filestore) where
   nodes_of [] all = tt
   nodes_of (e ∷ es) all = (all.0.1, nodes_of es all.1)
 
-  each_of : AllByRecursion (λ (e : Entry). node_at F e.0 ≡ Some e.1) (finite.entries F.nodes)
+  pub each_of : AllByRecursion (λ (e : Entry). node_at F e.0 ≡ Some e.1) (finite.entries F.nodes)
   each_of = subst (λ (nodes : finite.FinMap path_cmp Node). AllByRecursion (λ (e : Entry). node_at F e.0 ≡ Some e.1) (finite.entries nodes)) all_kept
       (nodes_of (tree_at F []) (tree_at-of F []))
 

@@ -13,13 +13,13 @@ use Rattle.cfdp_paths.specs.Paths.{Path, parent}
 use Rattle.cfdp_actions.specs.Filestore.{Node, File, Filestore, node_at, staged_in, blocks_of, weight, blocks, Becomes, Stages, changed, is_directory, is_good, parent_is_good, IsRooted}
 use Rattle.cfdp_actions.specs.Store.{Store, free_blocks, with_changes, extended, overwritten}
 use Rattle.cfdp_actions.proofs.ChangeLaws.{blocks-becomes}
+use Rattle.cfdp_actions.proofs.Weights.{blocks-stages}
 use Rattle.cfdp_leases.proofs.Rooted.{rooted_becomes}
 use Rattle.cfdp_leases.proofs.Keys.{keys_after}
 use Rattle.cfdp_transactions.specs.Entry.{Entry}
 use Rattle.cfdp_transactions.specs.World.{World, free, reserves}
 use Rattle.cfdp_transactions.specs.Sound.{Sound, IsVacant}
 use Rattle.cfdp_transactions.specs.Beginning.{NotPut, HasTransactions, Exists, NoParent, NoRoom, Memory, start_with, with_node, put_fault, PutIsGood, PutIsSound}
-use Rattle.cfdp_transactions.proofs.SlotChanges.{blocks-staged}
 use Rattle.cfdp_transactions.proofs.Soundness.Turning.{empty_by_length}
 
 -- nothing is in the way --------------------------------------------------------------------
@@ -207,7 +207,7 @@ module _ (s : Store) (p : Path) (octets : List ℕ) where
     -- there is a block left for the file itself
     room_left : weight (Some (File octets)) ≤ free_blocks s → 1 ≤ free_blocks (written zeroed)
     room_left room =
-        subst (λ (u : Store). 1 ≤ free_blocks u) (sym both_written) (omega (arith, blocks-staged F 0 octets (omega arith), room))
+        subst (λ (u : Store). 1 ≤ free_blocks u) (sym both_written) (omega (arith, blocks-stages F 0 octets (omega arith), room))
 
   pub file_put : (s1 s2 t : Store) → length F.staged ≡ 64 → staged_in F 0 ≡ [] →
       s1 ≡ zeroed → s2 ≡ written s1 → t ≡ installed s2 → t ≡ with_changes s (Becomes p (Some (File octets)) ∷ [])

@@ -9,13 +9,13 @@ use Rattle.std.specs.FinMap as finite
 use Rattle.std.proofs.lemmas.List.Folds.{sum_by-replicate}
 use Rattle.cfdp_paths.specs.Paths.{Path, path_cmp}
 use Rattle.cfdp_actions.specs.Filestore.{Node, Filestore, node_at, empty_filestore, blocks_of, weights, blocks}
+use Rattle.cfdp_actions.proofs.Growth.{blocks_of-zero}
 use Rattle.cfdp_leases.specs.Laws.{KeysArePaths}
 use Rattle.cfdp_transactions.specs.Config.{Config}
 use Rattle.cfdp_transactions.specs.World.{start}
 use Rattle.cfdp_transactions.specs.Sound.{Sound}
 use Rattle.cfdp_transactions.specs.Beginning.{start_with, IsGoodStart}
 use Rattle.cfdp_transactions.proofs.Soundness.Turning.{empty_by_length}
-use Rattle.cfdp_transactions.proofs.Soundness.Ending.{blocks_of-zero}
 
 none_staged : (n i : ℕ) → get_or {A = List ℕ} (replicate n []) i [] ≡ []
 none_staged zero i = refl

@@ -15,9 +15,10 @@ use Rattle.cfdp_paths.specs.Paths.{Path, path_cmp}
 use Rattle.cfdp_actions.specs.Filestore.{Node}
 use Rattle.cfdp_actions.proofs.StoreLaws.{insert_is, retain_is, alike}
 use Rattle.cfdp_leases.specs.Footprint.{PathSet, any_in}
-use Rattle.cfdp_leases.proofs.Sets.{path_cmp_total, any_in-from_list, any_in-union}
+use Rattle.cfdp_leases.proofs.Sets.{any_in-from_list, any_in-union}
 use Rattle.cfdp_transactions.proofs.Beginnings.Starting.{no_entries}
 use Rattle.cfdp_paths.proofs.InOrder.{path_antisym}
+use Rattle.cfdp_paths.proofs.Comparing.{path_cmp-total}
 
 -- what exists ---------------------------------------------------------------------------
 
@@ -52,8 +53,8 @@ turned false o = refl
 pub without_of : (es : Listed) (p : Path) → is_sorted path_cmp es ≡ true → finite.remove (nodes_of es) p
     ≡ nodes_of (where_key path_cmp (λ q. not (eq_by_cmp path_cmp q p)) es)
 without_of es p s =
-    finite.same_map path_cmp_total path_antisym _ _
-    (λ q. finite.get-remove path_cmp_total (nodes_of es) p q ∙ turned (eq_by_cmp path_cmp q p) (finite.get (nodes_of es) q)
+    finite.same_map path_cmp-total path_antisym _ _
+    (λ q. finite.get-remove path_cmp-total (nodes_of es) p q ∙ turned (eq_by_cmp path_cmp q p) (finite.get (nodes_of es) q)
     ∙ sym (finite.get-retain_keys (nodes_of es) (λ x. not (eq_by_cmp path_cmp x p)) q (alike (λ x. not (eq_by_cmp path_cmp x p)) q)))
     ∙ where_of es (λ q. not (eq_by_cmp path_cmp q p)) s
 
@@ -63,8 +64,8 @@ pub any_in_none : (test : Path → Bool) → any_in set.empty test ≡ false
 any_in_none test = any_in-from_list test []
 
 of_items : (s : PathSet) → s ≡ set.from_list (set.items s)
-of_items s = set.same_set path_cmp_total path_antisym s (set.from_list (set.items s)) (λ q. set.contains-items s q
-    ∙ sym (set.contains-from_list path_cmp_total (set.items s) q))
+of_items s = set.same_set path_cmp-total path_antisym s (set.from_list (set.items s)) (λ q. set.contains-items s q
+    ∙ sym (set.contains-from_list path_cmp-total (set.items s) q))
 
 pub any_in_with : (s : PathSet) (p : Path) (test : Path → Bool) → any_in (set.insert s p) test ≡ (test p || any_in s test)
 any_in_with s p test = ap (λ (t : PathSet). any_in (set.insert t p) test) (of_items s) ∙ any_in-from_list test (p ∷ set.items s)

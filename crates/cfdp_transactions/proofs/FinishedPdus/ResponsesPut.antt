@@ -3,6 +3,7 @@ use Rattle.std.proofs.Common.{◌≡◌, ℕ, suc, ◌+◌, ◌-◌, ◌≤◌, 
 use Rattle.std.specs.List.{flat_map, list_all}
 use Rattle.std.proofs.lemmas.List.{length-append, take-append-drop}
 use Rattle.std.proofs.Math.Seq.{drop-cons}
+use Rattle.std.proofs.lemmas.Bool.{and_parts}
 use Rattle.cfdp_status.specs.declared.status.Status.{Status}
 use Rattle.cfdp_tlv.specs.Values.{RequestFields, ResponseFields}
 use Rattle.cfdp_pdus.specs.declared.header.Header.{Header}
@@ -14,7 +15,6 @@ use Rattle.cfdp_transactions.specs.code.FinishedInBuffer.{unperformed_field}
 use Rattle.cfdp_transactions.specs.Outcome.{answered, responses_of}
 use Rattle.cfdp_transactions.specs.code.TakenOutcome.{statuses_of}
 use Rattle.cfdp_transactions.proofs.KeptTable.EntryTakenOut.{one_response, status_at}
-use Rattle.cfdp_pdus.proofs.OutcomeSteps.{and_true}
 
 -- the responses to the requests from an index on
 abbrev pub responses_from : List RequestFields → ℕ → ℕ → List ResponseFields
@@ -65,4 +65,4 @@ answers_len (r ∷ requests) (s ∷ statuses) =
 
 pub all_short : (header : Header) (finished : FinishedFields) → finished_fits header finished ≡ true → list_all is_short_response finished.responses ≡ true
 unfolding finished_fits
-all_short header finished fits = (and_true _ _ fits).0
+all_short header finished fits = (and_parts _ _ fits).0

@@ -3,6 +3,7 @@ use Rattle.std.proofs.Common.{◌≡◌, ℕ, ◌+◌, ◌-◌, max, ◌≤◌, 
 use Rattle.std.specs.Prelude.{Bool, ℤ, Some, None, slice_get, slice_set, IsTrue, if◌then◌else◌}
 use Rattle.cfdp_actions.specs.Filestore.{Filestore, staged_in, blocks, blocks_of, Change, Stages, after}
 use Rattle.cfdp_actions.specs.Store.{Store, free_blocks, with_changes}
+use Rattle.cfdp_actions.proofs.Weights.{blocks-stages}
 use Rattle.cfdp_pdus.specs.Values.{FileDataFields}
 use Rattle.cfdp_quota.specs.Budget.{Budget, entry_at, reserve_at, spare, taking}
 use Rattle.cfdp_transactions.specs.Received.{Received, kept_with, staged_of}
@@ -28,7 +29,6 @@ use Rattle.cfdp_transactions.proofs.Received.FillingGaps.{staged_anew}
 use Rattle.cfdp_transactions.proofs.Soundness.Needs.{data_live, data_needs}
 use Rattle.cfdp_transactions.proofs.Received.RangesAdded.{end_added, pieces_added, pieces_kept}
 use Rattle.cfdp_transactions.proofs.KeptTable.EntryChanged.{entry_at_k, kept_entry, least_spent, most_spent, reserve_open, table_now, booked_now}
-use Rattle.cfdp_transactions.proofs.SlotChanges.{blocks-staged}
 use Rattle.cfdp_transactions.proofs.Soundness.Turning.{length-staged_of, reserve_live}
 use Rattle.cfdp_transactions.proofs.Received.Writing.{kept_length}
 
@@ -175,7 +175,7 @@ module _ (s : Store) (b : Books) (sound : Sound (world_of s b)) (booked : IsBook
 
     grown : blocks G ≡ blocks F + taken
     unfolding blocks_of
-    grown = let h = blocks-staged F r.slot (staged_of received) (kept_entry s b sound booked k r at live).slot in
+    grown = let h = blocks-stages F r.slot (staged_of received) (kept_entry s b sound booked k r at live).slot in
         omega (arith, h, ap blocks_of (length-staged_of received), taken_is, long)
 
     left_now : blocks_left r.blocks_granted now.blocks_spent + taken ≡ reserve e

@@ -5,6 +5,7 @@ use Rattle.std.specs.List.{AllByRecursion}
 use Rattle.std.proofs.lemmas.Int.{ints}
 use Rattle.cfdp_actions.specs.Filestore.{Filestore, staged_in, blocks_of, blocks, Change, Stages, after}
 use Rattle.cfdp_actions.specs.Store.{Store, with_changes}
+use Rattle.cfdp_actions.proofs.Weights.{blocks-stages}
 use Rattle.cfdp_quota.specs.Budget.{Budget, entry_at, used}
 use Rattle.cfdp_leases.specs.Leases.{Grants, without_grant}
 use Rattle.cfdp_transactions.specs.Entry.{is_live, Entry, reserve}
@@ -15,7 +16,7 @@ use Rattle.cfdp_transactions.specs.code.Books.{FitsBudget, IsBooked, ArePiecesIn
 use Rattle.cfdp_transactions.specs.declared.books.Books.{Books}
 use Rattle.cfdp_transactions.proofs.Balance.{left_is}
 use Rattle.cfdp_transactions.proofs.Indexes.{set_each, get_same}
-use Rattle.cfdp_transactions.proofs.SlotChanges.{IsInSlot, after-elsewhere, blocks-staged}
+use Rattle.cfdp_transactions.proofs.SlotChanges.{IsInSlot, after-elsewhere}
 use Rattle.cfdp_transactions.proofs.KeptTable.Accounts.{Adjusts, fits_after, leases_changed, leases_ended}
 use Rattle.cfdp_transactions.proofs.KeptTable.WorldOfTable.{table_entry_at, set_in}
 
@@ -59,7 +60,7 @@ module _ (s : Store) (b : Books) (sound : Sound (world_of s b)) (booked : IsBook
 
   pub blocks-unstaged : blocks (after F (Stages r.slot [] ∷ [])) + blocks_of (length (staged_in F r.slot)) ≡ blocks F
   unfolding blocks_of
-  blocks-unstaged = omega (arith, blocks-staged F r.slot [] kept_entry.slot)
+  blocks-unstaged = omega (arith, blocks-stages F r.slot [] kept_entry.slot)
 
   module _ (changes : List Change) (in_slot : AllByRecursion (IsInSlot r.slot) changes) (now : TableEntryFields) where
     abbrev G : Filestore

@@ -25,6 +25,7 @@ use Rattle.cfdp_transactions.specs.Admission.{proposal_of}
 use Rattle.cfdp_transactions.specs.Execution.{is_install}
 use Rattle.cfdp_transactions.specs.Sound.{is_next_install}
 use Rattle.cfdp_transactions.proofs.Soundness.Parsing.{granted_parsed}
+use Rattle.cfdp_states.proofs.SparseSurveys.{or_none}
 
 abbrev pub has_install : List Item → Bool
 has_install [] = false
@@ -38,10 +39,6 @@ pub record IsListed (file : Bool) (items : List Item) : Type 0 where
 pub first_is : (item : Item) (items : List Item) → is_next_install (item ∷ items) ≡ is_install item
 first_is (Install p) items = refl
 first_is (Perform request) items = refl
-
-or_none : (a b : Bool) → b ≡ false → (a || b) ≡ a
-or_none true b none = refl
-or_none false b none = none
 
 pub install_at_front : (items : List Item) → has_install (drop 1 items) ≡ false → has_install items ≡ is_next_install items
 install_at_front [] none = refl

@@ -2,18 +2,15 @@
 use Rattle.std.proofs.Common.{◌≡◌, ℕ, ◌<◌, [], ◌∷◌, length, refl, arith, get_or-set_same}
 use Rattle.std.specs.Prelude.{false, Some, slice_get, IsTrue}
 use Rattle.cfdp_actions.specs.Filestore.{staged_in, blocks_of, blocks, Stages, changed}
+use Rattle.cfdp_actions.proofs.Growth.{blocks_of-zero}
+use Rattle.cfdp_actions.proofs.Weights.{blocks-stages}
 use Rattle.cfdp_transactions.specs.Entry.{is_live, Entry, blocks_left}
 use Rattle.cfdp_transactions.specs.World.{World}
 use Rattle.cfdp_transactions.specs.Ending.{ended, ends}
 use Rattle.cfdp_transactions.specs.code.LowerLaws.{LowerLaws}
 use Rattle.cfdp_transactions.specs.Sound.{Sound}
 use Rattle.cfdp_transactions.proofs.Balance.{spend_within, left-spend, spend-grown}
-use Rattle.cfdp_transactions.proofs.SlotChanges.{blocks-staged}
 use Rattle.cfdp_transactions.proofs.Soundness.OwnChange.{MovesTo, change_moves}
-
-pub blocks_of-zero : blocks_of 0 ≡ 0
-unfolding blocks_of
-blocks_of-zero = refl
 
 -- the entry as it is when it ends: what an ending event may not have changed before
 pub record IsEnding (e now : Entry) : Type 0 where
@@ -52,7 +49,7 @@ module _ (laws : LowerLaws) where
       (rw (ending.spent, ending.granted) honest.blocks) (omega arith) in
       let same_left : blocks_left now.blocks_granted now.blocks_spent ≡ blocks_left e.blocks_granted e.blocks_spent = rw (ending.spent, ending.granted) refl in
       let inside : now.slot < length F.staged = rw ending.slot kept.slot in
-      let given = blocks-staged F now.slot [] inside in
+      let given = blocks-stages F now.slot [] inside in
       change_moves laws W s false k e (Stages now.slot [] ∷ []) (ended F now condition) (record {
         at = at;
         live = live;

@@ -7,7 +7,10 @@ use Rattle.cfdp_status.specs.declared.status.Status.{Status}
 use Rattle.cfdp_status.specs.declared.status.Status.TheVariants.{Successful}
 use Rattle.cfdp_actions.specs.Filestore.{staged_in, blocks_of}
 use Rattle.cfdp_actions.specs.Actions.{Item, row}
+use Rattle.cfdp_actions.proofs.RowLaws.{blocks_of-mono}
+use Rattle.cfdp_actions.proofs.Weights.{blocks-stages}
 use Rattle.cfdp_states.specs.Alone.{stage}
+use Rattle.cfdp_states.proofs.NextItem.{blocks-le-peak}
 use Rattle.cfdp_tlv.specs.Values.{RequestFields, IsRequest, IsResponse}
 use Rattle.cfdp_transactions.specs.Config.{Config}
 use Rattle.cfdp_transactions.specs.Entry.{Phase, Receiving, Awaiting, Executing, Refused, Done, Ended, is_live, takes_data, Entry, rest, reserve, awaited}
@@ -21,9 +24,7 @@ use Rattle.cfdp_transactions.specs.code.LowerLaws.{LowerLaws}
 use Rattle.cfdp_transactions.specs.Sound.{longest_in, longest, all_successful, Sound}
 use Rattle.cfdp_transactions.specs.Needs.{IsReady, StepNeeds, DataNeeds, TakeNeeds, FollowsIsSound}
 use Rattle.cfdp_transactions.proofs.Soundness.OwnChange.{reserve_within}
-use Rattle.cfdp_transactions.proofs.SlotChanges.{blocks-staged}
 use Rattle.cfdp_transactions.proofs.Soundness.Turning.{length-staged_of, reserve_live}
-use Rattle.cfdp_transactions.proofs.Soundness.Storing.{blocks_of-le, peak_from}
 use Rattle.cfdp_transactions.proofs.Soundness.Stepping.{enough, succeeded_now, takes_within, steps_within}
 use Rattle.cfdp_transactions.proofs.Soundness.NextWorld.{next_sound}
 use Rattle.cfdp_transactions.proofs.Promises.Promise.{get_drop}
@@ -77,9 +78,9 @@ data_needs W k e received s at takes short =
     let kept = s.live k e at live in
     let x = longest W.config e in
     let old : length (staged_in W.filestore e.slot) ≡ length e.received = rw kept.staged (length-staged_of e.received) in
-    let more = blocks_of-le (length received) (length x) (omega (arith, limit_within e.phase W.config e takes, kept.fits)) in
-    let begins = peak_from W.config.prefixes (stage W.filestore e.slot x) e.slot (rest e) in
-    let staging = blocks-staged W.filestore e.slot x kept.slot in
+    let more = blocks_of-mono (length received) (length x) (omega (arith, limit_within e.phase W.config e takes, kept.fits)) in
+    let begins = blocks-le-peak W.config.prefixes (stage W.filestore e.slot x) e.slot (rest e) in
+    let staging = blocks-stages W.filestore e.slot x kept.slot in
     record {
       staged = kept.staged;
       taken = rw (reserve_live e live) (omega (arith, kept.promise.blocks, begins, staging, ap blocks_of old, more));

@@ -8,8 +8,9 @@ use Rattle.cfdp_status.specs.declared.action.Action.TheVariants as action
 use Rattle.cfdp_status.specs.declared.status.Status.{Status}
 use Rattle.cfdp_status.specs.declared.status.Status.TheVariants.{Successful}
 use Rattle.cfdp_paths.specs.Paths.{Path, same_path, is_at_or_below}
+use Rattle.cfdp_paths.specs.PathMaps.{is_too_deep}
 use Rattle.cfdp_actions.specs.Filestore.{Node, Directory, File, Filestore, node_at, has_entries, parent_is_good, tree_at}
-use Rattle.cfdp_actions.specs.Actions.{action_in, Request, CreateFile, DeleteFile, RenameFile, AppendFile, ReplaceFile, CreateDirectory, RemoveDirectory, DenyFile, DenyDirectory, Perform, Performed, Outcome, create, delete_file, rename, append, replace, remove_directory, deny_file, deny_directory, table, free_row, row, is_barred, is_tree_too_deep, succeeded}
+use Rattle.cfdp_actions.specs.Actions.{action_in, Request, CreateFile, DeleteFile, RenameFile, AppendFile, ReplaceFile, CreateDirectory, RemoveDirectory, DenyFile, DenyDirectory, Perform, Performed, Outcome, create, delete_file, rename, append, replace, remove_directory, deny_file, deny_directory, table, free_row, row, is_barred, succeeded}
 
 abbrev pub IsOwn : Action → Outcome → Type 0
 IsOwn a o = IsTrue (succeeded o.answer) → o.answer ≡ Performed (Successful a)
@@ -34,7 +35,7 @@ own_rename p q (Some node) (Some _) good below es = λ h. absurd cc
 own_rename p q (Some node) None false below es = λ h. absurd cc
 own_rename p q (Some node) None true true es = λ h. absurd cc
 own_rename p q (Some node) None true false es =
-    cond_both (is_tree_too_deep p q es) _ _ (λ (o : Outcome). IsOwn action.RenameFile o) (λ _ h. absurd cc) (λ _ h. refl)
+    cond_both (is_too_deep p q es) _ _ (λ (o : Outcome). IsOwn action.RenameFile o) (λ _ h. absurd cc) (λ _ h. refl)
 
 own_append : (p : Path) (there other : Option Node) → IsOwn action.AppendFile (append p there other)
 unfolding append

@@ -6,8 +6,9 @@ use Rattle.std.specs.List.{AllByRecursion}
 use Rattle.std.proofs.lemmas.Bool.{cond_both}
 use Rattle.cfdp_status.specs.declared.action.Action.{Action}
 use Rattle.cfdp_paths.specs.Paths.{Path}
+use Rattle.cfdp_paths.specs.PathMaps.{is_too_deep}
 use Rattle.cfdp_actions.specs.Filestore.{Node, Directory, File, Filestore, staged_in, Change, Becomes, Stages, changed, after}
-use Rattle.cfdp_actions.specs.Actions.{Item, Install, Perform, Request, CreateFile, DeleteFile, RenameFile, AppendFile, ReplaceFile, CreateDirectory, RemoveDirectory, DenyFile, DenyDirectory, Answer, Performed, Installed, NotInstalled, Outcome, create, delete_file, vacating, arriving, rename, append, replace, remove_directory, deny_file, deny_directory, install, table, free_row, row, is_barred, is_tree_too_deep, succeeded}
+use Rattle.cfdp_actions.specs.Actions.{Item, Install, Perform, Request, CreateFile, DeleteFile, RenameFile, AppendFile, ReplaceFile, CreateDirectory, RemoveDirectory, DenyFile, DenyDirectory, Answer, Performed, Installed, NotInstalled, Outcome, create, delete_file, vacating, arriving, rename, append, replace, remove_directory, deny_file, deny_directory, install, table, free_row, row, is_barred, succeeded}
 use Rattle.cfdp_leases.specs.Items.{performed}
 use Rattle.cfdp_transactions.proofs.SlotChanges.{IsInSlot}
 
@@ -58,7 +59,7 @@ of_rename p q (Some node) (Some _) good below es = record { answer = tt; changes
 of_rename p q (Some node) None false below es = record { answer = tt; changes = tt }
 of_rename p q (Some node) None true true es = record { answer = tt; changes = tt }
 of_rename p q (Some node) None true false es =
-    cond_both (is_tree_too_deep p q es) _ _ IsOfRequest (λ _. record { answer = tt; changes = tt })
+    cond_both (is_too_deep p q es) _ _ IsOfRequest (λ _. record { answer = tt; changes = tt })
     (λ _. record { answer = tt; changes = vacated_paths es (arriving p q es) (arriving_paths p q es) })
 
 of_append : (p : Path) (there other : Option Node) → IsOfRequest (append p there other)

@@ -3,10 +3,11 @@ use Rattle.std.proofs.Common.{◌≡◌, ℕ, ◌+◌, ◌-◌, ◌≤◌, List,
 use Rattle.std.specs.Prelude.{false, Some, slice_get, IsTrue}
 use Rattle.std.proofs.lemmas.Bool.{both_ways}
 use Rattle.std.proofs.lemmas.List.{set-set, set-get_or}
-use Rattle.cfdp_paths.specs.Paths.{Path}
 use Rattle.cfdp_actions.specs.Filestore.{Filestore, staged_in, blocks_of, blocks, Stages, changed}
-use Rattle.cfdp_actions.specs.Actions.{Item}
-use Rattle.cfdp_states.specs.Alone.{peak, stage}
+use Rattle.cfdp_actions.proofs.RowLaws.{blocks_of-mono}
+use Rattle.cfdp_actions.proofs.Weights.{blocks-stages}
+use Rattle.cfdp_states.specs.Alone.{stage}
+use Rattle.cfdp_states.proofs.NextItem.{blocks-le-peak}
 use Rattle.cfdp_transactions.specs.Received.{Received, staged_of, pieces}
 use Rattle.cfdp_transactions.specs.Entry.{is_live, Entry, rest, blocks_left}
 use Rattle.cfdp_transactions.specs.World.{World}
@@ -14,18 +15,8 @@ use Rattle.cfdp_transactions.specs.Delivery.{storing, stores}
 use Rattle.cfdp_transactions.specs.code.LowerLaws.{LowerLaws}
 use Rattle.cfdp_transactions.specs.Sound.{longest, IsKept, Sound}
 use Rattle.cfdp_transactions.proofs.Balance.{spend_within, left-spend, spend-grown}
-use Rattle.cfdp_transactions.proofs.SlotChanges.{blocks-staged}
 use Rattle.cfdp_transactions.proofs.Soundness.Turning.{length-staged_of}
 use Rattle.cfdp_transactions.proofs.Soundness.OwnChange.{MovesTo, change_moves}
-
-pub blocks_of-le : (m n : ℕ) → m ≤ n → blocks_of m ≤ blocks_of n
-unfolding blocks_of
-blocks_of-le m n h = omega arith
-
-pub peak_from : (prefixes : List Path) (F : Filestore) (slot : ℕ) (items : List Item) → blocks F ≤ peak prefixes F slot items
-unfolding peak
-peak_from prefixes F slot [] = omega arith
-peak_from prefixes F slot (item ∷ items) = omega arith
 
 -- what is staged over what is staged
 pub stage-stage : (F : Filestore) (slot : ℕ) (x y : List ℕ) → stage (changed F (Stages slot x)) slot y ≡ stage F slot y
@@ -59,8 +50,8 @@ module _ (laws : LowerLaws) (W : World) (s : Sound W) (k : ℕ) (e : Entry) (rec
   old_length = rw kept.staged (length-staged_of e.received)
 
   grows : blocks G ≡ blocks F + more
-  grows = let m = blocks_of-le (length (staged_in F e.slot)) (length received) (rw old_length grown) in
-      omega (arith, blocks-staged F e.slot (staged_of received) kept.slot, ap blocks_of (length-staged_of received), m)
+  grows = let m = blocks_of-mono (length (staged_in F e.slot)) (length received) (rw old_length grown) in
+      omega (arith, blocks-stages F e.slot (staged_of received) kept.slot, ap blocks_of (length-staged_of received), m)
 
   -- the longest list that may come takes these blocks too
   pub stores_room : more ≤ blocks_left e.blocks_granted e.blocks_spent
@@ -70,9 +61,9 @@ module _ (laws : LowerLaws) (W : World) (s : Sound W) (k : ℕ) (e : Entry) (rec
       omega (
         arith,
         kept.promise.blocks,
-        peak_from W.config.prefixes (stage F e.slot x) e.slot (rest e),
-        blocks-staged F e.slot x kept.slot,
-        blocks_of-le (length received) (length x) shorter,
+        blocks-le-peak W.config.prefixes (stage F e.slot x) e.slot (rest e),
+        blocks-stages F e.slot x kept.slot,
+        blocks_of-mono (length received) (length x) shorter,
       )
 
   stored_kept : IsKept W.config G new

@@ -1,6 +1,6 @@
 -- How the program's table changes.
 --     AreNamed entries          each is kept under its own name
---     Becomes old new k f       the entry at k is what f makes of it, and nothing else changes
+--     ChangesAt old new k f     the entry at k is what f makes of it, and nothing else changes
 --     CanAdvance r install ticks      the entry has a next item that may take this many ticks
 --     CanStore r start end      there is room for one more range of the entry's octets
 use Rattle.std.specs.Prelude.{◌≡◌, ℕ, ◌+◌, ◌≤◌, ◌<◌, length, pos, negsuc, ◌≤ℤ◌, Bool, false, List, Some, slice_get, slice_set}
@@ -12,8 +12,9 @@ use Rattle.cfdp_transactions.specs.code.TableEntries.{TableEntryFields, kept_nam
 abbrev pub AreNamed : List (TransactionId × TableEntryFields) → Type 0
 AreNamed = AllByRecursion (λ e. e.0 ≡ kept_name e.1)
 
-abbrev pub Becomes : List TableEntryFields → List TableEntryFields → ℕ → (TableEntryFields → TableEntryFields) → Type 0
-Becomes old new k f = (r : TableEntryFields) → slice_get old k ≡ Some r → new ≡ slice_set old k (f r)
+abbrev pub ChangesAt : List TableEntryFields → List TableEntryFields → ℕ → (TableEntryFields → TableEntryFields)
+    → Type 0
+ChangesAt old new k f = (r : TableEntryFields) → slice_get old k ≡ Some r → new ≡ slice_set old k (f r)
 
 -- this many ticks may be counted, and its counters are within their ranges
 pub record CanAdvance (r : TableEntryFields) (install : Bool) (ticks : ℕ) : Type 0 where

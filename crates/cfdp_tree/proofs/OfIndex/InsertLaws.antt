@@ -16,11 +16,9 @@ use Rattle.cfdp_tree.proofs.OfNodes.EntryLaws.{kept_by}
 use Rattle.cfdp_tree.proofs.OfNodes.LinkLaws.{next_here, next_other}
 use Rattle.cfdp_tree.proofs.OfIndex.IndexLaws.{chain_more, has_later, has_first, kept_chain}
 use Rattle.cfdp_tree.proofs.OfIndex.HeadLaws.{once_last, head_kept, index_set}
+use Rattle.cfdp_tree.proofs.OfNodes.NodeLaws.{none_some}
 use Rattle.cfdp_arena.proofs.Laws.{live_count-written}
 use Rattle.cfdp_order.proofs.SplitLaws.{All_front}
-
-pub none_some : {x : ℕ} → None ≡ Some x → ⊥
-none_some e = cc
 
 pub some_same : {x y : ℕ} → Some x ≡ Some y → x ≡ y
 some_same e = cc

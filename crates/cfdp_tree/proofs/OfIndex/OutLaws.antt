@@ -12,12 +12,12 @@ use Rattle.cfdp_tree.specs.code.NodeFields.{node_fields_of, node_name}
 use Rattle.cfdp_tree.specs.code.Nodes.{only_node, nodes_in}
 use Rattle.cfdp_tree.specs.code.Tree.{IsNode, node_fields_at, name_at, home_in, home, SameEntries}
 use Rattle.cfdp_tree.specs.code.Index.{Heads, bucket_of, index_chain, no_head, list_of, count_out, HasHead, IsHead, IsIndex}
-use Rattle.cfdp_tree.proofs.OfRuns.Counts.{live_count-taken, live_count-same}
 use Rattle.cfdp_tree.proofs.OfIndex.IndexLaws.{kept_chain}
 use Rattle.cfdp_tree.proofs.OfIndex.HeadLaws.{head_kept}
-use Rattle.cfdp_arena.proofs.Laws.{live_count-written, live_count-given}
+use Rattle.cfdp_arena.proofs.Laws.{live_count-written, live_count-given, live_count-taken, live_count-same}
 use Rattle.cfdp_order.proofs.SplitLaws.{All_front}
-use Rattle.cfdp_tree.proofs.OfIndex.InsertLaws.{none_some, some_same}
+use Rattle.cfdp_tree.proofs.OfIndex.InsertLaws.{some_same}
+use Rattle.cfdp_tree.proofs.OfNodes.NodeLaws.{none_some, no_live}
 
 module _ (old new : Blocks) (b : ℕ) (heads : Heads) (was now : Option ℕ) (others : (c : ℕ) → c ≢ b → octets_at new c ≡ octets_at old c)
     (was_out : IsNode old b → was ≡ Some b) (now_out : IsNode new b → now ≡ Some b) (was_no_other : (c : ℕ) → c ≢ b → was ≢ Some c) (no_other : (c : ℕ) → c
@@ -59,15 +59,12 @@ module _ (old new : Blocks) (b : ℕ) (heads : Heads) (was now : Option ℕ) (ot
     counted = omega (arith, index.counted, counts);
   }
 
-pub no_node : {x : Option (List ℕ)} → x ≡ None → IsSome x → ⊥
-no_node none some = cc
-
 pub index_created : (old : Blocks) (heads : Heads) (b : ℕ) (block : List ℕ) → b < length old → octets_at old b ≡ None → IsIndex old heads None →
     IsIndex (with_block old b block) heads (Some b)
 index_created old heads b block within free index =
     index_out old (with_block old b block) b heads None (Some b) (λ c other. get_or-set_other old b c (Some block) None other)
-    (λ node. absurd (no_node free node)) (λ node. refl) (λ c other. none_some) (λ c other e. other (sym (some_same e)))
-    (omega (arith, live_count-taken old b block free within)) index
+    (λ node. absurd (no_live _ free node)) (λ node. refl) (λ c other. none_some) (λ c other e. other (sym (some_same e)))
+    (omega (arith, live_count-taken old b block within free)) index
 
 pub index_moved : (old : Blocks) (heads : Heads) (b : ℕ) (block : List ℕ) → IsNode old b → IsIndex old heads (Some b) →
     IsIndex (with_block old b block) heads (Some b)
@@ -79,7 +76,7 @@ index_moved old heads b block node index =
 pub index_deleted : (old : Blocks) (heads : Heads) (b : ℕ) → IsNode old b → IsIndex old heads (Some b) → IsIndex (without_block old b) heads None
 index_deleted old heads b node index =
     index_out old (without_block old b) b heads (Some b) None (λ c other. get_or-set_other old b c None None other)
-    (λ was. refl) (λ left. absurd (no_node (get_or-set_same old b None None (live_within old b node)) left)) (λ c other e. other (sym (some_same e)))
+    (λ was. refl) (λ left. absurd (no_live _ (get_or-set_same old b None None (live_within old b node)) left)) (λ c other e. other (sym (some_same e)))
     (λ c other. none_some)
     (omega (arith, live_count-given old b node)) index
 

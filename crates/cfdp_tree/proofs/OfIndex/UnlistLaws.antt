@@ -12,7 +12,8 @@ use Rattle.cfdp_tree.specs.code.Tree.{IsNode, name_at, home, SameEntries}
 use Rattle.cfdp_tree.specs.code.Index.{Heads, bucket_of, no_head, list_of, without_node, head_count, HasHead, IsHead, IsIndex}
 use Rattle.cfdp_tree.proofs.OfIndex.CutLaws.{without_has, length_without}
 use Rattle.cfdp_tree.proofs.OfIndex.HeadLaws.{length_chain, head_kept, index_set}
-use Rattle.cfdp_tree.proofs.OfIndex.InsertLaws.{none_some, some_same}
+use Rattle.cfdp_tree.proofs.OfIndex.InsertLaws.{some_same}
+use Rattle.cfdp_tree.proofs.OfNodes.NodeLaws.{none_some}
 
 module _ (nodes new : Blocks) (heads : Heads) (b k : ℕ) (within : k < length heads) (index : IsIndex nodes heads None) (node : IsNode nodes b) (head : ListHead)
     (bucket : bucket_of (home nodes b) (name_at nodes b) (length heads) ≡ k) (same : SameEntries nodes new) (small : head.first < 65536)

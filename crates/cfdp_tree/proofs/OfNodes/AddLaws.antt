@@ -20,6 +20,7 @@ use Rattle.cfdp_tree.specs.code.Kept.{node_of, Shows}
 use Rattle.cfdp_tree.proofs.OfNodes.TreeLaws.{same_node}
 use Rattle.cfdp_tree.proofs.OfNodes.EntryLaws.{kept_climb, kept_ends}
 use Rattle.cfdp_tree.proofs.OfNodes.ClimbLaws.{most_is, ends_by_length, path_by_home}
+use Rattle.cfdp_tree.proofs.OfNodes.NodeLaws.{no_live}
 
 module _ (old : Blocks) (b : ℕ) (block : List ℕ) (within : b < length old) (free : octets_at old b ≡ None) (tree : IsTree old) (named : IsNamed block)
     (good : (d : ℕ) → home_in b block ≡ Some d → IsDirectory old d) (few : length (path_at old (home_in b block)) ≤ 7)
@@ -39,11 +40,8 @@ module _ (old : Blocks) (b : ℕ) (block : List ℕ) (within : b < length old) (
   octets_other : (c : ℕ) → c ≢ b → octets_of new c ≡ octets_of old c
   octets_other c other = ap (λ entry. unwrap_or entry []) (at_other c other)
 
-  no_node : {x : Option (List ℕ)} → x ≡ None → IsSome x → ⊥
-  no_node none some = cc
-
   was_other : (c : ℕ) → IsNode old c → c ≢ b
-  was_other c node e = no_node free (subst (IsNode old) e node)
+  was_other c node e = no_live _ free (subst (IsNode old) e node)
 
   was_node : (c : ℕ) → IsNode new c → c ≢ b → IsNode old c
   was_node c node other = subst IsSome (at_other c other) node

@@ -1,5 +1,5 @@
 -- What is below a directory.
---     got, has_some, has_none        what is at the paths that pass a test:  something, or nothing
+--     has_some, has_none             something, or nothing, is at the paths that pass a test
 --     entry_below                    where something is below a directory, it has an entry
 --     order_some, order_none, absent_none     by the order of a path's node
 use Rattle.std.proofs.Common.{◌≡◌, ℕ, zero, suc, ◌+◌, ◌<◌, ◌≤◌, ◌==◌, Bool, true, false, not, cond, [], ◌∷◌, ◌++◌, length, length-append, take, drop, get_or, Option, Some, None, refl, sym, ap, ◌∙◌, subst, inl, inr, arith}
@@ -7,7 +7,7 @@ use Rattle.std.proofs.lemmas.Bool.{cases_lt}
 use Rattle.std.proofs.lemmas.List.{take_all, take_at, take_more}
 use Rattle.std.specs.Prelude.{Contains}
 use Rattle.std.specs.FinMap as finite
-use Rattle.std.specs.FinMap.{get-retain_keys, get-empty, len-empty, empty_of_len, same_map}
+use Rattle.std.specs.FinMap.{get-empty, len-empty, empty_of_len, same_map}
 use Rattle.cfdp_paths.specs.Paths.{Path, path_cmp, is_below}
 use Rattle.cfdp_paths.proofs.Below.{is_below-Decides, append_from_at_or_below, at_or_below_from_append, length-at_or_below}
 use Rattle.cfdp_paths.proofs.Comparing.{path_cmp-total}
@@ -27,6 +27,7 @@ use Rattle.cfdp_tree.proofs.OfNodes.TreeLaws.{last_same}
 use Rattle.cfdp_tree.proofs.OfNodes.ClimbLaws.{path_by_home, same_bucket, beginning}
 use Rattle.cfdp_tree.proofs.OfOrders.OrderLaws.{member_at}
 use Rattle.cfdp_actions.proofs.StoreLaws.{some_more}
+use Rattle.cfdp_actions.proofs.Order.{get_kept}
 
 -- the filestore
 
@@ -35,15 +36,12 @@ module _ (F : Filestore) (test : Path → Bool) where
   abbrev passing : finite.FinMap path_cmp Node
   passing = finite.retain_keys F.nodes test
 
-  pub got : (q : Path) → finite.get (finite.retain_keys F.nodes test) q ≡ cond (test q) (node_at F q) None
-  got q = get-retain_keys F.nodes test q (λ x e. ap test (sym (path_antisym q x e)))
-
   pub has_some : (q : Path) (node : Node) → node_at F q ≡ Some node → test q ≡ true → not (finite.len (finite.retain_keys F.nodes test) == 0) ≡ true
   has_some q node e passes = by_length (finite.len passing) refl
     where
       absent : finite.len passing ≡ 0 → None ≡ Some node
       absent none =
-          sym (get-empty path_cmp q) ∙ sym (ap (λ m. finite.get m q) (empty_of_len passing none)) ∙ got q
+          sym (get-empty path_cmp q) ∙ sym (ap (λ m. finite.get m q) (empty_of_len passing none)) ∙ get_kept F test q
           ∙ ap (λ b. cond b (node_at F q) None) passes ∙ e
 
       by_length : (n : ℕ) → finite.len passing ≡ n → not (finite.len passing == 0) ≡ true
@@ -55,7 +53,7 @@ module _ (F : Filestore) (test : Path → Bool) where
 
   pub has_none : ((q : Path) (node : Node) → node_at F q ≡ Some node → test q ≡ true → ⊥)
       → not (finite.len (finite.retain_keys F.nodes test) == 0) ≡ false
-  has_none none = ap (λ m. not (finite.len m == 0)) (same_map path_cmp-total path_antisym passing finite.empty (λ q. got q
+  has_none none = ap (λ m. not (finite.len m == 0)) (same_map path_cmp-total path_antisym passing finite.empty (λ q. get_kept F test q
       ∙ absent q (test q) (node_at F q) refl refl ∙ sym (get-empty path_cmp q))) ∙ ap (λ k. not (k == 0)) (len-empty path_cmp Node)
     where
       absent : (q : Path) (b : Bool) (o : Option Node) → test q ≡ b → node_at F q ≡ o → cond (test q) (node_at F q) None ≡ None

@@ -2,7 +2,7 @@
 --     left_path          the paths of the others
 --     removed_tree       there is a tree still
 --     removed_shows      what exists then
-use Rattle.std.proofs.Common.{◌≡◌, ◌≢◌, ℕ, Bool, true, false, List, [], cond, Option, Some, None, refl, sym, ap, ◌∙◌, subst}
+use Rattle.std.proofs.Common.{◌≡◌, ◌≢◌, ℕ, Bool, true, false, [], cond, Option, Some, None, refl, sym, ap, ◌∙◌, subst}
 use Rattle.std.proofs.lemmas.List.{get_or-set_same, get_or-set_other}
 use Rattle.std.specs.FinMap as finite
 use Rattle.std.specs.FinMap.{get-remove}
@@ -17,6 +17,7 @@ use Rattle.cfdp_tree.specs.code.Tree.{IsNode, IsDirectory, name_at, home_in, hom
 use Rattle.cfdp_tree.specs.code.Kept.{node_of, Shows}
 use Rattle.cfdp_tree.proofs.OfNodes.TreeLaws.{same_node}
 use Rattle.cfdp_tree.proofs.OfNodes.EntryLaws.{kept_climb, kept_ends}
+use Rattle.cfdp_tree.proofs.OfNodes.NodeLaws.{no_live, none_some}
 
 module _ (old : Blocks) (b : ℕ) (node : IsNode old b) (tree : IsTree old) (childless : (c : ℕ) → IsNode old c → home old c ≡ Some b → ⊥) where
   abbrev new : Blocks
@@ -31,11 +32,8 @@ module _ (old : Blocks) (b : ℕ) (node : IsNode old b) (tree : IsTree old) (chi
   octets_other : (c : ℕ) → c ≢ b → octets_of new c ≡ octets_of old c
   octets_other c other = ap (λ entry. unwrap_or entry []) (at_other c other)
 
-  no_node : {x : Option (List ℕ)} → x ≡ None → IsSome x → ⊥
-  no_node none some = cc
-
   is_other : (c : ℕ) → IsNode new c → c ≢ b
-  is_other c left e = no_node at_new (subst (IsNode new) e left)
+  is_other c left e = no_live _ at_new (subst (IsNode new) e left)
 
   abbrev Left : ℕ → Type 0
   Left c = IsNode old c × (c ≢ b)
@@ -100,9 +98,6 @@ module _ (old : Blocks) (b : ℕ) (node : IsNode old b) (tree : IsTree old) (chi
         absurd (is.1 (same_node old tree c b is.0 node (sym (left_path c is.0 is.1) ∙ (same_path-Decides (path_of_node new c) (path_of_node old b)).0 e)))
     each_new c is false e =
         ap (finite.get F) (left_path c is.0 is.1) ∙ shows.each c is.0 ∙ ap Some (sym (stays c is.0 is.1) ∙ ap (node_of later) (sym (octets_other c is.1)))
-
-    none_some : {x : Node} → None ≡ Some x → ⊥
-    none_some e = cc
 
     only_new : (q : Path) (here : Node) (same : Bool) → same_path q (path_of_node old b) ≡ same → without same (finite.get F q) ≡ Some here
         → (c : ℕ) × IsNode new c × (path_of_node new c ≡ q)

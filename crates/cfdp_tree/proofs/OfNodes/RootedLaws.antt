@@ -1,6 +1,6 @@
 -- In a filestore that a tree shows, each path's parent is the root or a directory.
 --     tree_rooted
-use Rattle.std.proofs.Common.{◌≡◌, ℕ, ◌-◌, true, false, not, ◌&&◌, [], ◌∷◌, ◌++◌, Option, Some, None, refl, sym, ap, ◌∙◌}
+use Rattle.std.proofs.Common.{◌≡◌, ℕ, true, false, not, ◌&&◌, [], ◌∷◌, ◌++◌, Option, Some, None, refl, sym, ap, ◌∙◌}
 use Rattle.std.specs.Prelude.{IsSome, unwrap_or}
 use Rattle.cfdp_paths.specs.Paths.{Name, Path}
 use Rattle.cfdp_paths.proofs.Below.{parent-push}

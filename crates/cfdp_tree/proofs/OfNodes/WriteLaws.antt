@@ -9,7 +9,7 @@ use Rattle.std.proofs.lemmas.List.{get_or-set_same, length-map, map-set}
 use Rattle.std.specs.Prelude.{◌==◌, if◌then◌else◌, unwrap_or}
 use Rattle.cfdp_arena.specs.Arena.{Blocks, octets_at, octets_of, with_block, without_block}
 use Rattle.cfdp_arena.proofs.Chains.{live_within}
-use Rattle.cfdp_tree.specs.code.Block.{Header, block_header}
+use Rattle.cfdp_tree.specs.code.Block.{BlockHeader, block_header}
 use Rattle.cfdp_tree.specs.code.Nodes.{only_node, nodes_in}
 use Rattle.cfdp_tree.specs.code.Tree.{IsNode}
 use Rattle.cfdp_tree.proofs.OfNodes.NodeLaws.{nodes-noted}
@@ -27,7 +27,7 @@ module _ (arena : Blocks) (b : ℕ) (new : List ℕ) (within : b < length arena)
 module _ (arena : Blocks) (b : ℕ) (shown new : List ℕ) (node : IsNode (nodes_in arena) b) (is : octets_at arena b ≡ Some shown) (header : block_header new
     ≡ block_header shown) where
   kind : (block_header new).kind ≡ 2
-  kind = ap (λ (h : Header). h.kind) header ∙ node_kind arena b node shown is
+  kind = ap (λ (h : BlockHeader). h.kind) header ∙ node_kind arena b node shown is
 
   pub written_noted : nodes_in (with_block arena b new) ≡ with_block (nodes_in arena) b new
   written_noted = nodes-noted arena b new kind

@@ -25,8 +25,8 @@ use Rattle.cfdp_tree.specs.code.Entries.{IsMember}
 use Rattle.cfdp_tree.specs.code.Next.{name_cmp, IsListOf}
 use Rattle.cfdp_tree.specs.code.Orders.{order_at, in_order, Rises, IsInOrders}
 use Rattle.cfdp_tree.proofs.OfStore.FileNodeLaws.{file_entries}
-use Rattle.cfdp_tree.proofs.OfIndex.OutLaws.{no_node}
-use Rattle.cfdp_tree.proofs.OfIndex.InsertLaws.{none_some, some_same}
+use Rattle.cfdp_tree.proofs.OfIndex.InsertLaws.{some_same}
+use Rattle.cfdp_tree.proofs.OfNodes.NodeLaws.{none_some, no_live}
 
 pub record KeepsEntries (old new : Blocks) (out : Option ℕ) : Type 0 where
   pub nodes : (c : ℕ) → out ≢ Some c → is_some (octets_at new c) ≡ is_some (octets_at old c)
@@ -83,7 +83,7 @@ module _ (nodes : Blocks) (orders : Orders) (b : ℕ) (free : octets_at nodes b 
     directories = ordered.directories;
     order = ordered.order;
     own = (λ directory. All-weaker (IsMember nodes None directory) (IsMember nodes (Some b) directory)
-        (λ c member. record { node = member.node; there = member.there; listed = λ e. no_node free (subst (IsNode nodes) (sym (some_same e)) member.node) })
+        (λ c member. record { node = member.node; there = member.there; listed = λ e. no_live _ free (subst (IsNode nodes) (sym (some_same e)) member.node) })
         (in_order orders directory) (ordered.own directory));
     rising = ordered.rising;
     all = (λ c node listed. ordered.all c node none_some);
@@ -97,7 +97,7 @@ module _ (nodes : Blocks) (orders : Orders) (b : ℕ) (free : octets_at nodes b 
     own = (λ directory. All-weaker (IsMember nodes (Some b) directory) (IsMember nodes None directory)
         (λ c member. record { node = member.node; there = member.there; listed = none_some }) (in_order orders directory) (ordered.own directory));
     rising = ordered.rising;
-    all = (λ c node listed. ordered.all c node (λ e. no_node free (subst (IsNode nodes) (sym (some_same e)) node)));
+    all = (λ c node listed. ordered.all c node (λ e. no_live _ free (subst (IsNode nodes) (sym (some_same e)) node)));
   }
 
 pub ordered_made : (old : Blocks) (orders : Orders) (b : ℕ) (block : List ℕ) → octets_at old b ≡ None → IsInOrders old orders None →

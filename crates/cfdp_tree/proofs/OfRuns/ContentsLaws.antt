@@ -7,12 +7,13 @@ use Rattle.std.proofs.Common.{◌≡◌, ℕ, ◌+◌, ◌-◌, ◌*◌, ◌≤�
 use Rattle.std.proofs.lemmas.List.{length-take-le}
 use Rattle.cfdp_arena.specs.Arena.{Blocks}
 use Rattle.cfdp_actions.specs.Store.{overwritten}
+use Rattle.cfdp_actions.proofs.RowLaws.{blocks_of-fits}
 use Rattle.cfdp_checksum.specs.Checksum.{weighed_from, checksum}
 use Rattle.cfdp_tree.specs.declared.contents.Contents.{Contents}
 use Rattle.cfdp_tree.specs.code.Runs.{IsRun, run_octets, IsHeld, octets_of_run, Stays}
 use Rattle.cfdp_tree.specs.code.Contents.{IsFilled, contents_in}
 use Rattle.cfdp_tree.proofs.OfRuns.RunLaws.{length-run}
-use Rattle.cfdp_tree.proofs.OfRuns.Filling.{front_written, rest_written, blocks_of-fits, blocks_of-none}
+use Rattle.cfdp_tree.proofs.OfRuns.Filling.{front_written, rest_written, blocks_of-none}
 
 module _ (arena : Blocks) (contents : Contents) (filled : IsFilled arena contents) where
   pub within_run : contents.size ≤ length (octets_of_run arena contents.run)

@@ -3,7 +3,7 @@
 --     extended_octets, extended_zeros        the run is longer, and the octets are
 --     front_written, rest_written            octets are written among the first ones
 --     front_read                             and are read
---     blocks_of-fits, blocks_of-within, blocks_of-le, blocks_of-most, blocks_of-some, blocks_of-none     the blocks of a number of octets
+--     blocks_of-within, blocks_of-some, blocks_of-none, taken_as     the blocks of a number of octets
 use Rattle.std.proofs.Common.{◌≡◌, ℕ, ◌+◌, ◌-◌, ◌*◌, ◌<◌, ◌≤◌, List, ◌++◌, length, take, drop, replicate, refl, sym, ap, ◌∙◌, arith, append_assoc, length-append}
 use Rattle.std.proofs.lemmas.List.{drop-replicate, take-replicate, replicate-append-replicate, take-append-drop, length-take-le, take_at, drop_at, length-drop}
 use Rattle.std.specs.Prelude.{slice_range}
@@ -107,14 +107,6 @@ module _ (xs : List ℕ) (size : ℕ) (there : size ≤ length xs) where
       ∙ sym (slice_is head at (at + n) n refl)
 
 module _ (n : ℕ) where
-  pub blocks_of-fits : n ≤ 120 * blocks_of n
-  unfolding blocks_of
-  blocks_of-fits = omega arith
-
-  pub blocks_of-most : n ≤ 7864320 → blocks_of n ≤ 65536
-  unfolding blocks_of
-  blocks_of-most most = omega arith
-
   pub blocks_of-some : 0 < n → 0 < blocks_of n
   unfolding blocks_of
   blocks_of-some some = omega arith
@@ -123,10 +115,10 @@ module _ (n : ℕ) where
   unfolding blocks_of
   blocks_of-none none = omega arith
 
-  pub blocks_of-le : (m : ℕ) → n ≤ m → blocks_of n ≤ blocks_of m
-  unfolding blocks_of
-  blocks_of-le m le = omega arith
-
   pub blocks_of-within : (i : ℕ) → i < blocks_of n → 120 * i < n
   unfolding blocks_of
   blocks_of-within i within = omega arith
+
+-- what is free and what is taken, where the size is said in another way
+pub taken_as : (free size was now more : ℕ) → free + blocks_of more ≡ was + blocks_of size → now ≡ more → free + blocks_of now ≡ was + blocks_of size
+taken_as free size was now more e same = ap (λ n. free + blocks_of n) same ∙ e

@@ -1,27 +1,22 @@
 -- A run with one more block.
 --     begun_held, begun_octets, begun_stay, begun_nodes      the first block
 --     grown_held, grown_octets, grown_others, grown_free, grown_size, grown_sequence, grown_nodes, grown_live   one more after the last
---     no_live                                                what is free is not live
 --     taken_octets, taken_written                            the octets of a block that was just taken
-use Rattle.std.proofs.Common.{◌≡◌, ◌≢◌, ℕ, suc, ◌+◌, ◌-◌, ◌<◌, List, ◌++◌, length, Option, Some, None, refl, sym, ap, ◌∙◌, subst, inl, inr, arith, append-nil, length-set}
+use Rattle.std.proofs.Common.{◌≡◌, ◌≢◌, ℕ, suc, ◌+◌, ◌-◌, ◌<◌, List, ◌++◌, length, Some, None, refl, sym, ap, ◌∙◌, subst, inl, inr, arith, append-nil, length-set}
 use Rattle.std.proofs.lemmas.List.{get_or-set_same, get_or-set_other, set-set}
 use Rattle.std.proofs.lemmas.Bool.{cases_eq}
 use Rattle.std.specs.Prelude.{IsSome}
 use Rattle.cfdp_arena.specs.Arena.{Blocks, octets_at, IsLive, with_block, free_count}
 use Rattle.cfdp_arena.specs.Blocks.{blank_block}
 use Rattle.cfdp_arena.proofs.Chains.{live_within}
+use Rattle.cfdp_arena.proofs.Laws.{free_count-written, free_count-taken}
 use Rattle.cfdp_tree.specs.declared.header.BlockKind.TheVariants as kind
 use Rattle.cfdp_tree.specs.declared.runs.Run.{Run}
-use Rattle.cfdp_tree.specs.code.Block.{Header, block_header, payload, tagged, linked}
+use Rattle.cfdp_tree.specs.code.Block.{BlockHeader, block_header, payload, tagged, linked}
 use Rattle.cfdp_tree.specs.code.Runs.{octets, header_in, IsRunPart, IsRun, nth, run_octets, IsHeld, octets_of_run, OtherRunsStay}
 use Rattle.cfdp_tree.specs.code.Nodes.{only_node, nodes_in}
-use Rattle.cfdp_tree.proofs.OfRuns.Counts.{free_count-taken, free_count-written}
-use Rattle.cfdp_tree.proofs.OfNodes.NodeLaws.{content_only, nodes-kept, nodes-written}
+use Rattle.cfdp_tree.proofs.OfNodes.NodeLaws.{content_only, nodes-kept, nodes-written, no_live}
 use Rattle.cfdp_tree.proofs.OfRuns.RunLaws.{KeepsFrom, nth_part, kept_run, kept_octets, kept_nth, linked_run, linked_nth, linked_before, linked_octets}
-
-pub no_live : (entry : Option (List ℕ)) → entry ≡ None → IsSome entry → ⊥
-no_live (Some x) e s = cc
-no_live None e s = cc
 
 -- a block that is written is live
 live_written : (arena : Blocks) (block : ℕ) (new : List ℕ) (b : ℕ) → IsLive arena b → IsLive (with_block arena block new) b
@@ -33,8 +28,8 @@ live_written arena block new b live = elim (cases_eq b block) [
 
 -- a free block is taken, and is given an owner, a rank and a kind
 module _ (arena begun : Blocks) (block : ℕ) (free : octets_at arena block ≡ None) (inside : block < length arena)
-    (owner rank : ℕ) (fresh : List ℕ) (begun_is : begun ≡ with_block arena block fresh) (whole : length fresh ≡ 128) (before : Header) (tag : block_header fresh
-    ≡ tagged before owner rank kind.Content)
+    (owner rank : ℕ) (fresh : List ℕ) (begun_is : begun ≡ with_block arena block fresh) (whole : length fresh ≡ 128)
+    (before : BlockHeader) (tag : block_header fresh ≡ tagged before owner rank kind.Content)
     (zeros : payload fresh ≡ payload blank_block) where
   fresh_at : octets_at begun block ≡ Some fresh
   fresh_at = ap (λ a. octets_at a block) begun_is ∙ get_or-set_same arena block (Some fresh) None inside
@@ -46,9 +41,9 @@ module _ (arena begun : Blocks) (block : ℕ) (free : octets_at arena block ≡ 
   fresh_part = subst (IsRunPart owner rank) (sym fresh_at) (record {
     live = refl;
     whole = whole;
-    owner_is = ap (λ (h : Header). h.owner) tag;
-    rank_is = ap (λ (h : Header). h.rank) tag;
-    kind_is = ap (λ (h : Header). h.kind) tag;
+    owner_is = ap (λ (h : BlockHeader). h.owner) tag;
+    rank_is = ap (λ (h : BlockHeader). h.rank) tag;
+    kind_is = ap (λ (h : BlockHeader). h.kind) tag;
   })
 
   pub begun_nodes : nodes_in begun ≡ nodes_in arena
@@ -80,7 +75,7 @@ module _ (arena begun : Blocks) (block : ℕ) (free : octets_at arena block ≡ 
       ∙ zeros
 
   pub begun_free : free_count begun + 1 ≡ free_count arena
-  begun_free = ap (λ a. free_count a + 1) begun_is ∙ free_count-taken arena block fresh free inside
+  begun_free = ap (λ a. free_count a + 1) begun_is ∙ free_count-taken arena block fresh inside free
 
   -- it follows the last block of a run
   module _ (run : Run) (held : IsHeld arena run) (some : 0 < run.count) (owner_is : owner ≡ run.first) (rank_is : rank ≡ run.count) where
@@ -164,7 +159,7 @@ module _ (arena begun : Blocks) (block : ℕ) (free : octets_at arena block ≡ 
       grown_nodes =
           let last_part : IsRunPart run.first n (octets_at begun run.last) = subst (λ x. IsRunPart run.first n (octets_at begun x)) (sym last_is)
           (nth_part begun run.first 0 (suc n) run.first n n parts (omega arith) (omega arith)) in
-          nodes-written begun run.last run.first n new last_part (ap (λ (h : Header). h.kind) link) ∙ begun_nodes
+          nodes-written begun run.last run.first n new last_part (ap (λ (h : BlockHeader). h.kind) link) ∙ begun_nodes
 
       pub grown_free : free_count grown + 1 ≡ free_count arena
       grown_free = omega (arith, free_count-written begun run.last new grown_last_live, begun_free)

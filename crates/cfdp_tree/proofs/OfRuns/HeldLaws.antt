@@ -19,7 +19,7 @@ use Rattle.cfdp_arena.proofs.GivenChains.{length-chain_in, first_absent, rest_on
 use Rattle.cfdp_arena.proofs.Laws.{octets_at-vacated_other, free_count-vacated}
 use Rattle.cfdp_actions.specs.Store.{overwritten}
 use Rattle.cfdp_tree.specs.declared.runs.Run.{Run}
-use Rattle.cfdp_tree.specs.code.Block.{Header, block_header, payload}
+use Rattle.cfdp_tree.specs.code.Block.{BlockHeader, block_header, payload}
 use Rattle.cfdp_tree.specs.code.Nodes.{only_node, nodes_in}
 use Rattle.cfdp_tree.specs.code.Runs.{octets, header_in, next_in, IsRunPart, IsRun, nth, run_octets, IsHeld, octets_of_run, IsOf, OtherRunsStay}
 use Rattle.cfdp_tree.proofs.OfNodes.NodeLaws.{content_only, nodes-kept, nodes-written}
@@ -97,7 +97,7 @@ module _ (arena : Blocks) (run : Run) (held : IsHeld arena run) (k : ℕ) (withi
         get_or-set_other arena block b (Some new) None (λ e. not_of (omega arith, ap (λ x. (header_in (octets_at arena x)).owner) e ∙ held_part.owner_is))
 
     pub put_nodes : nodes_in (with_block arena block new) ≡ nodes_in arena
-    put_nodes = nodes-written arena block run.first k new held_part (ap (λ (h : Header). h.kind) same)
+    put_nodes = nodes-written arena block run.first k new held_part (ap (λ (h : BlockHeader). h.kind) same)
 
     pub put_octets : (cursor : ℕ) (part : List ℕ) → cursor + length part ≤ 120 → payload new ≡ overwritten
         (payload (octets (octets_at arena block))) cursor part

@@ -11,7 +11,7 @@ use Rattle.std.proofs.lemmas.List.{get_or-set_same, get_or-set_other, append-nil
 use Rattle.cfdp_arena.specs.Arena.{Blocks, octets_at, with_block}
 use Rattle.cfdp_arena.proofs.Chains.{live_within}
 use Rattle.cfdp_actions.specs.Store.{overwritten}
-use Rattle.cfdp_tree.specs.code.Block.{Header, block_header, payload, linked}
+use Rattle.cfdp_tree.specs.code.Block.{BlockHeader, block_header, payload, linked}
 use Rattle.cfdp_tree.specs.code.Runs.{octets, header_in, next_in, IsRunPart, IsRun, nth, run_octets}
 use Rattle.cfdp_tree.proofs.OfRuns.OctetsInLists.{overwritten-left, overwritten-right, slice-left, slice-right}
 
@@ -105,9 +105,9 @@ module _ (arena : Blocks) (owner : ℕ) (new : List ℕ) (whole : length new ≡
   written_part rank block part same = record {
     live = refl;
     whole = whole;
-    owner_is = ap (λ (h : Header). h.owner) same ∙ part.owner_is;
-    rank_is = ap (λ (h : Header). h.rank) same ∙ part.rank_is;
-    kind_is = ap (λ (h : Header). h.kind) same ∙ part.kind_is;
+    owner_is = ap (λ (h : BlockHeader). h.owner) same ∙ part.owner_is;
+    rank_is = ap (λ (h : BlockHeader). h.rank) same ∙ part.rank_is;
+    kind_is = ap (λ (h : BlockHeader). h.kind) same ∙ part.kind_is;
   }
 
   pub written_run : (rank n block k : ℕ) → IsRun arena owner rank n block → k < n → block_header new ≡ header_in (octets_at arena (nth arena block k)) →
@@ -119,7 +119,7 @@ module _ (arena : Blocks) (owner : ℕ) (new : List ℕ) (whole : length new ≡
       let rest = kept_run arena after owner (suc rank) n (next_in (octets_at arena block)) (beyond_keeps arena owner rank block (Some new) run.0) run.1 in (
         subst (IsRunPart owner rank) (sym here) (written_part rank block run.0 same),
         subst (λ entry. IsRun after owner (suc rank) n (next_in entry)) (sym here)
-            (subst (λ (h : Header). IsRun after owner (suc rank) n h.next) (sym same) rest),
+            (subst (λ (h : BlockHeader). IsRun after owner (suc rank) n h.next) (sym same) rest),
       )
   written_run rank (suc n) block (suc k) run within same =
       let next = next_in (octets_at arena block) in
@@ -140,7 +140,7 @@ module _ (arena : Blocks) (owner : ℕ) (new : List ℕ) (whole : length new ≡
       let after = with_block arena block new in
       let here : octets_at after block ≡ Some new = get_or-set_same arena block (Some new) None (live_within arena block run.0.live) in
       ap (λ entry. nth after (next_in entry) j) here
-      ∙ ap (λ (h : Header). nth after h.next j) same
+      ∙ ap (λ (h : BlockHeader). nth after h.next j) same
       ∙ kept_nth arena after owner (suc rank) n (next_in (octets_at arena block)) j (beyond_keeps arena owner rank block (Some new) run.0) run.1 (omega arith)
   written_nth rank (suc n) block (suc k) (suc j) run within reach same =
       let next = next_in (octets_at arena block) in
@@ -164,7 +164,7 @@ module _ (arena : Blocks) (owner : ℕ) (new : List ℕ) (whole : length new ≡
         let here : octets_at after block ≡ Some new = get_or-set_same arena block (Some new) None (live_within arena block run.0.live) in
         let first : at ≡ cursor = omega arith in
         ap (λ entry. payload (octets entry) ++ run_octets after n (next_in entry)) here
-        ∙ ap (λ (h : Header). payload new ++ run_octets after n h.next) same
+        ∙ ap (λ (h : BlockHeader). payload new ++ run_octets after n h.next) same
         ∙ ap (λ xs. payload new ++ xs) (kept_octets arena after owner (suc rank) n next (beyond_keeps arena owner rank block (Some new) run.0) run.1)
         ∙ ap (λ xs. xs ++ rest) written
         ∙ sym (overwritten-left (payload old) rest cursor part (omega (arith, length-drop 8 old, run.0.whole)))
@@ -189,9 +189,9 @@ module _ (arena : Blocks) (owner fresh : ℕ) (new : List ℕ) (whole : length n
   linked_part rank block part same = record {
     live = refl;
     whole = whole;
-    owner_is = ap (λ (h : Header). h.owner) same ∙ part.owner_is;
-    rank_is = ap (λ (h : Header). h.rank) same ∙ part.rank_is;
-    kind_is = ap (λ (h : Header). h.kind) same ∙ part.kind_is;
+    owner_is = ap (λ (h : BlockHeader). h.owner) same ∙ part.owner_is;
+    rank_is = ap (λ (h : BlockHeader). h.rank) same ∙ part.rank_is;
+    kind_is = ap (λ (h : BlockHeader). h.kind) same ∙ part.kind_is;
   }
 
   pub linked_run : (rank n block j : ℕ) → IsRun arena owner rank (suc n) block → IsRunPart owner j (octets_at arena fresh) → j ≡ suc rank + n
@@ -202,7 +202,7 @@ module _ (arena : Blocks) (owner fresh : ℕ) (new : List ℕ) (whole : length n
       let here : octets_at after block ≡ Some new = get_or-set_same arena block (Some new) None (live_within arena block run.0.live) in
       let there : octets_at after fresh ≡ octets_at arena fresh = beyond_keeps arena owner rank block (Some new) run.0 fresh j (omega arith) more in
       let next_rank : j ≡ suc rank = omega arith in
-      let to_fresh : next_in (octets_at after block) ≡ fresh = ap next_in here ∙ ap (λ (h : Header). h.next) same in
+      let to_fresh : next_in (octets_at after block) ≡ fresh = ap next_in here ∙ ap (λ (h : BlockHeader). h.next) same in
       let last : IsRunPart owner (suc rank) (octets_at after fresh) = subst (λ r. IsRunPart owner r (octets_at after fresh)) next_rank
       (subst (IsRunPart owner j) (sym there) more) in (
         subst (IsRunPart owner rank) (sym here) (linked_part rank block run.0 same),
@@ -222,7 +222,7 @@ module _ (arena : Blocks) (owner fresh : ℕ) (new : List ℕ) (whole : length n
   pub linked_nth : (rank n block : ℕ) → IsRun arena owner rank (suc n) block
       → block_header new ≡ linked (header_in (octets_at arena (nth arena block n))) fresh → nth (with_block arena (nth arena block n) new) block (suc n) ≡ fresh
   linked_nth rank zero block run same =
-      ap next_in (get_or-set_same arena block (Some new) None (live_within arena block run.0.live)) ∙ ap (λ (h : Header). h.next) same
+      ap next_in (get_or-set_same arena block (Some new) None (live_within arena block run.0.live)) ∙ ap (λ (h : BlockHeader). h.next) same
   linked_nth rank (suc n) block run same =
       let next = next_in (octets_at arena block) in
       let target = nth arena next n in
@@ -257,7 +257,7 @@ module _ (arena : Blocks) (owner fresh : ℕ) (new : List ℕ) (whole : length n
       let here : octets_at after block ≡ Some new = get_or-set_same arena block (Some new) None (live_within arena block run.0.live) in
       let there : octets_at after fresh ≡ octets_at arena fresh = beyond_keeps arena owner rank block (Some new) run.0 fresh j (omega arith) more in
       ap (λ entry. payload (octets entry) ++ run_octets after 1 (next_in entry)) here
-      ∙ ap (λ (h : Header). payload new ++ run_octets after 1 h.next) same
+      ∙ ap (λ (h : BlockHeader). payload new ++ run_octets after 1 h.next) same
       ∙ ap (λ entry. payload new ++ (payload (octets entry) ++ [])) there
       ∙ (λ k. written k ++ append-nil added k)
       ∙ ap (λ xs. xs ++ added) (sym (append-nil old))

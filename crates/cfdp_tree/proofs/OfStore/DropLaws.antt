@@ -18,8 +18,8 @@ use Rattle.cfdp_actions.specs.declared.kind.Kind.TheVariants as kind
 use Rattle.cfdp_actions.specs.Filestore.{Node, Filestore, Becomes, node_at, weight, blocks, blocks_of, is_directory, has_entries}
 use Rattle.cfdp_actions.specs.Filestore as files
 use Rattle.cfdp_actions.specs.Store.{Store, with_changes, is_file_kind}
-use Rattle.cfdp_actions.proofs.StoreLaws.{no_blocks}
 use Rattle.cfdp_actions.proofs.ChangeLaws.{blocks-becomes}
+use Rattle.cfdp_actions.proofs.Growth.{blocks_of-zero}
 use Rattle.cfdp_tree.specs.declared.contents.Contents.{Contents}
 use Rattle.cfdp_tree.specs.declared.runs.Run.{Run}
 use Rattle.cfdp_ways.specs.declared.way.Way.{Way}
@@ -48,7 +48,7 @@ use Rattle.cfdp_tree.proofs.OfNodes.MoveLaws.{true_false}
 node_weight : (arena : Blocks) (k : Kind) (fields : NodeFields) → length (contents_in arena (contents_of_fields k fields)) ≡ (contents_of_fields k fields).size
     → weight (Some (node_with arena k (contents_of_fields k fields))) ≡ 1 + blocks_of (contents_of_fields k fields).size
 node_weight arena kind.File fields long = ap (λ n. 1 + blocks_of n) long
-node_weight arena kind.Directory fields long = ap (λ n. 1 + n) (sym no_blocks)
+node_weight arena kind.Directory fields long = ap (λ n. 1 + n) (sym blocks_of-zero)
 
 -- the last name of a path
 last_is : (p : Path) (n : Name) → get_or (p ++ n ∷ []) (length p) [] ≡ n

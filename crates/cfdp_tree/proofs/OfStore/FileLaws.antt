@@ -21,6 +21,7 @@ use Rattle.cfdp_actions.specs.declared.kind.Kind.TheVariants as kind
 use Rattle.cfdp_actions.specs.Filestore.{Node, File, Filestore, Becomes, changed, node_at, is_file, blocks, blocks_of, weight}
 use Rattle.cfdp_actions.specs.Store.{Store, with_changes}
 use Rattle.cfdp_actions.proofs.ChangeLaws.{blocks-becomes}
+use Rattle.cfdp_actions.proofs.RowLaws.{blocks_of-fits}
 use Rattle.cfdp_tree.specs.declared.runs.Run.{Run}
 use Rattle.cfdp_tree.specs.declared.contents.Contents.{Contents}
 use Rattle.cfdp_ways.specs.declared.way.Way.{Way}
@@ -37,7 +38,6 @@ use Rattle.cfdp_tree.specs.code.Slots.{lists_staged, IsSoundSlot, IsStore}
 use Rattle.cfdp_tree.specs.code.Files.{with_contents, SameOctets}
 use Rattle.cfdp_tree.proofs.OfStore.SlotCursors.{slot_stays}
 use Rattle.cfdp_tree.proofs.OfRuns.WayLaws.{same_ways, ways_still}
-use Rattle.cfdp_tree.proofs.OfRuns.Filling.{blocks_of-fits}
 use Rattle.cfdp_tree.proofs.OfRuns.ContentsLaws.{length-contents, none_filled, none_contents, none_sum as none_summed, stays_filled, stays_contents}
 use Rattle.cfdp_tree.proofs.OfNodes.TreeLaws.{same_node}
 use Rattle.cfdp_tree.proofs.OfNodes.EntryLaws.{same_paths, same_tree}

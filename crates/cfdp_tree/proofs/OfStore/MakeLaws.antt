@@ -15,8 +15,8 @@ use Rattle.cfdp_actions.specs.declared.kind.Kind.TheVariants as kind
 use Rattle.cfdp_actions.specs.Filestore.{Filestore, Becomes, node_at, weight, blocks, parent_is_good}
 use Rattle.cfdp_actions.specs.Filestore as files
 use Rattle.cfdp_actions.specs.Store.{Store, with_changes}
-use Rattle.cfdp_actions.proofs.StoreLaws.{no_blocks}
 use Rattle.cfdp_actions.proofs.ChangeLaws.{blocks-becomes}
+use Rattle.cfdp_actions.proofs.Growth.{blocks_of-zero}
 use Rattle.cfdp_tree.specs.declared.contents.Contents.{Contents}
 use Rattle.cfdp_ways.specs.declared.way.Way.{Way}
 use Rattle.cfdp_tree.specs.declared.slots.Slot.{Slot}
@@ -39,12 +39,12 @@ use Rattle.cfdp_tree.proofs.OfNodes.AddLaws.{added_tree, added_path, added_shows
 use Rattle.cfdp_tree.proofs.OfIndex.OutLaws.{index_created}
 use Rattle.cfdp_tree.proofs.OfStore.AlikeLaws.{Alike, alike_relinked, node_by_contents, alike_shows}
 use Rattle.cfdp_tree.proofs.OfStore.ChangedLaws.{IsLeft, list_held, file_held, nodes_seen, nodes_store}
-use Rattle.cfdp_tree.proofs.OfStore.ShowLaws.{no_node}
+use Rattle.cfdp_tree.proofs.OfNodes.NodeLaws.{none_some}
 
 plain_file : (parent : ℕ) (k : Kind) (name : Name) → contents_of_fields (kind_of_octet (plain_fields parent k name).kind) (plain_fields parent k name)
     ≡ no_contents
 plain_file parent kind.Directory name = refl
-plain_file parent kind.File name = ap (λ n. record { run = record { first = 0; last = 0; count = n }; size = 0; sum = 0 }) no_blocks
+plain_file parent kind.File name = ap (λ n. record { run = record { first = 0; last = 0; count = n }; size = 0; sum = 0 }) blocks_of-zero
 
 plain_node : (arena : Blocks) (parent : ℕ) (k : Kind) (name : Name)
     → node_with arena (kind_of_octet (plain_fields parent k name).kind) no_contents ≡ empty_node k
@@ -53,7 +53,7 @@ plain_node arena parent kind.File name = refl
 
 empty_weight : (k : Kind) → weight (Some (empty_node k)) ≡ 1
 empty_weight kind.Directory = refl
-empty_weight kind.File = ap (λ n. 1 + n) no_blocks
+empty_weight kind.File = ap (λ n. 1 + n) blocks_of-zero
 
 module _ (arena : Blocks) (heads : Heads) (slots : List Slot) {ways : List Way} (store : IsStore arena ways heads slots) (now : Store)
     (view : store_of arena (lists_staged slots) ≡ now)
@@ -92,7 +92,7 @@ module _ (arena : Blocks) (heads : Heads) (slots : List Slot) {ways : List Way} 
   pub entry_none : node_at now.filestore path ≡ None → (c : ℕ) → IsEntry nodes directory name c → ⊥
   entry_none absent c entry =
       let way = path_entry nodes store.kept.tree directory (take depth path) name c exists entry ∙ path_is in
-      no_node (sym absent ∙ ap (node_at now.filestore) (sym way) ∙ (shows arena heads slots store now view).each c entry.node)
+      none_some (sym absent ∙ ap (node_at now.filestore) (sym way) ∙ (shows arena heads slots store now view).each c entry.node)
 
   module _ (absent : node_at now.filestore path ≡ None) (one : Blocks) (b : ℕ) (k : Kind) (free : octets_at arena b ≡ None) (within : b < length arena)
       (one_is : nodes_in one ≡ with_block nodes b (octets_of (nodes_in one) b)) (fields : node_fields_of (octets_of (nodes_in one) b)

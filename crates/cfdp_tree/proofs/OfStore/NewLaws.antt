@@ -2,19 +2,19 @@
 --     head_none, contents_none      what means nothing
 --     filled_up                     a list that is filled up with one thing
 --     new_view, new_store           the store
-use Rattle.std.proofs.Common.{◌≡◌, ℕ, zero, suc, ◌-◌, ◌*◌, ◌<◌, ◌≤◌, true, List, [], ◌∷◌, ◌++◌, length, map, take, get_or, replicate, sum_by, Option, Some, None, refl, sym, ap, ◌∙◌, subst, inl, inr, arith}
+use Rattle.std.proofs.Common.{◌≡◌, ℕ, zero, suc, ◌-◌, ◌*◌, ◌<◌, ◌≤◌, true, List, [], ◌∷◌, ◌++◌, length, map, take, get_or, replicate, sum_by, Option, None, refl, sym, ap, ◌∙◌, subst, inl, inr, arith}
 use Rattle.std.proofs.lemmas.List.{length-replicate, get_or-replicate, get_or_past, get_or-append_right, get_or_append_left}
 use Rattle.std.proofs.lemmas.List.Folds.{sum_by-replicate}
 use Rattle.std.proofs.lemmas.List.Elements.{All-nil}
 use Rattle.std.proofs.lemmas.Bool.{cases_lt}
 use Rattle.std.specs.FinMap as finite
 use Rattle.std.specs.FinMap.{get-empty, len-empty, len-entries}
-use Rattle.std.specs.Prelude.{All, IsSome}
+use Rattle.std.specs.Prelude.{All}
 use Rattle.cfdp_paths.specs.Paths.{Path, path_cmp}
 use Rattle.cfdp_arena.specs.Arena.{Blocks, octets_at, all_free, live_count}
 use Rattle.cfdp_actions.specs.Filestore.{Node, empty_filestore, weights, blocks, blocks_of}
 use Rattle.cfdp_actions.specs.Store.{empty_store}
-use Rattle.cfdp_actions.proofs.StoreLaws.{no_blocks}
+use Rattle.cfdp_actions.proofs.Growth.{blocks_of-zero}
 use Rattle.cfdp_tree.specs.declared.contents.Contents.{Contents}
 use Rattle.cfdp_tree.specs.declared.index.ListHead.{ListHead}
 use Rattle.cfdp_ways.specs.declared.way.Way.{Way}
@@ -32,6 +32,7 @@ use Rattle.cfdp_tree.proofs.OfRuns.ContentsLaws.{none_filled}
 use Rattle.cfdp_tree.proofs.OfStore.SlotCursors.{slot_starts}
 use Rattle.cfdp_tree.proofs.OfRuns.WayLaws.{ways_none}
 use Rattle.cfdp_tree.proofs.OfStore.ShowLaws.{tree_shows, shown_same}
+use Rattle.cfdp_tree.proofs.OfNodes.NodeLaws.{none_some, no_live}
 
 pub head_none : (head : ListHead) → head.first ≡ 0 → head.listed ≡ 0 → head.unlisted ≡ 0 → head ≡ no_head
 head_none head first listed unlisted = (λ k. record { first = first k; listed = listed k; unlisted = unlisted k })
@@ -92,10 +93,7 @@ module _ (n : ℕ) (some : 1 ≤ n) (few : n ≤ 65536) (heads : List ListHead) 
   free_at b = ap (λ ns. octets_at ns b) nodes_are ∙ one_each n None None refl b
 
   no_node : (b : ℕ) → IsNode nodes b → ⊥
-  no_node b node = none_some (free_at b) node
-    where
-      none_some : {o : Option (List ℕ)} → o ≡ None → IsSome o → ⊥
-      none_some none is = cc
+  no_node b node = no_live (octets_at nodes b) (free_at b) node
 
   tree : IsTree nodes
   tree = record {
@@ -167,9 +165,6 @@ module _ (n : ℕ) (some : 1 ≤ n) (few : n ≤ 65536) (heads : List ListHead) 
 
   none_shown : Shows arena nodes (finite.empty {R = path_cmp})
   none_shown = record { each = (λ b node. absurd (no_node b node)); only = (λ p node e. absurd (none_some (sym (get-empty path_cmp p) ∙ e))) }
-    where
-      none_some : {node : Node} → None ≡ Some node → ⊥
-      none_some e = cc
 
   lists_are : map (contents_in arena) staged ≡ replicate 64 []
   lists_are = ap (map (contents_in arena)) staged_are ∙ mapped (contents_in arena) 64 no_contents
@@ -193,7 +188,7 @@ module _ (n : ℕ) (some : 1 ≤ n) (few : n ≤ 65536) (heads : List ListHead) 
     arith,
     no_entries (finite.entries (finite.empty {X = Node} {R = path_cmp})) (sym (len-entries finite.empty) ∙ len-empty path_cmp Node),
     sum_by-replicate (λ (octets : List ℕ). blocks_of (length octets)) 64 [],
-    no_blocks,
+    blocks_of-zero,
   )
 
   sound : All (IsSoundSlot arena) slots

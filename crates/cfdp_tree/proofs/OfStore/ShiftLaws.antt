@@ -3,22 +3,22 @@
 --     directory_nodes, directory_other  the new directory is a node, and another one
 --     tree_three, index_three, entry_three     the node is put into it while it is in no list
 --     shift_view, shift_store           the store once it is in the lists of its new directory
-use Rattle.std.proofs.Common.{◌≡◌, ◌≢◌, ℕ, ◌+◌, ◌≤◌, nat_lt, Bool, true, false, not, cond, ◌||◌, List, [], ◌∷◌, ◌++◌, length, take, get_or, Option, Some, None, is_some, refl, sym, ap, ◌∙◌, subst, inr, arith}
+use Rattle.std.proofs.Common.{◌≡◌, ◌≢◌, ℕ, ◌+◌, ◌≤◌, nat_lt, Bool, true, false, cond, List, [], ◌∷◌, ◌++◌, length, take, get_or, Option, Some, None, is_some, refl, sym, ap, ◌∙◌, subst, inr, arith}
 use Rattle.std.proofs.lemmas.Bool.Decides.{nat_tests}
-use Rattle.std.specs.FinMap as finite
 use Rattle.std.specs.FinMap.Entries.{find}
 use Rattle.std.specs.Prelude.{IsSome, IfSome, IfNone, unwrap_or}
 use Rattle.cfdp_paths.specs.Paths.{Name, Path, IsName, IsPath, path_cmp, same_path, is_at_or_below, rebased}
 use Rattle.cfdp_paths.proofs.Below.{at_or_below_from_append}
 use Rattle.cfdp_paths.proofs.Comparing.{same_path-Decides}
+use Rattle.cfdp_paths.specs.PathMaps.{is_too_deep}
 use Rattle.cfdp_arena.specs.Arena.{Blocks, octets_at, octets_of, with_block, free_count}
 use Rattle.cfdp_actions.specs.declared.kind.Kind.{Kind}
 use Rattle.cfdp_actions.specs.declared.kind.Kind.TheVariants as kind
-use Rattle.cfdp_actions.specs.Filestore.{Node, Filestore, node_at, blocks, after, tree_at, parent_is_good, IsRooted}
-use Rattle.cfdp_actions.specs.Actions.{is_tree_too_deep, vacating, arriving}
+use Rattle.cfdp_actions.specs.Filestore.{Node, Filestore, node_at, blocks, tree_at, parent_is_good, IsRooted}
+use Rattle.cfdp_actions.specs.Actions.{vacating, arriving}
 use Rattle.cfdp_actions.specs.Store.{Store, with_changes}
 use Rattle.cfdp_actions.proofs.Prefixes.{rebased-below, rebased_back}
-use Rattle.cfdp_actions.proofs.Moves.{after-append, find-tree_at, moved, nothing_there, moved_there, moved_apart, blocks-moved}
+use Rattle.cfdp_actions.proofs.Moves.{find-tree_at, moved, nothing_there, moved_there, moved_apart, blocks-moved, staged-moved}
 use Rattle.cfdp_tree.specs.declared.contents.Contents.{Contents}
 use Rattle.cfdp_ways.specs.declared.way.Way.{Way}
 use Rattle.cfdp_tree.specs.declared.slots.Slot.{Slot}
@@ -41,41 +41,28 @@ use Rattle.cfdp_tree.proofs.OfNodes.MoveLaws.{moved_tree, moved_path, stayed_pat
 use Rattle.cfdp_tree.proofs.OfIndex.OutLaws.{index_moved}
 use Rattle.cfdp_tree.proofs.OfStore.AlikeLaws.{Alike, alike_node, alike_directory, node_by_contents, alike_shows, held_is}
 use Rattle.cfdp_tree.proofs.OfStore.ChangedLaws.{IsLeft, list_held, file_held, nodes_seen, nodes_store}
+use Rattle.cfdp_tree.proofs.OfNodes.NodeLaws.{none_some}
 use Rattle.std.proofs.lemmas.Bool.{or_parts}
-use Rattle.cfdp_tree.proofs.OfStore.ShowLaws.{no_node}
 
 -- the depth
 
 few_names : (n : ℕ) → nat_lt 8 n ≡ false → n ≤ 8
 few_names n few = grind (arith, nat_tests, few)
 
-pub shallow_each : (p q : Path) (es : List (Path × Node)) (x : Path) → is_some (find path_cmp x es) ≡ true → is_tree_too_deep p q es ≡ false →
+pub shallow_each : (p q : Path) (es : List (Path × Node)) (x : Path) → is_some (find path_cmp x es) ≡ true → is_too_deep p q es ≡ false →
     length (rebased p q x) ≤ 8
 shallow_each p q [] x found shallow = absurd (true_false found refl)
 shallow_each p q (e ∷ es) x found shallow = by_same (same_path x e.0) refl (shallow_each p q es x)
   where
-    parts : (nat_lt 8 (length (rebased p q e.0)) ≡ false) × (is_tree_too_deep p q es ≡ false)
-    parts = or_parts (nat_lt 8 (length (rebased p q e.0))) (is_tree_too_deep p q es) shallow
+    parts : (nat_lt 8 (length (rebased p q e.0)) ≡ false) × (is_too_deep p q es ≡ false)
+    parts = or_parts (nat_lt 8 (length (rebased p q e.0))) (is_too_deep p q es) shallow
 
-    by_same : (same : Bool) → same_path x e.0 ≡ same → (is_some (find path_cmp x es) ≡ true → is_tree_too_deep p q es ≡ false → length (rebased p q x) ≤ 8) →
+    by_same : (same : Bool) → same_path x e.0 ≡ same → (is_some (find path_cmp x es) ≡ true → is_too_deep p q es ≡ false → length (rebased p q x) ≤ 8) →
         length (rebased p q x) ≤ 8
     by_same true is rest = subst (λ y. length (rebased p q y) ≤ 8) (sym ((same_path-Decides x e.0).0 is)) (few_names (length (rebased p q e.0)) parts.0)
     by_same false is rest = rest (sym (ap (λ b. is_some (cond b (Some e.1) (find path_cmp x es))) is) ∙ found) parts.1
 
 -- the staged lists stay
-
-vacated_lists : (F : Filestore) (es : List (Path × Node)) → (after F (vacating es)).staged ≡ F.staged
-vacated_lists F [] = refl
-vacated_lists F (e ∷ es) = vacated_lists (record F { nodes = finite.remove F.nodes e.0 }) es
-
-arriving_lists : (F : Filestore) (p q : Path) (es : List (Path × Node)) → (after F (arriving p q es)).staged ≡ F.staged
-arriving_lists F p q [] = refl
-arriving_lists F p q (e ∷ es) = arriving_lists (record F { nodes = finite.insert F.nodes (rebased p q e.0) e.1 }) p q es
-
-moved_lists : (F : Filestore) (p q : Path) → (moved F p q).staged ≡ F.staged
-moved_lists F p q =
-    let es = tree_at F p in
-    ap (λ (G : Filestore). G.staged) (after-append F (vacating es) (arriving p q es)) ∙ arriving_lists (after F (vacating es)) p q es ∙ vacated_lists F es
 
 contents_moved : (k : Kind) (fields : NodeFields) (parent n : ℕ)
     → contents_of_fields k (record fields { parent = parent; name_length = n }) ≡ contents_of_fields k fields
@@ -143,7 +130,7 @@ module _ (arena : Blocks) (heads : Heads) (slots : List Slot) {ways : List Way} 
         (fields : node_fields_at (nodes_in three) b ≡ record (node_fields_at before b) { parent = parent; name_length = length name })
         (there : home (nodes_in three) b ≡ directory)
         (name_there : name_at (nodes_in three) b ≡ name) (block_whole : length (octets_of (nodes_in three) b) ≡ 128) (absent : node_at now.filestore q ≡ None)
-        (shallow : is_tree_too_deep p q (tree_at now.filestore p) ≡ false) where
+        (shallow : is_too_deep p q (tree_at now.filestore p) ≡ false) where
       abbrev block : List ℕ
       block = octets_of (nodes_in three) b
 
@@ -261,7 +248,7 @@ module _ (arena : Blocks) (heads : Heads) (slots : List Slot) {ways : List Way} 
 
         -- a path at which something exists is not at or below the new path
         not_there : (x : Path) (here : Node) → node_at F x ≡ Some here → (below : Bool) → is_at_or_below x q ≡ below → is_at_or_below x q ≡ false
-        not_there x here e true below = absurd (no_node (sym (nothing_there F p q rooted some_q absent x below) ∙ e))
+        not_there x here e true below = absurd (none_some (sym (nothing_there F p q rooted some_q absent x below) ∙ e))
         not_there x here e false below = below
 
         got_stayed : (x : Path) (here : Node) → node_at F x ≡ Some here → is_at_or_below x p ≡ false → node_at G x ≡ Some here
@@ -290,7 +277,7 @@ module _ (arena : Blocks) (heads : Heads) (slots : List Slot) {ways : List Way} 
         only_stayed : (x : Path) (here : Node) → node_at G x ≡ Some here → is_at_or_below x q ≡ false → (below : Bool) → is_at_or_below x p ≡ below → (c : ℕ)
             × IsNode put c × (path_of_node put c ≡ x)
         only_stayed x here e outside true below =
-            absurd (no_node (sym (moved_apart F p q rooted some_q absent x outside ∙ ap (λ t. cond t None (node_at F x)) below) ∙ e))
+            absurd (none_some (sym (moved_apart F p q rooted some_q absent x outside ∙ ap (λ t. cond t None (node_at F x)) below) ∙ e))
         only_stayed x here e outside false below =
             let at = shown_two.only x here (sym (moved_apart F p q rooted some_q absent x outside ∙ ap (λ t. cond t None (node_at F x)) below) ∙ e) in
             (at.0, is_put at.0 at.1, remains at.0 at.1 (ap (λ y. is_at_or_below y p) at.2 ∙ below) ∙ at.2)
@@ -321,7 +308,7 @@ module _ (arena : Blocks) (heads : Heads) (slots : List Slot) {ways : List Way} 
         module _ (heads_now : Heads) (index : IsIndex (nodes_in later) heads_now None)
             (long_now : length later ≡ length arena) (free : free_count later ≡ free_count arena) where
           filestore_is : record { nodes = G.nodes; staged = (store_of arena (lists_staged slots)).filestore.staged } ≡ G
-          filestore_is = (λ i. record { nodes = G.nodes; staged = (ap (λ (s : Store). s.filestore.staged) view ∙ sym (moved_lists F p q)) i })
+          filestore_is = (λ i. record { nodes = G.nodes; staged = (ap (λ (s : Store). s.filestore.staged) view ∙ sym (staged-moved F p q)) i })
 
           pub shift_view : store_of later (lists_staged slots) ≡ with_changes now (vacating (tree_at F p) ++ arriving p q (tree_at F p))
           shift_view =

@@ -13,16 +13,14 @@ use Rattle.cfdp_actions.specs.Filestore.{Node}
 use Rattle.cfdp_tree.specs.code.Tree.{IsNode, path_of_node, IsTree}
 use Rattle.cfdp_tree.specs.code.Kept.{node_of, existing_from, Shows}
 use Rattle.cfdp_tree.proofs.OfNodes.TreeLaws.{same_node}
-
-pub no_node : {node : Node} → None ≡ Some node → ⊥
-no_node e = cc
+use Rattle.cfdp_tree.proofs.OfNodes.NodeLaws.{none_some}
 
 module _ (arena nodes : Blocks) (F G : finite.FinMap path_cmp Node) (first : Shows arena nodes F) (second : Shows arena nodes G) where
   at_path : (q : Path) (x y : Option Node) → finite.get F q ≡ x → finite.get G q ≡ y → x ≡ y
   at_path q None None e f = refl
   at_path q None (Some node) e f =
       let there = second.only q node f in
-      absurd (no_node (sym e ∙ ap (finite.get F) (sym there.2) ∙ first.each there.0 there.1))
+      absurd (none_some (sym e ∙ ap (finite.get F) (sym there.2) ∙ first.each there.0 there.1))
   at_path q (Some node) y e f =
       let there = first.only q node e in
       sym e ∙ ap (finite.get F) (sym there.2) ∙ first.each there.0 there.1 ∙ sym (second.each there.0 there.1) ∙ ap (finite.get G) there.2 ∙ f
@@ -74,7 +72,7 @@ module _ (arena nodes : Blocks) (tree : IsTree nodes) where
 
   only_from : (p : Path) (node : Node) (b : ℕ) (rest : Blocks) → Follows b rest → find path_cmp p (existing_from arena nodes b rest) ≡ Some node
       → (c : ℕ) × IsNode nodes c × (path_of_node nodes c ≡ p)
-  only_from p node b [] follows e = absurd (no_node e)
+  only_from p node b [] follows e = absurd (none_some e)
   only_from p node b (None ∷ rest) follows e = only_from p node (suc b) rest (later b None rest follows) e
   only_from p node b (Some block ∷ rest) follows e =
       by_same (same_path p (path_of_node nodes b)) refl (only_from p node (suc b) rest (later b (Some block) rest follows))

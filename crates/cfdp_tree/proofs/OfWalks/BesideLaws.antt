@@ -15,6 +15,8 @@ use Rattle.cfdp_arena.specs.Arena.{Blocks, octets_of}
 use Rattle.cfdp_paths.specs.Paths.{Path, path_cmp, same_path, is_below}
 use Rattle.cfdp_paths.proofs.Below.{is_below-Decides, append_from_at_or_below, at_or_below_from_append, length-at_or_below}
 use Rattle.cfdp_actions.specs.Filestore.{Node, Filestore, node_at, is_beside, inside_beside, has_beside, deepest_of, deepest_beside}
+use Rattle.cfdp_actions.proofs.RowLaws.{deepest-most}
+use Rattle.cfdp_actions.proofs.Order.{get_kept}
 use Rattle.cfdp_tree.specs.declared.orders.Orders.{Orders}
 use Rattle.cfdp_tree.specs.code.Tree.{IsNode, name_at, home, path_of_node, IsTree}
 use Rattle.cfdp_tree.specs.code.Directories.{path_at}
@@ -25,8 +27,8 @@ use Rattle.cfdp_tree.specs.code.Walk.{walk, walks_at, most_names_in}
 use Rattle.cfdp_tree.specs.code.NodesBelow.{IsUnder}
 use Rattle.cfdp_tree.specs.code.Beside.{is_entry_beside, entries_beside}
 use Rattle.cfdp_tree.proofs.OfNodes.ClimbLaws.{path_by_home, beginning}
-use Rattle.cfdp_tree.proofs.OfNodes.BelowLaws.{got, has_some, has_none, entry_below}
-use Rattle.cfdp_tree.proofs.OfWalks.DeepestLaws.{deepest_le, deepest_ge, longest_le, longest_ge}
+use Rattle.cfdp_tree.proofs.OfNodes.BelowLaws.{has_some, has_none, entry_below}
+use Rattle.cfdp_tree.proofs.OfWalks.DeepestLaws.{deepest_le, longest_le, longest_ge}
 use Rattle.cfdp_tree.proofs.OfWalks.NodesBelowLaws.{Contains-flat_map, All-flat_map, walk_own, walk_all}
 use Rattle.cfdp_tree.proofs.OfWalks.WalkLaws.{few_names}
 use Rattle.cfdp_tree.proofs.OfNodes.MoveLaws.{true_false}
@@ -87,7 +89,7 @@ module _ (nodes : Blocks) (tree : IsTree nodes) (arena : Blocks) (F : Filestore)
       where
         never : (q : Path) (o : Option Node) → node_at F q ≡ o → is_some (find path_cmp q (finite.entries (inside_beside F p others))) ≡ true → ⊥
         never q o is found = by_case (is_beside others p q) o refl is
-            (sym (ap is_some (sym (get-entries (inside_beside F p others) q) ∙ got F (is_beside others p) q)) ∙ found)
+            (sym (ap is_some (sym (get-entries (inside_beside F p others) q) ∙ get_kept F (is_beside others p) q)) ∙ found)
           where
             by_case : (b : Bool) (o : Option Node) → is_beside others p q ≡ b → node_at F q ≡ o →
                 is_some (cond (is_beside others p q) (node_at F q) None) ≡ true → ⊥
@@ -188,12 +190,12 @@ module _ (nodes : Blocks) (tree : IsTree nodes) (arena : Blocks) (F : Filestore)
       there = finite.entries (inside_beside F p others)
 
       find_is : (q : Path) → find path_cmp q there ≡ cond (is_beside others p q) (node_at F q) None
-      find_is q = sym (get-entries (inside_beside F p others) q) ∙ got F (is_beside others p) q
+      find_is q = sym (get-entries (inside_beside F p others) q) ∙ get_kept F (is_beside others p) q
 
       each_le : (e : ℕ) → IsMember nodes None (Some b) e × (is_entry_beside p others nodes e ≡ true) →
           All (λ c. length (path_of_node nodes c) ≤ deepest_of there) (walk orders (9 - (length p + 1)) e)
       each_le e (member, test) = All-weaker (IsUnder nodes (path_of_node nodes e)) (λ c. length (path_of_node nodes c) ≤ deepest_of there) (λ c under.
-          deepest_ge there (path_of_node nodes c) (ap is_some (find_is (path_of_node nodes c))
+          deepest-most there (path_of_node nodes c) (ap is_some (find_is (path_of_node nodes c))
           ∙ (λ k. is_some (cond ((under_entry e c member.node member.there under ∙ test) k) (shows.each c under.node k) None))))
           (walk orders (9 - (length p + 1)) e) (walk_own nodes tree orders ordered (9 - (length p + 1)) e member.node)
 

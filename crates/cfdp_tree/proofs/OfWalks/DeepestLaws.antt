@@ -1,30 +1,22 @@
 -- The longest path among some nodes, and among what is at a path and below it.
---     tree_got, tree_found      what is at a path and below it, by a path
---     deepest_le, deepest_ge    of entries:  no more than all of them, and no less than each
---     longest_le, longest_ge    the same of nodes
+--     deepest_le                of entries:  no more than all of them
+--     longest_le, longest_ge    of nodes:  no more than all of them, and no less than each
 --     deepest_is                both are one, where the nodes are those of what is there
 use Rattle.std.proofs.Common.{◌≡◌, ℕ, zero, suc, ◌≤◌, max, Bool, true, false, List, [], ◌∷◌, length, cond, is_some, get_or, Option, Some, None, refl, sym, ap, ◌∙◌, arith}
 use Rattle.std.proofs.Math.Nat.{le-max_left, le-max_right}
 use Rattle.std.proofs.lemmas.List.Elements.{All-head, All-tail}
 use Rattle.std.specs.Prelude.{All}
-use Rattle.std.specs.FinMap as finite
-use Rattle.std.specs.FinMap.{find, get-retain_keys, get-entries}
+use Rattle.std.specs.FinMap.{find}
 use Rattle.cfdp_paths.specs.Paths.{Path, path_cmp, same_path, is_at_or_below}
 use Rattle.cfdp_paths.proofs.Comparing.{same_path-Decides}
-use Rattle.cfdp_paths.proofs.InOrder.{path_antisym}
 use Rattle.cfdp_arena.specs.Arena.{Blocks}
 use Rattle.cfdp_actions.specs.Filestore.{Node, Filestore, node_at, tree_at, deepest_of}
+use Rattle.cfdp_actions.proofs.RowLaws.{deepest-most}
+use Rattle.cfdp_actions.proofs.Moves.{find-tree_at}
 use Rattle.cfdp_tree.specs.code.Tree.{path_of_node}
 use Rattle.cfdp_tree.specs.code.Kept.{Shows}
 use Rattle.cfdp_tree.specs.code.Walk.{most_names_in}
 use Rattle.cfdp_tree.specs.code.NodesBelow.{IsUnder, AreNodesBelow}
-
-module _ (F : Filestore) (p : Path) where
-  pub tree_got : (q : Path) → finite.get (finite.retain_keys F.nodes (λ x. is_at_or_below x p)) q ≡ cond (is_at_or_below q p) (node_at F q) None
-  tree_got q = get-retain_keys F.nodes (λ x. is_at_or_below x p) q (λ x e. ap (λ y. is_at_or_below y p) (sym (path_antisym q x e)))
-
-  pub tree_found : (q : Path) → find path_cmp q (tree_at F p) ≡ cond (is_at_or_below q p) (node_at F q) None
-  tree_found q = sym (get-entries (finite.retain_keys F.nodes (λ x. is_at_or_below x p)) q) ∙ tree_got q
 
 max_le : (a b m : ℕ) → a ≤ m → b ≤ m → max a b ≤ m
 max_le a b m first second = grind (arith, first, second)
@@ -39,18 +31,6 @@ deepest_le (e ∷ es) m each =
     max_le (length e.0) (deepest_of es) m
     (each e.0 (ap (λ b. is_some (cond b (Some e.1) (find path_cmp e.0 es))) ((same_path-Decides e.0 e.0).1 refl)))
     (deepest_le es m (λ q some. each q (found_more (same_path q e.0) e.1 (find path_cmp q es) some)))
-
-pub deepest_ge : (es : List (Path × Node)) (q : Path) → is_some (find path_cmp q es) ≡ true → length q ≤ deepest_of es
-deepest_ge [] q some = cc
-deepest_ge (e ∷ es) q some = by_same (same_path q e.0) refl (deepest_ge es q)
-  where
-    by_same : (b : Bool) → same_path q e.0 ≡ b → (is_some (find path_cmp q es) ≡ true → length q ≤ deepest_of es) → length q ≤ max (length e.0) (deepest_of es)
-    by_same true is rest = omega (arith, ap length ((same_path-Decides q e.0).0 is), le-max_left (length e.0) (deepest_of es))
-    by_same false is rest = omega (
-      arith,
-      rest (sym (ap (λ b. is_some (cond b (Some e.1) (find path_cmp q es))) is) ∙ some),
-      le-max_right (length e.0) (deepest_of es),
-    )
 
 module _ (nodes : Blocks) where
   pub longest_le : (list : List ℕ) (m : ℕ) → All (λ b. length (path_of_node nodes b) ≤ m) list → most_names_in nodes list ≤ m
@@ -71,12 +51,12 @@ module _ (nodes : Blocks) where
   module _ (arena : Blocks) (F : Filestore) (shows : Shows arena nodes F.nodes) (p : Path) (list : List ℕ) (nodes_below : AreNodesBelow nodes p list) where
     under_found : (b : ℕ) → IsUnder nodes p b → is_some (find path_cmp (path_of_node nodes b) (tree_at F p)) ≡ true
     under_found b under =
-        ap is_some (tree_found F p (path_of_node nodes b))
+        ap is_some (find-tree_at F p (path_of_node nodes b))
         ∙ ap (λ y. is_some (cond y (node_at F (path_of_node nodes b)) None)) under.below
         ∙ ap is_some (shows.each b under.node)
 
     found_under : (q : Path) → is_some (find path_cmp q (tree_at F p)) ≡ true → length q ≤ most_names_in nodes list
-    found_under q some = by_case (is_at_or_below q p) (node_at F q) refl refl (sym (ap is_some (tree_found F p q)) ∙ some)
+    found_under q some = by_case (is_at_or_below q p) (node_at F q) refl refl (sym (ap is_some (find-tree_at F p q)) ∙ some)
       where
         by_case : (below : Bool) (o : Option Node) → is_at_or_below q p ≡ below → node_at F q ≡ o → is_some (cond (is_at_or_below q p) (node_at F q) None)
             ≡ true → length q ≤ most_names_in nodes list
@@ -96,7 +76,7 @@ module _ (nodes : Blocks) where
     pub deepest_is : most_names_in nodes list ≡ deepest_of (tree_at F p)
     deepest_is = omega (
       arith,
-      longest_le list (deepest_of (tree_at F p)) (λ k d within. deepest_ge (tree_at F p) (path_of_node nodes (get_or list k d))
+      longest_le list (deepest_of (tree_at F p)) (λ k d within. deepest-most (tree_at F p) (path_of_node nodes (get_or list k d))
           (under_found (get_or list k d) (nodes_below.own k d within))),
       deepest_le (tree_at F p) (most_names_in nodes list) found_under,
     )

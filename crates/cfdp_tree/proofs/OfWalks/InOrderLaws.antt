@@ -26,9 +26,9 @@ use Rattle.cfdp_tree.specs.code.Tree.{path_of_node, IsTree}
 use Rattle.cfdp_tree.specs.code.Kept.{Shows}
 use Rattle.cfdp_tree.specs.code.NodesBelow.{IsUnder, AreNodesBelow, path_and_node, by_path, shown_node}
 use Rattle.cfdp_tree.proofs.OfNodes.TreeLaws.{same_node}
-use Rattle.cfdp_tree.proofs.OfWalks.DeepestLaws.{tree_got}
-use Rattle.std.proofs.lemmas.Bool.{and_from}
-use Rattle.cfdp_actions.proofs.Order.{same_path-symm}
+use Rattle.cfdp_tree.proofs.OfNodes.NodeLaws.{none_some}
+use Rattle.std.proofs.lemmas.Bool.{and_from, and_parts}
+use Rattle.cfdp_actions.proofs.Order.{same_path-symm, get_kept}
 
 -- ---- in order
 
@@ -36,10 +36,6 @@ not_less : (o : Ordering) → is_lt o ≡ false → (o ≡ Equal → ⊥) → o 
 not_less Less e apart = cc
 not_less Equal e apart = absurd (apart refl)
 not_less Greater e apart = refl
-
-first_of : (a b : Bool) → (a && b) ≡ true → a ≡ true
-first_of true b e = refl
-first_of false b e = e
 
 module _ {X : Type 0} where
   later : (e : Path × X) (es : List (Path × X)) → IsSorted (λ e f. path_cmp e.0 f.0) (e ∷ es) → IsSorted (λ e f. path_cmp e.0 f.0) es
@@ -57,14 +53,11 @@ module _ {X : Type 0} where
       let before : path_cmp e.0 f.0 ≡ Less = greater_back f.0 e.0 following in
       and_from (is_lt (path_cmp e.0 f.0) && below_all path_cmp e.0 es) (is_sorted path_cmp (f ∷ es))
       (and_from (is_lt (path_cmp e.0 f.0)) (below_all path_cmp e.0 es) (ap is_lt before)
-      (below_before e.0 f.0 es before (first_of (below_all path_cmp f.0 es) (is_sorted path_cmp es) rest))) rest
+      (below_before e.0 f.0 es before (and_parts (below_all path_cmp f.0 es) (is_sorted path_cmp es) rest).0)) rest
 
   -- an entry that is found is one of them
   pub found_in : (es : List (Path × X)) (q : Path) (x : X) → find path_cmp q es ≡ Some x → Contains es (q, x)
   found_in [] q x e = absurd (none_some e)
-    where
-      none_some : None ≡ Some x → ⊥
-      none_some e = cc
   found_in (e ∷ es) q x is = by_same (same_path q e.0) refl (found_in es q x)
     where
       some_same : {y : X} → Some y ≡ Some x → y ≡ x
@@ -94,14 +87,6 @@ module _ {X : Type 0} where
       at_index (suc k) within is rest = more (same_path e.0 f.0) (find path_cmp e.0 es) (rest k (omega (arith, within)) is)
 
 -- ---- the nodes of what is at a path and below it, in another order
-
-both_ways : (a b : Bool) → (a ≡ true → b ≡ true) → (b ≡ true → a ≡ true) → a ≡ b
-both_ways true b there back = sym (there refl)
-both_ways false true there back = back refl
-both_ways false false there back = refl
-
-none_some : {A : Type 0} {x : A} → None ≡ Some x → ⊥
-none_some e = cc
 
 shown_below : (arena nodes : Blocks) (q : Path) (es : List (Path × ℕ)) → below_all path_cmp q (map (shown_node arena nodes) es) ≡ below_all path_cmp q es
 shown_below arena nodes q [] = refl
@@ -196,7 +181,7 @@ module _ (nodes : Blocks) (tree : IsTree nodes) (p : Path) (list : List ℕ) (no
         sym (entries-from_sorted path_cmp es good)
         ∙ ap (λ m. finite.entries m) (same_map path_cmp-total path_antisym (from_sorted {R = path_cmp} es)
         (finite.retain_keys F.nodes (λ x. is_at_or_below x p))
-        (λ q. get-from_sorted path_cmp es q good ∙ found_at q ∙ sym (tree_got F p q)))
+        (λ q. get-from_sorted path_cmp es q good ∙ found_at q ∙ sym (get_kept F (λ x. is_at_or_below x p) q)))
 
 -- nodes whose paths rise, each with its path
 module _ (nodes : Blocks) (tree : IsTree nodes) (p : Path) (list : List ℕ) (nodes_below : AreNodesBelow nodes p list)
@@ -220,4 +205,6 @@ module _ (nodes : Blocks) (tree : IsTree nodes) (p : Path) (list : List ℕ) (no
 
 -- all that exists
 pub tree_whole : (F : Filestore) → tree_at F [] ≡ finite.entries F.nodes
-tree_whole F = ap (λ m. finite.entries m) (same_map path_cmp-total path_antisym (finite.retain_keys F.nodes (λ q. is_at_or_below q [])) F.nodes (tree_got F []))
+tree_whole F =
+    ap (λ m. finite.entries m) (same_map path_cmp-total path_antisym (finite.retain_keys F.nodes (λ q. is_at_or_below q [])) F.nodes
+    (get_kept F (λ q. is_at_or_below q [])))

@@ -4,6 +4,7 @@
 --     walk_own, walk_all, walk_rising    what is walked over from a node
 --     walks_own, walks_all, walks_rising from the entries of a directory or the root
 --     nodes_from, nodes_rising      of a node or the root
+--     some_node                     whatever is the node
 use Rattle.std.proofs.Common.{◌≡◌, ◌≢◌, ℕ, zero, suc, ◌+◌, ◌-◌, ◌<◌, true, List, [], ◌∷◌, ◌++◌, length, length-append, take, drop, get_or, Option, Some, None, refl, sym, ap, ◌∙◌, subst, inl, inr, arith}
 use Rattle.std.proofs.lemmas.Bool.{cases_lt}
 use Rattle.std.proofs.lemmas.List.{append-nil, append_assoc, take_at, take_all, take_more, take-append-drop}
@@ -237,3 +238,10 @@ module _ (nodes : Blocks) (tree : IsTree nodes) (orders : Orders) (ordered : IsI
     where
       named : (c : ℕ) → IsNode nodes c → 0 < length (path_of_node nodes c)
       named c node = omega (arith, ap length (path_by_home nodes tree c node), length-append (path_at nodes (home nodes c)) (name_at nodes c ∷ []))
+
+-- what holds of a node holds of whatever is that node
+pub some_node : (P : ℕ → Type 0) (b : ℕ) → P b → (d : ℕ) → Some b ≡ Some d → P d
+some_node P b has d e = subst P (same e) has
+  where
+    same : Some b ≡ Some d → b ≡ d
+    same e = cc

@@ -1,5 +1,5 @@
 -- Walks over what is below a directory or the root.
---     max_three, longest-append     of numbers and of nodes together
+--     longest-append                of nodes together
 --     few_names, names_few      a path has no more than 8 names, nor has the longest of some
 --     deep_parts                of an order, a node and those before and after it
 --     longest_parts, walks_parts    the longest path, and a walk, in these parts
@@ -34,9 +34,7 @@ use Rattle.cfdp_tree.specs.code.Entries.{IsMember}
 use Rattle.cfdp_tree.specs.code.Orders.{no_order, order_at, in_order, IsInOrders}
 use Rattle.cfdp_tree.specs.code.Walk.{walk, walks, walks_at, walk_from, most_names_in, IsAtDepth, AreAtDepth}
 use Rattle.cfdp_tree.proofs.OfNodes.ClimbLaws.{most_is, path_by_home}
-
-pub max_three : (a b c : ℕ) → max a (max b c) ≡ max (max a b) c
-max_three a b c = grind arith
+use Rattle.cfdp_actions.proofs.RowLaws.{max_three}
 
 pub longest-append : (nodes : Blocks) (xs ys : List ℕ) → most_names_in nodes (xs ++ ys) ≡ max (most_names_in nodes xs) (most_names_in nodes ys)
 longest-append nodes [] ys = sym (zero-max (most_names_in nodes ys))

@@ -7,7 +7,7 @@
 --     octet 7           nothing
 --     block_number_at octets offset  a number in the block;  with_number: the block with another one there
 --     kind_octet                the octet of a kind
---     Header, block_header      what a header says
+--     BlockHeader, block_header      what a header says
 --     payload                   the octets after the header
 --     tagged, linked            a header that is given an owner, a rank and a kind;  a next block
 use Rattle.std.specs.Prelude.{ℕ, ◌+◌, ◌*◌, ◌/◌, ◌%◌, List, slice_index_or, slice_set, drop}
@@ -24,13 +24,13 @@ abbrev pub kind_octet : BlockKind → ℕ
 kind_octet Content = 1
 kind_octet Node = 2
 
-pub record Header : Type 0 where
+pub record BlockHeader : Type 0 where
   pub next : ℕ
   pub owner : ℕ
   pub rank : ℕ
   pub kind : ℕ
 
-abbrev pub block_header : List ℕ → Header
+abbrev pub block_header : List ℕ → BlockHeader
 block_header octets = record {
   next = block_number_at octets 0;
   owner = block_number_at octets 2;
@@ -41,8 +41,8 @@ block_header octets = record {
 abbrev pub payload : List ℕ → List ℕ
 payload octets = drop 8 octets
 
-abbrev pub tagged : Header → ℕ → ℕ → BlockKind → Header
+abbrev pub tagged : BlockHeader → ℕ → ℕ → BlockKind → BlockHeader
 tagged header owner rank kind = record header { owner = owner; rank = rank; kind = kind_octet kind }
 
-abbrev pub linked : Header → ℕ → Header
+abbrev pub linked : BlockHeader → ℕ → BlockHeader
 linked header next = record header { next = next }

@@ -24,7 +24,7 @@
 --                                     blocks
 use Rattle.std.specs.Prelude.{◌≡◌, ◌≢◌, ℕ, suc, zero, ◌-◌, ◌<◌, ◌≤◌, List, [], ◌++◌, length, Option, IsSome, unwrap_or}
 use Rattle.cfdp_arena.specs.Arena.{Blocks, octets_at, IsLive}
-use Rattle.cfdp_tree.specs.code.Block.{Header, block_header, payload, kind_octet}
+use Rattle.cfdp_tree.specs.code.Block.{BlockHeader, block_header, payload, kind_octet}
 use Rattle.cfdp_tree.specs.declared.header.BlockKind.TheVariants as kind
 use Rattle.cfdp_ways.specs.declared.cursor.Cursor.{Cursor}
 use Rattle.cfdp_tree.specs.declared.runs.Run.{Run}
@@ -32,7 +32,7 @@ use Rattle.cfdp_tree.specs.declared.runs.Run.{Run}
 abbrev pub octets : Option (List ℕ) → List ℕ
 octets entry = unwrap_or entry []
 
-abbrev pub header_in : Option (List ℕ) → Header
+abbrev pub header_in : Option (List ℕ) → BlockHeader
 header_in entry = block_header (octets entry)
 
 abbrev pub next_in : Option (List ℕ) → ℕ

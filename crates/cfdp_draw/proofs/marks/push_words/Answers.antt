@@ -2,8 +2,8 @@ use Rattle.std.proofs.Common.{rules}
 use Rattle.std.specs.Prelude.{codes}
 use Rattle.cfdp_draw.specs.MarkKinds.{kind_in_words}
 use Rattle.cfdp_draw.specs.Marks.{words_text}
-use Rattle.cfdp_draw.proofs.Texts.{three}
 use Rattle.cfdp_draw.proofs.marks.push_words.Goals as goal
+use Rattle.cfdp_status.proofs.Appended.{three}
 
 pub returns : goal.returns
 unfolding words_text

@@ -1,8 +1,8 @@
 use Rattle.std.specs.Prelude.{codes}
 use Rattle.cfdp_draw.specs.Notes.{why_text}
 use Rattle.cfdp_draw.specs.Shapes.{label_text}
-use Rattle.cfdp_draw.proofs.Texts.{two}
 use Rattle.cfdp_draw.proofs.notes.push_why.Goals as goal
+use Rattle.cfdp_status.proofs.Appended.{two}
 
 pub returns : goal.returns
 unfolding why_text

@@ -1,8 +1,9 @@
 use Rattle.std.proofs.Common.{◌≡◌, ◌<◌, [], Err, length, rules, arith, inr}
 use Rattle.std.proofs.lemmas.Result.{err_from_is_err_and, on_ok_weaker}
+use Rattle.std.proofs.lemmas.List.{nil_from_length}
 use Rattle.cfdp_lines.specs.declared.faults.RunFault.TheVariants.{Write, Memory, BadLine}
 use Rattle.cfdp_streams.proofs.Streaming.{Keeps-same}
-use Rattle.cfdp_lines.proofs.Running.{empty_list, Running-more, Running-fails, Running-stops, Running-part, Running-lost, Running-bad, Running-whole, Running-ends_bad, Running-long, Running-ends_lost}
+use Rattle.cfdp_lines.proofs.Running.{Running-more, Running-fails, Running-stops, Running-part, Running-lost, Running-bad, Running-whole, Running-ends_bad, Running-long, Running-ends_lost}
 use Rattle.cfdp_lines.proofs.whole_run.run.Goals as goal
 
 pub returns-in_default-clause-begun : goal.returns-in_default-clause-begun
@@ -12,7 +13,7 @@ returns-in_default-clause-begun g c = λ _.
 pub returns-then-is_empty-clause-ok : goal.returns-then-is_empty-clause-ok
 returns-then-is_empty-clause-ok g c =
     let none : length c.in-Ok.piece.now ≡ 0 = search rules in
-    let nothing : c.in-Ok.piece.now ≡ [] = empty_list _ none in
+    let nothing : c.in-Ok.piece.now ≡ [] = nil_from_length _ none in
     on_ok_weaker c.finish.result
     (λ f. Running-whole _ _ _ _ _ _ _ _ _ _ _ c.pieces.invariant.0 (rw nothing at c.in-Ok.ensures.octets) (c.in-Ok.ensures.end none) f)
     c.finish.ensures.ok
@@ -20,7 +21,7 @@ returns-then-is_empty-clause-ok g c =
 pub returns-then-is_empty-clause-bad : goal.returns-then-is_empty-clause-bad
 returns-then-is_empty-clause-bad g c = λ n e.
     let none : length c.in-Ok.piece.now ≡ 0 = search rules in
-    let nothing : c.in-Ok.piece.now ≡ [] = empty_list _ none in
+    let nothing : c.in-Ok.piece.now ≡ [] = nil_from_length _ none in
     Running-ends_bad _ _ _ _ _ _ _ _ _ _ _ _ c.pieces.invariant.0 (rw nothing at c.in-Ok.ensures.octets) (c.in-Ok.ensures.end none)
     (c.finish.ensures.bad n e)
 
@@ -33,7 +34,7 @@ returns-then-is_empty-clause-begun_memory g c = λ memory.
 pub returns-then-is_empty-clause-begun_lost : goal.returns-then-is_empty-clause-begun_lost
 returns-then-is_empty-clause-begun_lost g c = λ fault.
     let none : length c.in-Ok.piece.now ≡ 0 = search rules in
-    let nothing : c.in-Ok.piece.now ≡ [] = empty_list _ none in
+    let nothing : c.in-Ok.piece.now ≡ [] = nil_from_length _ none in
     Running-ends_lost _ _ _ _ _ _ _ _ _ _ _ c.pieces.invariant.0 (rw nothing at c.in-Ok.ensures.octets) (c.finish.ensures.write fault)
 
 pub returns-then-left-eq0-clause-begun : goal.returns-then-left-eq0-clause-begun

@@ -1,10 +1,10 @@
 use Rattle.std.proofs.Common.{◌≡◌, sym, ◌∙◌, ap, subst, [], ◌∷◌, ◌++◌, ◌+◌, List, length, suc, take, arith}
 use Rattle.std.specs.List.{list_any}
 use Rattle.cfdp_paths.specs.Paths.{Path, is_at_or_below}
-use Rattle.cfdp_states.proofs.SparseFillers.{below_length}
 use Rattle.cfdp_states.proofs.SparsePaths.{Found, none_found, one_more, none_more, all_found}
 use Rattle.cfdp_states.proofs.sparse_survey.children_in.Goals as goal
 use Rattle.cfdp_states.proofs.sparse_survey.children_in.Goals.{then-leads_anew+in_ok-beginning+in_ok-push, else-leads_anew}
+use Rattle.cfdp_actions.proofs.BesideLaws.{below_longer}
 
 pub loop-entry-init : goal.loop-entry-init
 loop-entry-init c = subst (λ (xs : List Path). Found c.args.path.now c.args.entries.now 0 xs) (sym c.new-found.ensures.items)
@@ -12,7 +12,7 @@ loop-entry-init c = subst (λ (xs : List Path). Found c.args.path.now c.args.ent
 
 pub beginning-requires-clause-within : goal.beginning-requires-clause-within
 beginning-requires-clause-within c =
-    let more = below_length c.entry-item.result.0 c.args.path.now (c.leads_anew.ensures.below c.if-leads_anew.true) in
+    let more = below_longer c.entry-item.result.0 c.args.path.now (c.leads_anew.ensures.below c.if-leads_anew.true) in
     omega (arith, more)
 
 pub loop-entry-preserved : goal.loop-entry-preserved

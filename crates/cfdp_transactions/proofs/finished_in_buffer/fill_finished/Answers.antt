@@ -1,6 +1,6 @@
 use Rattle.std.proofs.Common.{rules, arith, ◌≡◌, ◌+◌, ◌-◌, ◌*◌, ◌≤◌, ◌∷◌, [], ◌++◌, ℕ, List, length, ap, ◌∙◌, false}
 use Rattle.std.specs.List.{flat_map}
-use Rattle.cfdp_pdus.specs.Bits.{digit}
+use Rattle.cfdp_pdus.specs.Bits.{one_if}
 use Rattle.cfdp_pdus.specs.Canonical.{fault_location, finished_field, response_field}
 use Rattle.cfdp_pdus.specs.BufferParts.{with_octets_at}
 use Rattle.cfdp_pdus.specs.Values.{FinishedFields}
@@ -99,8 +99,8 @@ returns-clause-written c =
     let h = o.header in
     let field = finished_field h o.finished in
     let codes : 16 * c.finished.inside.condition + 4 * c.from-delivery.result + c.finished.inside.file_status
-    ≡ 16 * o.finished.condition + 4 * digit o.finished.incomplete + o.finished.file_status = search rules in
-    let front : List ℕ = 5 ∷ (16 * o.finished.condition + 4 * digit o.finished.incomplete + o.finished.file_status) ∷ [] in
+    ≡ 16 * o.finished.condition + 4 * one_if o.finished.incomplete + o.finished.file_status = search rules in
+    let front : List ℕ = 5 ∷ (16 * o.finished.condition + 4 * one_if o.finished.incomplete + o.finished.file_status) ∷ [] in
     let responses = flat_map response_field o.finished.responses in
     let location = fault_location h.id_len o.finished.fault in
     let at = c.header_len-at.result in

@@ -1,6 +1,7 @@
 use Rattle.std.proofs.Common.{◌≡◌, ◌+◌, ◌-◌, ◌∷◌, List, true, length, refl, ap, sym, subst, ◌∙◌, arith}
 use Rattle.std.specs.List.{flat_map, list_all}
 use Rattle.std.proofs.lemmas.List.{length-append}
+use Rattle.std.proofs.lemmas.Bool.{and_parts}
 use Rattle.cfdp_status.specs.declared.status.Status.TheVariants.{Successful, NotPerformed}
 use Rattle.cfdp_tlv.specs.Values.{ResponseFields}
 use Rattle.cfdp_pdus.specs.Canonical.{is_short_response, response_field}
@@ -10,7 +11,6 @@ use Rattle.cfdp_transactions.specs.code.TakenOutcome.{statuses_of}
 use Rattle.cfdp_transactions.proofs.FinishedPdus.ResponsesPut.{next_is, one_more, responses_from}
 use Rattle.cfdp_transactions.proofs.KeptTable.EntryTakenOut.{status_at, status_of_number}
 use Rattle.cfdp_transactions.proofs.finished_in_buffer.put_responses.Goals as goal
-use Rattle.cfdp_pdus.proofs.OutcomeSteps.{and_true}
 
 pub loop-index-preserved : goal.loop-index-preserved
 loop-index-preserved c =
@@ -34,7 +34,7 @@ loop-index-preserved c =
     let offset : c.loop-index.end + length (flat_map response_field (x ∷ rest)) ≡ c.args.at + length (flat_map response_field all) =
     omega (arith, ap (λ (xs : List ResponseFields). length (flat_map response_field xs)) left, c.loop-index.invariant.offset) in
     record {
-      short = (and_true (is_short_response x) (list_all is_short_response rest) short).1;
+      short = (and_parts (is_short_response x) (list_all is_short_response rest) short).1;
       offset = omega (arith, offset, length-append (response_field x) (flat_map response_field rest), c.put_response-end.ensures.end);
       written = one_more c.loop-index.out c.put_response-end.new.out c.args.out.now c.args.at c.loop-index.end c.put_response-end.result x rest all
           (omega (arith, offset, c.requires.room, c.loop-index.auto.out)) whole c.put_response-end.ensures.written c.put_response-end.ensures.end;

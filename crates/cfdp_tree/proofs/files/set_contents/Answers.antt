@@ -1,11 +1,11 @@
 use Rattle.std.proofs.Common.{◌≡◌, ◌-◌, ◌<◌, ℕ, refl, length, take, ap, ◌∙◌, arith}
 use Rattle.cfdp_arena.specs.Arena.{Blocks}
 use Rattle.cfdp_arena.proofs.Chains.{live_within}
+use Rattle.cfdp_arena.proofs.Laws.{free_count-written}
 use Rattle.cfdp_tree.specs.declared.runs.Run.{Run}
 use Rattle.cfdp_tree.specs.code.NodeFields.{NodeFields, node_fields_of, node_name}
 use Rattle.cfdp_tree.specs.code.Runs.{IsHeld, nth}
 use Rattle.cfdp_tree.specs.code.Files.{with_contents}
-use Rattle.cfdp_tree.proofs.OfRuns.Counts.{free_count-written}
 use Rattle.cfdp_tree.proofs.OfStore.FileNodeLaws.{run_keeps}
 use Rattle.cfdp_tree.proofs.OfRuns.HeldLaws.{held_part}
 use Rattle.cfdp_tree.proofs.OfNodes.TreeLaws.{node_live, node_octets}

@@ -8,14 +8,13 @@ use Rattle.cfdp_tree.specs.code.NodeFields.{NodeFields}
 use Rattle.cfdp_tree.specs.code.Nodes.{only_node, nodes_in}
 use Rattle.cfdp_tree.specs.code.Tree.{Relinked}
 use Rattle.cfdp_tree.specs.code.Index.{no_head, bucket_of, head_count, IsIndex}
-use Rattle.cfdp_tree.proofs.OfRuns.Counts.{free_count-written}
 use Rattle.cfdp_tree.proofs.OfNodes.TreeLaws.{node_live}
 use Rattle.cfdp_tree.proofs.OfNodes.LinkLaws.{link_noted, link_fields, link_name, link_links}
 use Rattle.cfdp_tree.proofs.OfRuns.SpareLaws.{runs_stay}
 use Rattle.cfdp_tree.proofs.OfIndex.HeadLaws.{head_here}
 use Rattle.cfdp_tree.proofs.OfIndex.InsertLaws.{inserted_beside, inserted}
 use Rattle.cfdp_tree.proofs.index.insert.Goals as goal
-use Rattle.cfdp_arena.proofs.Laws.{live_count-le}
+use Rattle.cfdp_arena.proofs.Laws.{live_count-le, free_count-written}
 
 pub set_same_head-requires : goal.set_same_head-requires
 set_same_head-requires c =

@@ -6,12 +6,12 @@ use Rattle.cfdp_tree.specs.declared.index.ListHead.{ListHead}
 use Rattle.cfdp_tree.specs.code.Nodes.{only_node, nodes_in}
 use Rattle.cfdp_tree.specs.code.Tree.{home, name_at}
 use Rattle.cfdp_tree.specs.code.Index.{no_head, bucket_of, list_of, without_node, head_count, HasHead, IsHead}
-use Rattle.cfdp_tree.proofs.OfRuns.Counts.{live_count-same}
 use Rattle.cfdp_tree.proofs.OfNodes.LinkLaws.{relinked_entries}
 use Rattle.cfdp_tree.proofs.OfIndex.HeadLaws.{pairs_left, head_here}
 use Rattle.cfdp_tree.proofs.OfIndex.UnlistLaws.{removed}
 use Rattle.cfdp_tree.proofs.index.remove.Goals as goal
 use Rattle.cfdp_order.proofs.SplitLaws.{All_front}
+use Rattle.cfdp_arena.proofs.Laws.{live_count-same}
 
 pub take_out-requires-clause-nodes : goal.take_out-requires-clause-nodes
 take_out-requires-clause-nodes c =

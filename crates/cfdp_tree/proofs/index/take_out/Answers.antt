@@ -3,11 +3,11 @@ use Rattle.std.proofs.lemmas.Bool.{eqb-true}
 use Rattle.std.proofs.lemmas.List.Elements.{Contains-get_or}
 use Rattle.std.specs.Prelude.{◌≢◌}
 use Rattle.cfdp_arena.specs.Arena.{with_block}
+use Rattle.cfdp_arena.proofs.Laws.{free_count-written}
 use Rattle.cfdp_tree.specs.code.NodeFields.{NodeFields, node_fields_of}
 use Rattle.cfdp_tree.specs.code.Nodes.{nodes_in}
 use Rattle.cfdp_tree.specs.code.Tree.{node_fields_at, Relinked}
 use Rattle.cfdp_tree.specs.code.Index.{index_chain, list_of, without_node}
-use Rattle.cfdp_tree.proofs.OfRuns.Counts.{free_count-written}
 use Rattle.cfdp_tree.proofs.OfNodes.TreeLaws.{node_live, node_octets}
 use Rattle.cfdp_tree.proofs.OfIndex.IndexLaws.{chain_some, once_first, kept_chain}
 use Rattle.cfdp_tree.proofs.OfNodes.LinkLaws.{link_noted, link_fields, link_links, next_here, next_other}

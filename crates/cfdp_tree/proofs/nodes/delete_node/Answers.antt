@@ -1,8 +1,8 @@
 use Rattle.std.proofs.Common.{sym, ap, ◌∙◌, subst}
 use Rattle.cfdp_arena.specs.Arena.{free_count}
+use Rattle.cfdp_arena.proofs.Laws.{free_count-given}
 use Rattle.cfdp_tree.specs.code.Nodes.{nodes_in}
 use Rattle.cfdp_tree.specs.code.Runs.{RunsStay}
-use Rattle.cfdp_tree.proofs.OfRuns.Counts.{free_count-given}
 use Rattle.cfdp_tree.proofs.OfNodes.TreeLaws.{node_live}
 use Rattle.cfdp_tree.proofs.OfRuns.SpareLaws.{runs_stay_given}
 use Rattle.cfdp_tree.proofs.OfNodes.WriteLaws.{deleted_noted}

@@ -1,11 +1,11 @@
 use Rattle.std.proofs.Common.{Some, None, length, ap, ◌∙◌}
 use Rattle.std.specs.Prelude.{◌==◌, if◌then◌else◌}
 use Rattle.cfdp_tree.specs.code.NodeFields.{NodeFields, node_fields_of, node_name}
-use Rattle.cfdp_tree.proofs.OfRuns.Counts.{free_count-written}
 use Rattle.cfdp_tree.proofs.OfNodes.TreeLaws.{node_live, node_octets}
 use Rattle.cfdp_tree.proofs.OfRuns.SpareLaws.{runs_stay}
 use Rattle.cfdp_tree.proofs.OfNodes.WriteLaws.{written_octets, written_nodes, home_written}
 use Rattle.cfdp_tree.proofs.nodes.rename_node.Goals as goal
+use Rattle.cfdp_arena.proofs.Laws.{free_count-written}
 
 pub returns-clause-nodes : goal.returns-clause-nodes
 returns-clause-nodes c =

@@ -1,7 +1,7 @@
 use Rattle.std.specs.Prelude.{codes}
 use Rattle.cfdp_verdicts.specs.Words.{rename_not_allowed, said_of_name}
-use Rattle.cfdp_verdicts.proofs.Texts.{three}
 use Rattle.cfdp_verdicts.proofs.causes.push_rename.Goals as goal
+use Rattle.cfdp_status.proofs.Appended.{three}
 
 pub returns : goal.returns
 unfolding rename_not_allowed

@@ -2,8 +2,8 @@ use Rattle.std.proofs.Common.{rules}
 use Rattle.std.specs.Prelude.{codes, unwrap_or, []}
 use Rattle.cfdp_texts.specs.Replies.{shown}
 use Rattle.cfdp_verdicts.specs.Words.{destination_words}
-use Rattle.cfdp_verdicts.proofs.Texts.{two}
 use Rattle.cfdp_verdicts.proofs.verdicts.push_destination.Goals as goal
+use Rattle.cfdp_status.proofs.Appended.{two}
 
 pub returns : goal.returns
 unfolding destination_words

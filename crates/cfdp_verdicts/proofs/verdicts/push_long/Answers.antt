@@ -1,8 +1,8 @@
 use Rattle.std.proofs.Common.{rules}
 use Rattle.std.specs.Prelude.{codes}
 use Rattle.cfdp_verdicts.specs.Words.{grouped, long_words}
-use Rattle.cfdp_verdicts.proofs.Texts.{three}
 use Rattle.cfdp_verdicts.proofs.verdicts.push_long.Goals as goal
+use Rattle.cfdp_status.proofs.Appended.{three}
 
 pub returns : goal.returns
 unfolding long_words

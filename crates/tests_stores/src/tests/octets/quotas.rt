@@ -1,3 +1,4 @@
+//! Reserves of blocks and meters of steps, after each call.
 use cfdp_quota::*;
 
 // Whether this many blocks are free, and this many of these are kept for nobody.

@@ -1,4 +1,5 @@
-//! Worked fields, requests and responses, the faults, and values at their greatest lengths.
+//! Worked fields and responses, the faults, and values at their greatest lengths. Worked requests are text, in
+//! `.ci/cases/tlvs.txt`.
 
 mod copies;
 mod limits;
@@ -7,80 +8,6 @@ use super::{Row, all_hold};
 use cfdp_status::{Action, Status};
 use cfdp_tlv::*;
 use std::alloc::{AllocError, Global};
-
-// A request TLV, and its action and names.
-type Asked = (&'static [u8], Action, &'static [u8], Option<&'static [u8]>);
-
-static REQUESTS: [(&str, Asked); 12] = [
-    (
-        "create file",
-        (b"\x00\x03\x00\x01a", Action::CreateFile, b"a", None),
-    ),
-    (
-        "delete file",
-        (b"\x00\x03\x10\x01a", Action::DeleteFile, b"a", None),
-    ),
-    (
-        "create directory",
-        (b"\x00\x03\x50\x01d", Action::CreateDirectory, b"d", None),
-    ),
-    (
-        "create a file in a directory",
-        (b"\x00\x05\x00\x03d/x", Action::CreateFile, b"d/x", None),
-    ),
-    (
-        "remove directory",
-        (b"\x00\x03\x60\x01d", Action::RemoveDirectory, b"d", None),
-    ),
-    (
-        "rename a file in a directory",
-        (
-            b"\x00\x07\x20\x03d/x\x01b",
-            Action::RenameFile,
-            b"d/x",
-            Some(b"b"),
-        ),
-    ),
-    (
-        "replace file",
-        (
-            b"\x00\x05\x40\x01b\x01c",
-            Action::ReplaceFile,
-            b"b",
-            Some(b"c"),
-        ),
-    ),
-    (
-        "deny file",
-        (b"\x00\x03\x70\x01z", Action::DenyFile, b"z", None),
-    ),
-    (
-        "deny directory",
-        (b"\x00\x03\x80\x01d", Action::DenyDirectory, b"d", None),
-    ),
-    (
-        "append a file to itself",
-        (
-            b"\x00\x05\x30\x01b\x01b",
-            Action::AppendFile,
-            b"b",
-            Some(b"b"),
-        ),
-    ),
-    (
-        "a / in front",
-        (b"\x00\x04\x00\x02/a", Action::CreateFile, b"/a", None),
-    ),
-    (
-        "rename file",
-        (
-            b"\x00\x05\x20\x01a\x01b",
-            Action::RenameFile,
-            b"a",
-            Some(b"b"),
-        ),
-    ),
-];
 
 // A response TLV, and its status, names and message.
 struct ResponseParts {
@@ -261,24 +188,6 @@ fn written_request(
         Ok(()) => Ok(out),
         Err(_) => Err(AllocError),
     }
-}
-
-// Whether a request is of this action and has these names.
-fn asks(request: &FilestoreRequest, action: Action, first: &[u8], second: Option<&[u8]>) -> bool {
-    request.action() == action && request.first() == first && request.second() == second
-}
-
-impl Row for Asked {
-    fn holds(&self, alloc: Global) -> Result<bool, AllocError> {
-        let request = request_in(alloc, self.0)?;
-        let out = written_request(alloc, b"x", &request)?;
-        Ok(asks(&request, self.1, self.2, self.3) && out.strip_prefix(b"x") == Some(self.0))
-    }
-}
-
-#[test]
-fn requests(rt: HostRuntime) {
-    all_hold(&rt, rt.alloc(), &REQUESTS);
 }
 
 // The response of a whole TLV. Only memory can be refused.

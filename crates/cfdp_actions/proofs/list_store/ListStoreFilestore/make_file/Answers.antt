@@ -5,8 +5,9 @@ use Rattle.cfdp_actions.specs.Filestore.{File}
 use Rattle.cfdp_actions.specs.code.Listed.{shown_entries}
 use Rattle.cfdp_actions.specs.declared.content.Content.TheVariants as content
 use Rattle.cfdp_actions.proofs.ShownLaws.{shown_put}
-use Rattle.cfdp_actions.proofs.StoreLaws.{seen_put, put_absent_kept, no_blocks}
+use Rattle.cfdp_actions.proofs.StoreLaws.{seen_put, put_absent_kept}
 use Rattle.cfdp_actions.proofs.list_store.ListStoreFilestore.make_file.Goals as goal
+use Rattle.cfdp_actions.proofs.Growth.{blocks_of-zero}
 
 pub invariant_of-self-2 : goal.invariant_of-self-2
 invariant_of-self-2 c =
@@ -14,7 +15,7 @@ invariant_of-self-2 c =
     ∙ ap (λ q. put path_cmp q (File c.new.result.items) (shown_entries c.self.inside.entries)) c.in_ok-copy.ensures
     ∙ ap (λ os. put path_cmp c.args.path.now (File os) (shown_entries c.self.inside.entries)) c.new.ensures.items in
     put_absent_kept _ _ _ _ c.self.invariant _ c.self.view_is c.insert.new.self c.args.path.now (File []) e c.requires.absent c.requires.room
-    (omega (arith, no_blocks))
+    (omega (arith, blocks_of-zero))
 
 pub returns-clause-made : goal.returns-clause-made
 returns-clause-made c =

@@ -1,7 +1,6 @@
 use Rattle.std.proofs.Common.{sym, ap, ◌∙◌, arith}
 use Rattle.cfdp_paths.specs.Paths.{is_at_or_below}
-use Rattle.cfdp_paths.specs.PathMaps.{tree_in}
-use Rattle.cfdp_actions.specs.Actions.{is_tree_too_deep}
+use Rattle.cfdp_paths.specs.PathMaps.{tree_in, is_too_deep}
 use Rattle.cfdp_actions.specs.code.Listed.{shown_entries, blocks_in}
 use Rattle.cfdp_actions.proofs.ShownLaws.{shown_where, shown_deep, shown_below, shown_relocated}
 use Rattle.cfdp_actions.proofs.StoreLaws.{seen_node, seen_tree, seen_moved, moved_kept, moved_fits, moved_counted}
@@ -12,7 +11,7 @@ relocate-requires c =
     let p = c.args.from.now in
     let q = c.args.to.now in
     let es = c.self.inside.entries in
-    shown_deep p q (tree_in p es) ∙ ap (is_tree_too_deep p q) (shown_where (λ x. is_at_or_below x p) es
+    shown_deep p q (tree_in p es) ∙ ap (is_too_deep p q) (shown_where (λ x. is_at_or_below x p) es
     ∙ sym (seen_tree _ _ _ _ c.self.invariant _ c.self.view_is p)) ∙ c.requires.depth
 
 pub blocks_in-self-inside-requires : goal.blocks_in-self-inside-requires

@@ -9,7 +9,7 @@ use Rattle.cfdp_leases.specs.declared.leased_paths.Holder.{Holder}
 use Rattle.std.specs.List.{list_any}
 use Rattle.std.specs.FinSet as set
 use Rattle.cfdp_paths.specs.Paths.{same_path}
-use Rattle.cfdp_leases.proofs.Sets.{path_cmp_total}
+use Rattle.cfdp_paths.proofs.Comparing.{path_cmp-total}
 use Rattle.cfdp_leases.proofs.Held.{holds_kept, holds_same, in_slice, left, emptied, left_emptied}
 use Rattle.cfdp_leases.proofs.leased_paths.LeasedPaths.release.Goals as goal
 
@@ -27,7 +27,7 @@ returns c = λ holders by_hash own.
     (λ has. own p (sym (in_slice xs fp.exclusive p c.exclusive.ensures.paths) ∙ has))
     ∙ ap (λ b. left id b (holders p))
     ((λ i. in_slice xs fp.exclusive p c.exclusive.ensures.paths i || in_slice ys fp.shared p c.shared.ensures.paths i)
-    ∙ sym (set.contains-union path_cmp_total fp.exclusive fp.shared p)))
+    ∙ sym (set.contains-union path_cmp-total fp.exclusive fp.shared p)))
     (c.remove_all.ensures _ (c.drop_all.ensures holders by_hash)))
     (λ h. ap (λ es. lookup (is_at (nat_cmp h)) es) c.give_back.ensures)
     (λ p. ap (λ es. lookup (is_at (path_cmp p)) es) c.give_back-2.ensures)

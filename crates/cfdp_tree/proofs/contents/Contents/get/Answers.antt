@@ -1,8 +1,9 @@
 use Rattle.std.proofs.Common.{◌≤◌, length, ◌∙◌, arith}
 use Rattle.cfdp_tree.specs.code.Runs.{octets_of_run}
 use Rattle.cfdp_tree.proofs.OfRuns.RunLaws.{length-run}
-use Rattle.cfdp_tree.proofs.OfRuns.Filling.{front_read, blocks_of-fits}
+use Rattle.cfdp_tree.proofs.OfRuns.Filling.{front_read}
 use Rattle.cfdp_tree.proofs.contents.Contents.get.Goals as goal
+use Rattle.cfdp_actions.proofs.RowLaws.{blocks_of-fits}
 
 pub read-requires-clause-range : goal.read-requires-clause-range
 read-requires-clause-range c = omega (arith, c.requires.filled.blocks, c.requires.range, blocks_of-fits c.args.self.now.size)

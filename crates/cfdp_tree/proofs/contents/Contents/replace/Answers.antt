@@ -15,22 +15,9 @@ returns-clause-taken c =
     let all : c.empty.result.size + s.size ≡ s.size = omega (arith, c.empty.ensures.size) in
     omega (arith, ap blocks_of all, blocks_of-none c.empty.result.size c.empty.ensures.size, c.append.ensures.taken, c.release.ensures.freed)
 
-pub returns-clause-spares : goal.returns-clause-spares
-returns-clause-spares c =
-    let run = c.args.self.now.run in
-    spares_then c.args.arena.now c.release.new.arena c.append.new.arena run run c.append.new.self.run c.release.ensures.spares
-    (λ other held apart. c.append.ensures.spares other held (λ some there. absurd (omega (arith, c.empty.ensures.blocks))))
-
 pub append-requires-clause-ways : goal.append-requires-clause-ways
 append-requires-clause-ways c =
     ways_none c.release.new.arena c.args.ways.now c.empty.result.run (c.requires.ways.long ∙ sym c.release.ensures.capacity) c.empty.ensures.blocks
-
-pub returns-clause-other_ways : goal.returns-clause-other_ways
-returns-clause-other_ways c =
-    let run = c.args.self.now.run in let gone = c.release.ensures in let ways = c.args.ways.now in
-    keeps_then c.args.arena.now c.release.new.arena c.append.new.arena ways ways c.append.new.ways run run
-    (keeps_still c.args.arena.now c.release.new.arena ways run run gone.capacity gone.spares) gone.spares
-    (λ other held apart has. c.append.ensures.other_ways other held (λ some there. absurd (omega (arith, some, c.empty.ensures.blocks))) has)
 
 pub append-requires-clause-source : goal.append-requires-clause-source
 append-requires-clause-source c =
@@ -42,3 +29,18 @@ returns-clause-octets c =
     let s = c.args.source.now in let r = c.requires in let gone = c.release.new.arena in let none = c.empty in
     let still = stays_contents c.args.arena.now gone s (c.release.ensures.spares s.run r.source.held r.apart).0 in
     c.append.ensures.octets ∙ (λ k. none_contents gone none.result none.ensures.blocks none.ensures.size k ++ still k)
+
+pub returns-clause-only : goal.returns-clause-only
+returns-clause-only c =
+    let a = c.args.arena.now in let run = c.args.self.now.run in let gone = c.release.ensures in let between = c.release.new.arena in
+    let ways = c.args.ways.now in let added = c.append.ensures.only in let later = c.append.new.arena in
+    record {
+      filled = added.filled;
+      ways = added.ways;
+      spares = spares_then a between later run run c.append.new.self.run gone.spares
+          (λ other held apart. added.spares other held (λ some there. absurd (omega (arith, c.empty.ensures.blocks))));
+      other_ways = keeps_then a between later ways ways c.append.new.ways run run (keeps_still a between ways run run gone.capacity gone.spares) gone.spares
+          (λ other held apart has. added.other_ways other held (λ some there. absurd (omega (arith, some, c.empty.ensures.blocks))) has);
+      capacity = added.capacity ∙ gone.capacity;
+      nodes = added.nodes ∙ gone.nodes;
+    }

@@ -3,8 +3,8 @@ use Rattle.cfdp_checksum.specs.Checksum.{checksum_at}
 use Rattle.cfdp_checksum.proofs.ChecksumSteps.{only-word-offsets-count}
 use Rattle.cfdp_tree.specs.code.Runs.{octets_of_run}
 use Rattle.cfdp_tree.specs.code.Contents.{contents_in}
-use Rattle.cfdp_tree.proofs.OfRuns.Filling.{blocks_of-fits}
 use Rattle.cfdp_tree.proofs.contents.Contents.sum_at.Goals as goal
+use Rattle.cfdp_actions.proofs.RowLaws.{blocks_of-fits}
 
 pub sum_of-requires-clause-range : goal.sum_of-requires-clause-range
 sum_of-requires-clause-range c = omega (arith, c.requires.filled.blocks, blocks_of-fits c.args.self.now.size)

@@ -1,6 +1,7 @@
-use Rattle.std.proofs.Common.{◌≡◌, ◌≤◌, ℕ, List, ◌++◌, Bool, true, false, Option, Some, None, sym, ap, ◌∙◌, subst}
+use Rattle.std.proofs.Common.{◌≡◌, ◌≤◌, ℕ, List, ◌++◌, true, false, Option, Some, None, sym, ap, ◌∙◌, subst}
 use Rattle.std.specs.List.{slice_get}
 use Rattle.std.specs.Prelude.{All, Contains, IfNone}
+use Rattle.std.proofs.lemmas.Bool.{both_ways}
 use Rattle.cfdp_arena.specs.Arena.{Blocks}
 use Rattle.cfdp_paths.specs.Paths.{Name}
 use Rattle.cfdp_order.specs.Orders as trees
@@ -90,9 +91,6 @@ returns-then-name_is-clause-found c =
       named = ap node_name (sym (node_octets arena b member.node c.bytes.result.now c.bytes.ensures.octets)) ∙ c.name_is.ensures.0 c.if-name_is.true;
     }
 
-false_true : {b : Bool} → b ≡ false → b ≡ true → ⊥
-false_true e f = cc
-
 pub returns-else-name_is-clause-none : goal.returns-else-name_is-clause-none
 returns-else-name_is-clause-none c =
     let number = c.of_number-node.ensures.same_number ∙ c.from.ensures in let arena = c.args.arena.now in let b = c.of_number-node.result in
@@ -101,5 +99,5 @@ returns-else-name_is-clause-none c =
     (λ k. trees.nodes (c.deref.ensures.value k) (c.of-order.ensures k)) c.first_from.result c.first_from.ensures b some in
     other_entry (nodes_in arena) c.args.self.now c.args.directory.now c.requires.ordered c.args.name.now _
     (λ k. trees.nodes (c.deref.ensures.value k) (c.of-order.ensures k)) c.first_from.result c.first_from.ensures b some
-    (λ same. false_true c.if-name_is.false (c.name_is.ensures.1 (ap node_name (node_octets arena b member.node c.bytes.result.now c.bytes.ensures.octets)
+    (λ same. both_ways _ c.if-name_is.false (c.name_is.ensures.1 (ap node_name (node_octets arena b member.node c.bytes.result.now c.bytes.ensures.octets)
     ∙ same)))

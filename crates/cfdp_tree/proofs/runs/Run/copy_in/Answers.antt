@@ -2,11 +2,11 @@ use Rattle.std.proofs.Common.{◌≡◌, ◌≤◌, ◌+◌, ◌*◌, ℕ, lengt
 use Rattle.std.proofs.lemmas.List.{drop-drop}
 use Rattle.cfdp_arena.specs.Arena.{octets_at, octets_of, free_count}
 use Rattle.cfdp_arena.specs.Blocks.{with_part, payload_part}
+use Rattle.cfdp_arena.proofs.Laws.{free_count-written}
 use Rattle.cfdp_actions.specs.Store.{overwritten}
 use Rattle.cfdp_tree.specs.code.Block.{payload}
 use Rattle.cfdp_tree.specs.code.Nodes.{nodes_in}
 use Rattle.cfdp_tree.specs.code.Runs.{octets, octets_of_run, nth, IsHeld, OtherRunsStay}
-use Rattle.cfdp_tree.proofs.OfRuns.Counts.{free_count-written}
 use Rattle.cfdp_tree.proofs.OfRuns.BlockLaws.{header-part, payload-part, whole-part}
 use Rattle.cfdp_tree.proofs.OfRuns.OctetsInLists.{slice_is}
 use Rattle.cfdp_tree.proofs.OfRuns.RunLaws.{run_slice}
@@ -46,13 +46,15 @@ returns c =
     ∙ sym (run_slice a source.first 0 source.count source.first f.index from_at n start r.source.parts r.from_within r.from_fits refl) in
     let target = c.copy_payload.ensures.target in
     record {
-      held = subst (λ x. IsHeld x run) (sym target) (put_held a run r.held t.index r.to_within t.block r.to.1 new whole same);
+      only = record {
+        held = subst (λ x. IsHeld x run) (sym target) (put_held a run r.held t.index r.to_within t.block r.to.1 new whole same);
+        sequence = (λ k le. ap (λ x. nth x run.first k) target ∙ put_nth a run r.held t.index r.to_within t.block r.to.1 new whole same k le);
+        free = ap free_count target ∙ free_count-written a t.block new to.live;
+        size = ap length target ∙ length-set a t.block (Some new);
+        others = subst (λ x. OtherRunsStay a x run) (sym target) (put_others a run r.held t.index r.to_within t.block r.to.1 new whole same);
+        nodes = ap nodes_in target ∙ put_nodes a run r.held t.index r.to_within t.block r.to.1 new whole same;
+      };
       octets = ap (λ x. octets_of_run x run) target
           ∙ put_octets a run r.held t.index r.to_within t.block r.to.1 new whole same at part fits (payload-part old at part to.whole)
           ∙ ap (λ xs. overwritten (octets_of_run a run) (120 * t.index + at) xs) (part_is ∙ sym (slice_is (octets_of_run a source) start (start + n) n refl));
-      sequence = (λ k le. ap (λ x. nth x run.first k) target ∙ put_nth a run r.held t.index r.to_within t.block r.to.1 new whole same k le);
-      free = ap free_count target ∙ free_count-written a t.block new to.live;
-      size = ap length target ∙ length-set a t.block (Some new);
-      others = subst (λ x. OtherRunsStay a x run) (sym target) (put_others a run r.held t.index r.to_within t.block r.to.1 new whole same);
-      nodes = ap nodes_in target ∙ put_nodes a run r.held t.index r.to_within t.block r.to.1 new whole same;
     }

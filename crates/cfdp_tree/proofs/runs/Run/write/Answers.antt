@@ -4,7 +4,7 @@ use Rattle.cfdp_actions.specs.Store.{overwritten}
 use Rattle.cfdp_tree.specs.code.Runs.{octets_of_run}
 use Rattle.cfdp_tree.proofs.OfRuns.OctetsInLists.{step_write}
 use Rattle.cfdp_tree.proofs.OfRuns.RunLaws.{length-run}
-use Rattle.cfdp_tree.proofs.OfRuns.HeldLaws.{others_then}
+use Rattle.cfdp_tree.proofs.OfRuns.WriteLaws.{writes_then}
 use Rattle.cfdp_tree.proofs.runs.Run.write.Goals as goal
 
 pub parts-preserved : goal.parts-preserved
@@ -17,7 +17,7 @@ parts-preserved c =
     let fewer : count ≤ length l.rest.now = omega (arith, c.min.ensures) in
     let later : done + count ≡ length octets - length c.split_at.result.1.now = omega (arith, left, fewer, inv.fewer) in
     record {
-      held = put.held;
+      only = writes_then a l.arena c.put_in.new.arena run inv.only put.only;
       fewer = omega (arith, left, inv.fewer);
       rest = parts.back ∙ ap (drop count) inv.rest ∙ drop-drop count done octets ∙ ap (λ n. drop n octets) later;
       octets = put.octets
@@ -29,10 +29,5 @@ parts-preserved c =
       cursor = c.after-cursor.ensures.cursor;
       inside = omega arith;
       next = (λ more. omega (arith, more, left, c.min.ensures, inv.next some, inv.inside, inv.fewer, c.after-cursor.ensures.index));
-      last = (inv.cursor.0, inv.cursor.1 ∙ sym (put.sequence l.cursor.index inv.cursor.0));
-      free = put.free ∙ inv.free;
-      size = put.size ∙ inv.size;
-      others = others_then a l.arena c.put_in.new.arena run inv.others put.others;
-      sequence = (λ k within. put.sequence k within ∙ inv.sequence k within);
-      nodes = put.nodes ∙ inv.nodes;
+      last = (inv.cursor.0, inv.cursor.1 ∙ sym (put.only.sequence l.cursor.index inv.cursor.0));
     }

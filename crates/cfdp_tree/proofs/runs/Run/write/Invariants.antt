@@ -1,13 +1,12 @@
-use Rattle.std.proofs.Common.{◌≡◌, ℕ, ◌+◌, ◌-◌, ◌*◌, ◌<◌, ◌≤◌, take, drop, length}
-use Rattle.cfdp_arena.specs.Arena.{free_count}
+use Rattle.std.proofs.Common.{◌≡◌, ◌+◌, ◌-◌, ◌*◌, ◌<◌, ◌≤◌, take, drop, length}
 use Rattle.cfdp_actions.specs.Store.{overwritten}
-use Rattle.cfdp_tree.specs.code.Nodes.{nodes_in}
-use Rattle.cfdp_tree.specs.code.Runs.{IsHeld, IsAt, OtherRunsStay, octets_of_run, nth}
+use Rattle.cfdp_tree.specs.code.Frames.{WritesOnly}
+use Rattle.cfdp_tree.specs.code.Runs.{IsAt, octets_of_run}
 use Rattle.cfdp_tree.proofs.runs.Run.write.Given as goal
 
 abbrev pub invariant-parts : goal.invariant-parts
 invariant-parts l = record {
-  held : IsHeld l.arena l.self;
+  only : WritesOnly l.fn.arena l.arena l.self;
   fewer : length l.rest ≤ length l.octets;
   rest : l.rest ≡ drop (length l.octets - length l.rest) l.octets;
   octets : octets_of_run l.arena l.self ≡ overwritten (octets_of_run l.fn.arena l.self) l.at (take (length l.octets - length l.rest) l.octets);
@@ -15,11 +14,6 @@ invariant-parts l = record {
   inside : l.block_offset < 120;
   next : 0 < length l.rest → 120 * l.cursor.index + l.block_offset ≡ l.at + (length l.octets - length l.rest);
   last : IsAt l.arena l.self l.last;
-  free : free_count l.arena ≡ free_count l.fn.arena;
-  size : length l.arena ≡ length l.fn.arena;
-  others : OtherRunsStay l.fn.arena l.arena l.self;
-  sequence : (k : ℕ) → k ≤ l.self.count → nth l.arena l.self.first k ≡ nth l.fn.arena l.self.first k;
-  nodes : nodes_in l.arena ≡ nodes_in l.fn.arena;
 }
 
 abbrev pub decreases-parts : goal.decreases-parts

@@ -6,10 +6,10 @@ use Rattle.cfdp_tree.specs.code.Ways.{HasWays}
 use Rattle.cfdp_tree.specs.code.Contents.{contents_in}
 use Rattle.cfdp_tree.specs.code.Slots.{blank_end, IsUnwrittenSlot}
 use Rattle.cfdp_tree.proofs.OfRuns.ContentsLaws.{length-contents}
-use Rattle.cfdp_tree.proofs.OfRuns.Filling.{blocks_of-fits}
 use Rattle.cfdp_tree.proofs.OfStore.SlotCursors.{end_written, same_unwritten}
 use Rattle.cfdp_tree.proofs.OfRuns.WayLaws.{ways_still, keeps_still}
 use Rattle.cfdp_tree.proofs.slots.Slot.put.Goals as goal
+use Rattle.cfdp_actions.proofs.RowLaws.{blocks_of-fits}
 
 pub returns-clause-ways : goal.returns-clause-ways
 returns-clause-ways c =

@@ -6,11 +6,12 @@ use Rattle.cfdp_tree.specs.declared.gap.Gap.{Gap}
 use Rattle.cfdp_tree.specs.code.Runs.{octets_of_run}
 use Rattle.cfdp_tree.specs.code.Contents.{contents_in}
 use Rattle.cfdp_tree.specs.code.Slots.{IsBlank, blank_end}
-use Rattle.cfdp_tree.proofs.OfRuns.Filling.{front_read, blocks_of-fits}
+use Rattle.cfdp_tree.proofs.OfRuns.Filling.{front_read}
 use Rattle.cfdp_tree.proofs.OfRuns.ContentsLaws.{within_run}
 use Rattle.cfdp_tree.proofs.OfStore.GapLaws.{part_blank}
 use Rattle.cfdp_tree.proofs.slots.Slot.sum_there.Goals as goal
 use Rattle.cfdp_tree.proofs.slots.Slot.sum_there.Goals.{then-self-start-via-then-self-start, then-self-start-via-else-self-start+then-covers}
+use Rattle.cfdp_actions.proofs.RowLaws.{blocks_of-fits}
 
 -- zeros add nothing
 nothing : (octets : List ℕ) (at end : ℕ) → IsBlank octets (record { from = at; to = end }) → 0 ≡ checksum_at at (slice_range octets at end)

@@ -1,15 +1,16 @@
-use Rattle.std.proofs.Common.{◌≡◌, ◌+◌, ◌-◌, ℕ, ◌++◌, sym, ap, ◌∙◌, subst, arith}
+use Rattle.std.proofs.Common.{◌+◌, ◌-◌, ◌++◌, sym, ap, ◌∙◌, subst, arith}
 use Rattle.cfdp_arena.specs.Arena.{octets_of}
 use Rattle.cfdp_actions.specs.Filestore.{file_octets_at, blocks_of}
+use Rattle.cfdp_actions.proofs.RowLaws.{blocks_of-mono, blocks_of-small}
 use Rattle.std.proofs.lemmas.List.{with_items_is}
 use Rattle.cfdp_tree.specs.code.Nodes.{nodes_in}
 use Rattle.cfdp_tree.specs.code.Ways.{HasWays, KeepsWays}
 use Rattle.cfdp_tree.specs.code.Slots.{IsStore}
-use Rattle.cfdp_tree.proofs.OfRuns.Filling.{blocks_of-le, blocks_of-most}
 use Rattle.cfdp_tree.proofs.OfStore.FoundLaws.{filled_blocks, file_found, file_most, found_filled, found_ways, found_octets, found_size, found_blocks, found_same, found_apart, append_most, append_room, found_store, found_changes}
 use Rattle.cfdp_tree.proofs.OfStore.FileLaws.{kind_there}
 use Rattle.cfdp_tree.proofs.OfOrders.OrderedLaws.{ordered_written}
 use Rattle.cfdp_tree.proofs.tree_store.TreeStoreFilestore.append.Goals as goal
+use Rattle.cfdp_tree.proofs.OfRuns.Filling.{taken_as}
 
 pub find_file-file-requires-clause-there : goal.find_file-file-requires-clause-there
 find_file-file-requires-clause-there c = file_found _ _ _ c.self.invariant.store _ c.self.view_is c.args.first.now c.requires.first
@@ -71,7 +72,7 @@ overflow_sub-result c =
     let first = found_filled _ _ _ c.self.invariant.store _ c.self.view_is c.args.first.now c.requires.first c.find_file-file.result file.node file.path
     file.contents in
     let after = c.append-contents.ensures in
-    omega (arith, filled_blocks _ _ first, filled_blocks _ _ after.filled, ap blocks_of after.size, blocks_of-le a (a + b) (omega arith))
+    omega (arith, filled_blocks _ _ first, filled_blocks _ _ after.only.filled, ap blocks_of after.size, blocks_of-mono a (a + b) (omega arith))
 
 pub overflow_add-result : goal.overflow_add-result
 overflow_add-result c =
@@ -86,15 +87,11 @@ overflow_add-result c =
     omega (
       arith,
       filled_blocks _ _ second,
-      filled_blocks _ _ after.filled,
+      filled_blocks _ _ after.only.filled,
       ap blocks_of after.size,
-      blocks_of-most (a + b) most,
-      blocks_of-most b (omega (arith, most)),
+      blocks_of-small (a + b) most,
+      blocks_of-small b (omega (arith, most)),
     )
-
--- the blocks that are taken
-taken : (free size was now more : ℕ) → free + blocks_of more ≡ was + blocks_of size → now ≡ more → free + blocks_of now ≡ was + blocks_of size
-taken free size was now more e same = ap (λ n. free + blocks_of n) same ∙ e
 
 pub invariant_of-self : goal.invariant_of-self
 invariant_of-self c =
@@ -105,15 +102,16 @@ invariant_of-self c =
           (found_store _ _ _ c.self.invariant.store _ c.self.view_is c.args.first.now c.requires.first c.find_file-file.result file.node file.path file.contents
           c.append-contents.new.arena c.set_contents.new.arena c.append-contents.result
           (octets_of (nodes_in c.set_contents.new.arena) c.find_file-file.result.node)
-          after.nodes after.capacity after.spares after.filled (taken _ _ _ _ _ after.taken after.size) set.nodes set.fields set.name set.whole set.runs
+          after.only.nodes after.only.capacity after.only.spares after.only.filled
+          (taken_as _ _ _ _ _ after.taken after.size) set.nodes set.fields set.name set.whole set.runs
           set.free
           set.capacity _ after.octets
-          c.append-contents.new.ways after.ways
+          c.append-contents.new.ways after.only.ways
           (subst (λ ws. KeepsWays c.self.inside.arena c.append-contents.new.arena ws c.append-contents.new.ways c.find_file-file.result.contents.run)
-          c.deref_mut.ensures.value after.other_ways));
+          c.deref_mut.ensures.value after.only.other_ways));
       ordered = ordered_written (nodes_in c.self.inside.arena) c.self.invariant.store.kept.tree c.find_file-file.result.node file.node
           (kind_there _ _ _ c.self.invariant.store _ c.self.view_is c.find_file-file.result.node c.args.first.now file.node file.path c.requires.first) _ _
-          (octets_of _ c.find_file-file.result.node) c.append-contents.result after.nodes set.nodes set.fields set.name set.whole c.self.inside.orders
+          (octets_of _ c.find_file-file.result.node) c.append-contents.result after.only.nodes set.nodes set.fields set.name set.whole c.self.inside.orders
           c.self.invariant.ordered;
     }
 
@@ -125,7 +123,7 @@ returns-clause-ticks c =
     let second = found_size _ _ _ c.self.invariant.store _ c.self.view_is c.args.second.now c.requires.second c.find_file-source.result source.node source.path
     source.contents in
     let after = c.append-contents.ensures in
-    let both = filled_blocks _ _ after.filled ∙ ap blocks_of (after.size ∙ (λ k. sym first k + sym second k)) in
+    let both = filled_blocks _ _ after.only.filled ∙ ap blocks_of (after.size ∙ (λ k. sym first k + sym second k)) in
     (λ k. both k - (found_blocks _ _ _ c.self.invariant.store _ c.self.view_is c.args.first.now c.requires.first c.find_file-file.result file.node file.path
     file.contents) k
     + (found_blocks _ _ _ c.self.invariant.store _ c.self.view_is c.args.second.now c.requires.second c.find_file-source.result source.node source.path
@@ -142,6 +140,7 @@ returns-clause-appended c =
     source.path source.contents in
     found_changes _ _ _ c.self.invariant.store _ c.self.view_is c.args.first.now c.requires.first c.find_file-file.result file.node file.path file.contents
     c.append-contents.new.arena c.set_contents.new.arena c.append-contents.result (octets_of (nodes_in c.set_contents.new.arena) c.find_file-file.result.node)
-    after.nodes after.capacity after.spares after.filled (taken _ _ _ _ _ after.taken after.size) set.nodes set.fields set.name set.whole set.runs set.free
+    after.only.nodes after.only.capacity after.only.spares after.only.filled
+    (taken_as _ _ _ _ _ after.taken after.size) set.nodes set.fields set.name set.whole set.runs set.free
     set.capacity
     (file_octets_at F c.args.first.now ++ file_octets_at F c.args.second.now) (after.octets ∙ (λ k. sym first k ++ sym second k))

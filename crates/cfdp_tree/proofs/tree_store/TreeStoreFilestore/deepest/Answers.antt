@@ -11,7 +11,7 @@ use Rattle.cfdp_tree.specs.code.NodesBelow.{AreNodesBelow}
 use Rattle.cfdp_tree.proofs.OfStore.SeenLaws.{shows, seen_none}
 use Rattle.cfdp_tree.proofs.OfWalks.WalkLaws.{directory_deep, one_deeper}
 use Rattle.cfdp_tree.proofs.OfWalks.DeepestLaws.{deepest_is}
-use Rattle.cfdp_tree.proofs.OfWalks.NodesBelowLaws.{nodes_from}
+use Rattle.cfdp_tree.proofs.OfWalks.NodesBelowLaws.{nodes_from, some_node}
 use Rattle.cfdp_tree.proofs.tree_store.TreeStoreFilestore.deepest.Goals as goal
 
 there : (found : Option ℕ) (P : Type 0) (A : Type 0) (o : Option A) → IfNone found P → (P → o ≡ None) → IsSome o → IsSome found
@@ -37,12 +37,6 @@ deepest_in-below-requires-clause-deep c =
     subst (λ (o : Order). AreAtDepth nodes (c.depth-depth.result + 1) (trees.nodes orders.links.items o)) (sym c.of-entries.ensures)
     (directory_deep nodes c.self.invariant.store.kept.tree orders c.self.invariant.ordered (Some b) c.depth-depth.result (ap length way
     ∙ sym c.depth-depth.ensures.depth))
-
-some_node : (P : ℕ → Type 0) (b : ℕ) → P b → (d : ℕ) → Some b ≡ Some d → P d
-some_node P b has d e = subst P (same e) has
-  where
-    same : Some b ≡ Some d → b ≡ d
-    same e = cc
 
 pub returns-clause-value : goal.returns-clause-value
 returns-clause-value c =

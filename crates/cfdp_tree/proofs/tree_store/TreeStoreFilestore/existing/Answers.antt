@@ -15,16 +15,10 @@ use Rattle.cfdp_tree.specs.code.Walk.{walk_from}
 use Rattle.cfdp_tree.specs.code.NodesBelow.{AreNodesBelow, shown_node, IsSoundNode}
 use Rattle.cfdp_tree.proofs.OfNodes.AloneLaws.{alone_tree}
 use Rattle.cfdp_tree.proofs.OfStore.SeenLaws.{shows}
-use Rattle.cfdp_tree.proofs.OfWalks.NodesBelowLaws.{nodes_from, nodes_rising}
+use Rattle.cfdp_tree.proofs.OfWalks.NodesBelowLaws.{nodes_from, nodes_rising, some_node}
 use Rattle.cfdp_tree.proofs.OfWalks.InOrderLaws.{found_tree, tree_of_nodes}
 use Rattle.cfdp_tree.proofs.OfStore.SoundLaws.{items_are, under_nodes, node_sound, found_sound, none_under}
 use Rattle.cfdp_tree.proofs.tree_store.TreeStoreFilestore.existing.Goals as goal
-
-some_node : (P : ℕ → Type 0) (b : ℕ) → P b → (d : ℕ) → Some b ≡ Some d → P d
-some_node P b has d e = subst P (same e) has
-  where
-    same : Some b ≡ Some d → b ≡ d
-    same e = cc
 
 pub existing_nodes-requires : goal.existing_nodes-requires
 existing_nodes-requires c =

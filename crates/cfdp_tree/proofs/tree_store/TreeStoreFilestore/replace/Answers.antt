@@ -1,19 +1,20 @@
-use Rattle.std.proofs.Common.{◌≡◌, ◌+◌, ◌*◌, ℕ, [], ◌∷◌, Some, length, sym, ap, ◌∙◌, subst, arith}
+use Rattle.std.proofs.Common.{◌+◌, ◌*◌, [], ◌∷◌, Some, length, sym, ap, ◌∙◌, subst, arith}
 use Rattle.std.proofs.lemmas.Bool.{eqb-true, eqb-false}
 use Rattle.std.specs.Prelude.{if◌then◌else◌}
 use Rattle.cfdp_arena.specs.Arena.{octets_of}
 use Rattle.cfdp_actions.specs.Filestore.{File, Becomes, file_octets_at, blocks_of}
 use Rattle.cfdp_actions.specs.Store.{with_changes}
+use Rattle.cfdp_actions.proofs.RowLaws.{blocks_of-small}
 use Rattle.std.proofs.lemmas.List.{with_items_is}
 use Rattle.cfdp_tree.specs.code.Nodes.{nodes_in}
 use Rattle.cfdp_tree.specs.code.Ways.{HasWays, KeepsWays}
 use Rattle.cfdp_tree.specs.code.Slots.{IsStore}
-use Rattle.cfdp_tree.proofs.OfRuns.Filling.{blocks_of-most}
 use Rattle.cfdp_tree.proofs.OfStore.SeenLaws.{file_small}
 use Rattle.cfdp_tree.proofs.OfStore.FoundLaws.{file_found, file_most, found_filled, found_ways, found_octets, found_blocks, found_one, found_two, found_apart, replace_most, replace_room, found_store, found_changes}
 use Rattle.cfdp_tree.proofs.OfStore.FileLaws.{kind_there}
 use Rattle.cfdp_tree.proofs.OfOrders.OrderedLaws.{ordered_written}
 use Rattle.cfdp_tree.proofs.tree_store.TreeStoreFilestore.replace.Goals as goal
+use Rattle.cfdp_tree.proofs.OfRuns.Filling.{taken_as}
 
 pub find_file-file-requires-clause-there : goal.find_file-file-requires-clause-there
 find_file-file-requires-clause-there c = file_found _ _ _ c.self.invariant.store _ c.self.view_is c.args.first.now c.requires.first
@@ -88,7 +89,7 @@ overflow_mul-result c =
     let count = found_blocks _ _ _ c.self.invariant.store _ c.self.view_is c.args.second.now c.requires.second c.find_file-source.result source.node source.path
     source.contents in
     let m = length (file_octets_at c.args.self.now.filestore c.args.second.now) in
-    omega (arith, count, blocks_of-most m (file_small _ _ _ c.self.invariant.store _ c.self.view_is c.args.second.now))
+    omega (arith, count, blocks_of-small m (file_small _ _ _ c.self.invariant.store _ c.self.view_is c.args.second.now))
 
 pub overflow_add-result : goal.overflow_add-result
 overflow_add-result c =
@@ -101,13 +102,9 @@ overflow_add-result c =
       arith,
       first,
       second,
-      blocks_of-most (length (file_octets_at F c.args.first.now)) (file_small _ _ _ c.self.invariant.store _ c.self.view_is c.args.first.now),
-      blocks_of-most (length (file_octets_at F c.args.second.now)) (file_small _ _ _ c.self.invariant.store _ c.self.view_is c.args.second.now),
+      blocks_of-small (length (file_octets_at F c.args.first.now)) (file_small _ _ _ c.self.invariant.store _ c.self.view_is c.args.first.now),
+      blocks_of-small (length (file_octets_at F c.args.second.now)) (file_small _ _ _ c.self.invariant.store _ c.self.view_is c.args.second.now),
     )
-
--- the blocks that are taken
-taken : (free size was now more : ℕ) → free + blocks_of more ≡ was + blocks_of size → now ≡ more → free + blocks_of now ≡ was + blocks_of size
-taken free size was now more e same = ap (λ n. free + blocks_of n) same ∙ e
 
 pub invariant_of-self : goal.invariant_of-self
 invariant_of-self c =
@@ -117,15 +114,16 @@ invariant_of-self c =
       store = subst (λ ws. IsStore c.set_contents.new.arena ws c.self.inside.heads.items c.self.inside.slots.items) (sym ways)
           (found_store _ _ _ c.self.invariant.store _ c.self.view_is c.args.first.now c.requires.first c.find_file-file.result file.node file.path file.contents
           c.replace.new.arena c.set_contents.new.arena c.replace.new.self (octets_of (nodes_in c.set_contents.new.arena) c.find_file-file.result.node)
-          after.nodes after.capacity after.spares after.filled (taken _ _ _ _ _ after.taken after.size) set.nodes set.fields set.name set.whole set.runs
+          after.only.nodes after.only.capacity after.only.spares after.only.filled
+          (taken_as _ _ _ _ _ after.taken after.size) set.nodes set.fields set.name set.whole set.runs
           set.free
           set.capacity _ after.octets
-          c.replace.new.ways after.ways
+          c.replace.new.ways after.only.ways
           (subst (λ ws. KeepsWays c.self.inside.arena c.replace.new.arena ws c.replace.new.ways c.find_file-file.result.contents.run) c.deref_mut.ensures.value
-          after.other_ways));
+          after.only.other_ways));
       ordered = ordered_written (nodes_in c.self.inside.arena) c.self.invariant.store.kept.tree c.find_file-file.result.node file.node
           (kind_there _ _ _ c.self.invariant.store _ c.self.view_is c.find_file-file.result.node c.args.first.now file.node file.path c.requires.first) _ _
-          (octets_of _ c.find_file-file.result.node) c.replace.new.self after.nodes set.nodes set.fields set.name set.whole c.self.inside.orders
+          (octets_of _ c.find_file-file.result.node) c.replace.new.self after.only.nodes set.nodes set.fields set.name set.whole c.self.inside.orders
           c.self.invariant.ordered;
     }
 
@@ -156,7 +154,8 @@ returns-clause-replaced c =
     (eqb-false c.find_file-file.result.node c.find_file-source.result.node (sym c.eq.ensures ∙ c.if-eq.false)) in
     found_changes _ _ _ c.self.invariant.store _ c.self.view_is c.args.first.now c.requires.first c.find_file-file.result file.node file.path file.contents
     c.replace.new.arena c.set_contents.new.arena c.replace.new.self (octets_of (nodes_in c.set_contents.new.arena) c.find_file-file.result.node)
-    after.nodes after.capacity after.spares after.filled (taken _ _ _ _ _ after.taken after.size) set.nodes set.fields set.name set.whole set.runs set.free
+    after.only.nodes after.only.capacity after.only.spares after.only.filled
+    (taken_as _ _ _ _ _ after.taken after.size) set.nodes set.fields set.name set.whole set.runs set.free
     set.capacity
     (file_octets_at F c.args.second.now) (after.octets ∙ sym second)
     ∙ sym (ap (λ same. with_changes c.args.self.now (if same then [] else Becomes c.args.first.now (Some (File (file_octets_at F c.args.second.now))) ∷ []))

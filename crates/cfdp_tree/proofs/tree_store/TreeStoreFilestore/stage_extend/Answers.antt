@@ -1,10 +1,10 @@
 use Rattle.std.proofs.Common.{◌≡◌, None, ℕ, ◌+◌, get_or, set, sym, ap, ◌∙◌, subst, arith}
 use Rattle.cfdp_actions.specs.Filestore.{staged_in, blocks_of}
 use Rattle.cfdp_actions.specs.Store.{extended}
+use Rattle.cfdp_actions.proofs.RowLaws.{blocks_of-mono}
 use Rattle.std.proofs.lemmas.List.{with_items_is}
 use Rattle.cfdp_tree.specs.code.Ways.{HasWays, KeepsWays}
 use Rattle.cfdp_tree.specs.code.Slots.{IsStore}
-use Rattle.cfdp_tree.proofs.OfRuns.Filling.{blocks_of-le}
 use Rattle.cfdp_tree.proofs.OfStore.SeenLaws.{seen_staged, slot_filled, slot_ways, staged_size, room_there, size_fits}
 use Rattle.cfdp_tree.proofs.OfStore.SlotLaws.{slot_changes, slot_store}
 use Rattle.cfdp_tree.specs.code.Orders.{IsInOrders}
@@ -53,8 +53,8 @@ overflow_sub-result c =
     c.index_mut-slot.ensures.value in
     let filled = slot_filled _ _ _ c.self.invariant.store _ c.self.view_is c.args.slot c.requires.slot slot is in
     let size = staged_size _ _ _ c.self.invariant.store _ c.self.view_is c.args.slot c.requires.slot slot is in
-    let more = blocks_of-le slot.contents.size c.args.size (omega (arith, size, c.requires.longer)) in
-    omega (arith, filled.blocks, c.extend.ensures.filled.blocks, ap blocks_of c.extend.ensures.size, more)
+    let more = blocks_of-mono slot.contents.size c.args.size (omega (arith, size, c.requires.longer)) in
+    omega (arith, filled.blocks, c.extend.ensures.only.filled.blocks, ap blocks_of c.extend.ensures.size, more)
 
 -- the blocks that are taken
 taken : (free was size now more : ℕ) → free + blocks_of size ≡ was + blocks_of more → now ≡ size → free + blocks_of now ≡ was + blocks_of more
@@ -68,12 +68,13 @@ invariant_of-self c =
       store = subst (λ ws. IsStore c.extend.new.arena ws c.self.inside.heads.items (set c.self.inside.slots.items c.from.result c.extend.new.self)) (sym ways)
           (slot_store c.self.inside.arena c.extend.new.arena c.self.inside.heads.items c.self.inside.slots.items c.self.invariant.store c.from.result
           (omega (arith, c.from.ensures, c.requires.slot))
-          c.index_mut-slot.result.now c.index_mut-slot.ensures.value c.extend.new.self after.nodes after.capacity after.spares after.filled after.sound
+          c.index_mut-slot.result.now c.index_mut-slot.ensures.value c.extend.new.self
+          after.only.nodes after.only.capacity after.only.spares after.only.filled after.sound
           (taken _ _ _ _ _ after.taken after.size)
-          c.extend.new.ways after.ways
+          c.extend.new.ways after.only.ways
           (subst (λ ws. KeepsWays c.self.inside.arena c.extend.new.arena ws c.extend.new.ways c.index_mut-slot.result.now.contents.run)
-          c.deref_mut.ensures.value after.other_ways));
-      ordered = subst (λ ns. IsInOrders ns c.self.inside.orders None) (sym after.nodes) c.self.invariant.ordered;
+          c.deref_mut.ensures.value after.only.other_ways));
+      ordered = subst (λ ns. IsInOrders ns c.self.inside.orders None) (sym after.only.nodes) c.self.invariant.ordered;
     }
 
 pub returns-clause-ticks : goal.returns-clause-ticks
@@ -82,7 +83,7 @@ returns-clause-ticks c =
     c.index_mut-slot.ensures.value in
     let filled = slot_filled _ _ _ c.self.invariant.store _ c.self.view_is c.args.slot c.requires.slot slot is in
     let size = staged_size _ _ _ c.self.invariant.store _ c.self.view_is c.args.slot c.requires.slot slot is in
-    omega (arith, filled.blocks, c.extend.ensures.filled.blocks, ap blocks_of c.extend.ensures.size, ap blocks_of size)
+    omega (arith, filled.blocks, c.extend.ensures.only.filled.blocks, ap blocks_of c.extend.ensures.size, ap blocks_of size)
 
 pub returns-clause-extended : goal.returns-clause-extended
 returns-clause-extended c =
@@ -92,7 +93,7 @@ returns-clause-extended c =
     let was = seen_staged _ _ _ c.self.invariant.store _ c.self.view_is c.args.slot c.requires.slot slot is in
     slot_changes c.self.inside.arena c.extend.new.arena c.self.inside.heads.items c.self.inside.slots.items c.self.invariant.store c.from.result
     (omega (arith, c.from.ensures, c.requires.slot))
-    slot c.index_mut-slot.ensures.value c.extend.new.self after.nodes after.capacity after.spares after.filled after.sound
+    slot c.index_mut-slot.ensures.value c.extend.new.self after.only.nodes after.only.capacity after.only.spares after.only.filled after.sound
     (taken _ _ _ _ _ after.taken after.size)
     c.args.self.now c.self.view_is c.args.slot c.from.ensures (extended (staged_in c.args.self.now.filestore c.args.slot) c.args.size)
     (after.octets ∙ ap (λ octets. extended octets c.args.size) (sym was))
