@@ -3,7 +3,9 @@ use Rattle.std.proofs.Common.{◌≡◌, ◌≢◌, ℕ, ◌+◌, ◌<◌, true,
 use Rattle.std.specs.Prelude.{Option, Some, None, Ok, Err, if◌then◌else◌}
 use Rattle.std.proofs.lemmas.Bool.{lt-ltb}
 use Rattle.std.proofs.lemmas.List.{append-nil, take-append-drop, drop_more, take_more}
+use Rattle.std.proofs.lemmas.List.Elements.{All-append}
 use Rattle.cfdp_lines.specs.Answers.{AnswersLine, Adds}
+use Rattle.cfdp_lines.specs.Cutting.{IsTooLong}
 use Rattle.cfdp_lines.specs.Lines.{is_newline, line_limit, is_overlong, is_comment, lines_of, IsOneLine}
 use Rattle.cfdp_lines.specs.Report.{and_then_report, empty_report, line_answer, stopped_at}
 use Rattle.cfdp_lines.specs.Session.{line_reading, lines_by, report_at, StopsBad}
@@ -107,21 +109,25 @@ module _ (files : List ℕ → Option (List ℕ)) where
   too_long : (s : ScriptStage) (line : List ℕ) → line_limit < length line → line_step files s line ≡ Err (IsWrong TooLong)
   too_long s line long = let over : is_overlong line ≡ true = lt-ltb line_limit (length line) long in rw over refl
 
-  -- too many octets, and what comes after them
-  pub long_for : (n : ℕ) (s : ScriptStage) (line part more : List ℕ) (why : StopValue) → IsOneLine (line ++ part) →
-      (stop_of why ≢ NoMemory → line_limit < length line + length part) → (stop_of why ≢ NoMemory → stop_of why ≡ IsWrong TooLong) →
-      StopsFor files (line_reading n s line) (part ++ more) why
-  long_for n s line part more why one long is = record {
+  -- too many octets before a newline
+  pub long_for : (n : ℕ) (s : ScriptStage) (line octets : List ℕ) (why : StopValue) → (stop_of why ≢ NoMemory → IsTooLong line octets) →
+      (stop_of why ≢ NoMemory → stop_of why ≡ IsWrong TooLong) → StopsFor files (line_reading n s line) octets why
+  long_for n s line octets why long is = record {
     stops = λ ends rest known.
+        let over = long known in
+        let part = take over.count octets in
+        let more = drop over.count octets in
         let front = line ++ part in
-        let over : line_limit < length front = omega (arith, length-append line part, long known) in
-        let all : line ++ ((part ++ more) ++ rest) ≡ front ++ (more ++ rest) =
-        ap (λ (o : List ℕ). line ++ o) (append_assoc part more rest) ∙ sym (append_assoc line part (more ++ rest)) in
-        let first = lines_by-begun ends front (more ++ rest) one over in
-        let longer : line_limit < length (front ++ first.more) = omega (arith, length-append front first.more, over) in
+        let one : IsOneLine front = All-append (λ (x : ℕ). is_newline x ≡ false) line part over.goes_on.one_line over.one_line in
+        let longer : line_limit < length front = omega (arith, length-append line part, over.long) in
+        let all : line ++ (octets ++ rest) ≡ front ++ (more ++ rest) =
+        ap (λ (o : List ℕ). line ++ (o ++ rest)) (sym (take-append-drop over.count octets))
+        ∙ ap (λ (o : List ℕ). line ++ o) (append_assoc part more rest) ∙ sym (append_assoc line part (more ++ rest)) in
+        let first = lines_by-begun ends front (more ++ rest) one longer in
+        let longest : line_limit < length (front ++ first.more) = omega (arith, length-append front first.more, longer) in
         ap (λ (o : List ℕ). why_from files s (lines_by ends o)) all
         ∙ ap (why_from files s) first.are
-        ∙ why_first s (front ++ first.more) first.others (IsWrong TooLong) (too_long s (front ++ first.more) longer)
+        ∙ why_first s (front ++ first.more) first.others (IsWrong TooLong) (too_long s (front ++ first.more) longest)
         ∙ ap Some (sym (is known));
   }
 

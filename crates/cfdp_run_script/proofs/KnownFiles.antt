@@ -1,13 +1,12 @@
 -- A script of which octets come, where the files are known.
-use Rattle.std.proofs.Common.{◌≡◌, ◌≢◌, ℕ, ◌+◌, ◌<◌, true, List, [], ◌++◌, length, take, drop, get_or, subst}
-use Rattle.std.proofs.lemmas.List.{append-nil, take-append-drop}
+use Rattle.std.proofs.Common.{◌≡◌, ◌≢◌, ℕ, ◌+◌, ◌<◌, true, List, [], ◌++◌, length, take, subst, ◌∙◌}
 use Rattle.std.specs.Prelude.{Some, None, IfSome}
 use Rattle.cfdp_lines.specs.Answers.{Adds}
-use Rattle.cfdp_lines.specs.Lines.{is_newline, line_limit, IsOneLine}
+use Rattle.cfdp_lines.specs.Cutting.{EndsLine, IsTooLong}
+use Rattle.cfdp_lines.specs.Lines.{IsOneLine}
 use Rattle.cfdp_lines.specs.Report.{stopped_at}
 use Rattle.cfdp_lines.specs.Session.{line_reading, report_at, StopsBad}
 use Rattle.cfdp_lines.proofs.Feeding.{Adds-gather, Stops-overlong}
-use Rattle.cfdp_lines.proofs.Moving.{StopsBad-overlong}
 use Rattle.cfdp_run.specs.Scripts.{ScriptStage, answer, line_step}
 use Rattle.cfdp_run.specs.Stops.{IsWrong, NoMemory, stop_of}
 use Rattle.cfdp_run.specs.declared.stop.ScriptStop.{ScriptStop as StopValue}
@@ -19,38 +18,40 @@ use Rattle.cfdp_run_script.proofs.Steps.{Known}
 
 -- ---- a line ends
 
-pub adds : (known : Known) (n : ℕ) (s after : ScriptStage) (line octets given before text : List ℕ) (at : ℕ) → IsOneLine (line ++ take at octets) →
-    at < length octets →
-    is_newline (get_or octets at 0) ≡ true → given ≡ line ++ take at octets → IfSome known (λ map. Leads (line_step map s given) after before text) →
+whole_line : (line octets ended : List ℕ) (at : ℕ) → EndsLine line octets at ended → IsOneLine (line ++ take at octets)
+whole_line line octets ended at ends = subst IsOneLine ends.whole ends.one_line
+
+pub adds : (known : Known) (n : ℕ) (s after : ScriptStage) (line octets ended given before text : List ℕ) (at : ℕ) → EndsLine line octets at ended →
+    given ≡ ended → IfSome known (λ map. Leads (line_step map s given) after before text) →
     IfSome known (λ map. Adds (answer map) (line_reading n s line) (line_reading (n + 1) after []) (take (at + 1) octets) before text)
-adds None n s after line octets given before text at one within newline same d = tt
-adds (Some map) n s after line octets given before text at one within newline same d =
-    carrying.adds map n s after line octets before text at one within newline (subst (λ (l : List ℕ). Leads (line_step map s l) after before text) same d)
+adds None n s after line octets ended given before text at ends same d = tt
+adds (Some map) n s after line octets ended given before text at ends same d =
+    carrying.adds map n s after line octets before text at (whole_line line octets ended at ends) ends.within ends.newline
+    (subst (λ (l : List ℕ). Leads (line_step map s l) after before text) (same ∙ ends.whole) d)
 
-pub goes_on : (known : Known) (n : ℕ) (s after : ScriptStage) (line octets given before text : List ℕ) (at : ℕ) → IsOneLine (line ++ take at octets) →
-    at < length octets →
-    is_newline (get_or octets at 0) ≡ true → given ≡ line ++ take at octets → IfSome known (λ map. Leads (line_step map s given) after before text) →
+pub goes_on : (known : Known) (n : ℕ) (s after : ScriptStage) (line octets ended given before text : List ℕ) (at : ℕ) → EndsLine line octets at ended →
+    given ≡ ended → IfSome known (λ map. Leads (line_step map s given) after before text) →
     IfSome known (λ map. ScriptGoesOn map (line_reading n s line) (line_reading (n + 1) after []) (take (at + 1) octets))
-goes_on None n s after line octets given before text at one within newline same d = tt
-goes_on (Some map) n s after line octets given before text at one within newline same d =
-    carrying.goes_on map n s after line octets before text at one within newline (subst (λ (l : List ℕ). Leads (line_step map s l) after before text) same d)
+goes_on None n s after line octets ended given before text at ends same d = tt
+goes_on (Some map) n s after line octets ended given before text at ends same d =
+    carrying.goes_on map n s after line octets before text at (whole_line line octets ended at ends) ends.within ends.newline
+    (subst (λ (l : List ℕ). Leads (line_step map s l) after before text) (same ∙ ends.whole) d)
 
-pub stops : (known : Known) (n : ℕ) (s : ScriptStage) (line octets given : List ℕ) (at : ℕ) (why : StopValue) → IsOneLine (line ++ take at octets) →
-    at < length octets →
-    is_newline (get_or octets at 0) ≡ true → given ≡ line ++ take at octets → IfSome known (λ map. StopsScript (line_step map s given) why) →
-    stop_of why ≢ NoMemory →
+pub stops : (known : Known) (n : ℕ) (s : ScriptStage) (line octets ended given : List ℕ) (at : ℕ) (why : StopValue) → EndsLine line octets at ended →
+    given ≡ ended → IfSome known (λ map. StopsScript (line_step map s given) why) → stop_of why ≢ NoMemory →
     IfSome known (λ map. StopsBad (answer map) (line_reading n s line) octets [] n)
-stops None n s line octets given at why one within newline same d not_memory = tt
-stops (Some map) n s line octets given at why one within newline same d not_memory =
-    carrying.stops_at map n s line octets at why one within newline (subst (λ (l : List ℕ). StopsScript (line_step map s l) why) same d) not_memory
+stops None n s line octets ended given at why ends same d not_memory = tt
+stops (Some map) n s line octets ended given at why ends same d not_memory =
+    carrying.stops_at map n s line octets at why (whole_line line octets ended at ends) ends.within ends.newline
+    (subst (λ (l : List ℕ). StopsScript (line_step map s l) why) (same ∙ ends.whole) d) not_memory
 
-pub stops_for : (known : Known) (n : ℕ) (s : ScriptStage) (line octets given : List ℕ) (at : ℕ) (why : StopValue) → IsOneLine (line ++ take at octets) →
-    at < length octets →
-    is_newline (get_or octets at 0) ≡ true → given ≡ line ++ take at octets → IfSome known (λ map. StopsScript (line_step map s given) why) →
+pub stops_for : (known : Known) (n : ℕ) (s : ScriptStage) (line octets ended given : List ℕ) (at : ℕ) (why : StopValue) → EndsLine line octets at ended →
+    given ≡ ended → IfSome known (λ map. StopsScript (line_step map s given) why) →
     IfSome known (λ map. StopsFor map (line_reading n s line) octets why)
-stops_for None n s line octets given at why one within newline same d = tt
-stops_for (Some map) n s line octets given at why one within newline same d =
-    carrying.stops_for map n s line octets at why one within newline (subst (λ (l : List ℕ). StopsScript (line_step map s l) why) same d)
+stops_for None n s line octets ended given at why ends same d = tt
+stops_for (Some map) n s line octets ended given at why ends same d =
+    carrying.stops_for map n s line octets at why (whole_line line octets ended at ends) ends.within ends.newline
+    (subst (λ (l : List ℕ). StopsScript (line_step map s l) why) (same ∙ ends.whole) d)
 
 -- ---- octets of a line that does not end
 
@@ -64,32 +65,17 @@ pub goes_nowhere : (known : Known) (n : ℕ) (s : ScriptStage) (line octets : Li
 goes_nowhere None n s line octets = tt
 goes_nowhere (Some map) n s line octets = carrying.goes_nowhere map n s line octets
 
-pub long : (known : Known) (n : ℕ) (s : ScriptStage) (line octets : List ℕ) → IsOneLine line → IsOneLine octets → line_limit < length line + length octets →
+-- too many octets before a newline
+
+pub long : (known : Known) (n : ℕ) (s : ScriptStage) (line octets : List ℕ) → IsTooLong line octets →
     IfSome known (λ map. StopsBad (answer map) (line_reading n s line) octets [] n)
-long None n s line octets one two over = tt
-long (Some map) n s line octets one two over = StopsBad-overlong ScriptStage (answer map) n s line octets one two over
+long None n s line octets over = tt
+long (Some map) n s line octets over = Stops-overlong ScriptStage (answer map) n s line octets over.count over.goes_on.one_line over.one_line over.long
 
-pub long_for : (known : Known) (n : ℕ) (s : ScriptStage) (line octets : List ℕ) (why : StopValue) → IsOneLine (line ++ octets) →
-    (stop_of why ≢ NoMemory → line_limit < length line + length octets) → (stop_of why ≢ NoMemory → stop_of why ≡ IsWrong TooLong) →
-    IfSome known (λ map. StopsFor map (line_reading n s line) octets why)
-long_for None n s line octets why one over is = tt
-long_for (Some map) n s line octets why one over is =
-    subst (λ (o : List ℕ). StopsFor map (line_reading n s line) o why) (append-nil octets) (carrying.long_for map n s line octets [] why one over is)
-
--- the same of octets before a newline
-
-pub long_before : (known : Known) (n : ℕ) (s : ScriptStage) (line octets : List ℕ) (at : ℕ) → IsOneLine line → IsOneLine (take at octets) →
-    line_limit < length line + length (take at octets) → IfSome known (λ map. StopsBad (answer map) (line_reading n s line) octets [] n)
-long_before None n s line octets at one two over = tt
-long_before (Some map) n s line octets at one two over = Stops-overlong ScriptStage (answer map) n s line octets at one two over
-
-pub long_for_before : (known : Known) (n : ℕ) (s : ScriptStage) (line octets : List ℕ) (at : ℕ) (why : StopValue) → IsOneLine (line ++ take at octets) →
-    (stop_of why ≢ NoMemory → line_limit < length line + length (take at octets)) → (stop_of why ≢ NoMemory → stop_of why ≡ IsWrong TooLong) →
-    IfSome known (λ map. StopsFor map (line_reading n s line) octets why)
-long_for_before None n s line octets at why one over is = tt
-long_for_before (Some map) n s line octets at why one over is =
-    subst (λ (o : List ℕ). StopsFor map (line_reading n s line) o why) (take-append-drop at octets)
-    (carrying.long_for map n s line (take at octets) (drop at octets) why one over is)
+pub long_for : (known : Known) (n : ℕ) (s : ScriptStage) (line octets : List ℕ) (why : StopValue) → (stop_of why ≢ NoMemory → IsTooLong line octets) →
+    (stop_of why ≢ NoMemory → stop_of why ≡ IsWrong TooLong) → IfSome known (λ map. StopsFor map (line_reading n s line) octets why)
+long_for None n s line octets why over is = tt
+long_for (Some map) n s line octets why over is = carrying.long_for map n s line octets why over is
 
 -- ---- the script ends
 

@@ -18,7 +18,7 @@ use Rattle.cfdp_run_script.specs.Steps.{script_of}
 use Rattle.cfdp_run_script.specs.declared.session.ScriptSession.{ScriptSession as SessionValue}
 
 abbrev pub script_reading : SessionValue → LineReading ScriptStage
-script_reading session = line_reading session.number (script_of session.script) session.line.items
+script_reading session = line_reading session.number (script_of session.script) session.line
 
 abbrev pub why_at : (List ℕ → Option (List ℕ)) → Bool → LineReading ScriptStage → List ℕ → Option ScriptEnd
 why_at files ends from octets = why_from files from.state (lines_by ends (from.line ++ octets))

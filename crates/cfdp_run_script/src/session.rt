@@ -2,18 +2,18 @@
 
 ghost use Rattle.std.specs.Prelude.{◌≡◌, ◌≢◌, ℕ, ◌+◌, ◌<◌, ◌≤◌, ◌^◌, true, List, [], ◌++◌, Option, None, Some, Ok, Err, length, take, IfErr, IfOk, IfSome, OnErr, OnOk};
 ghost use Rattle.cfdp_lines.specs.Answers.{Adds};
-ghost use Rattle.cfdp_lines.specs.Lines.{IsOneLine, line_limit};
+ghost use Rattle.cfdp_lines.specs.Cutting.{IsOpenLine};
 ghost use Rattle.cfdp_lines.specs.Report.{stopped_at};
 ghost use Rattle.cfdp_lines.specs.Session.{StopsBad, report_at};
+ghost use Rattle.cfdp_lines.specs.declared.faults.LineFault.TheVariants.{Bad};
 ghost use Rattle.cfdp_run.specs.Scripts.{answer, script_at_first, line_step};
 ghost use Rattle.cfdp_run.specs.Stops.{IsWrong, NoMemory, stop_of};
 ghost use Rattle.cfdp_run.specs.declared.wrong.Wrong.TheVariants.{TooLong};
 
 use crate::files::Files;
 use crate::script::RunScript;
-use cfdp_lines::{LINE_LIMIT, NEWLINE};
+use cfdp_lines::{LineFault, OpenLine};
 use cfdp_run::{ScriptStop, Wrong};
-use memchr::memchr;
 use std::alloc::{AllocError, Global};
 
 /// A script of which octets come. Contracts see it as the number of the line that is being read, how far the script is,
@@ -21,11 +21,22 @@ use std::alloc::{AllocError, Global};
 #[derive(Drop)]
 pub struct ScriptSession {
     script: RunScript,
-    line: Vec<u8>,
+    line: OpenLine,
     /// The number of the line, counted from 1.
     number: u64,
-    ghost one_line: { IsOneLine line.items },
-    ghost within: { length line.items ≤ line_limit },
+    ghost whole: { IsOpenLine line },
+}
+
+/// Why a script stops where octets of its line cannot be taken.
+fn stop_at(fault: LineFault) -> ScriptStop
+    ensures bad { fault ≡ Bad → stop_of result ≡ IsWrong TooLong }
+    ensures memory { fault ≡ LineFault.Memory → stop_of result ≡ NoMemory }
+    ensures only { stop_of result ≢ NoMemory → fault ≡ Bad }
+{
+    match fault {
+        LineFault::Bad => ScriptStop::Wrong(Wrong::TooLong),
+        LineFault::Memory => ScriptStop::Memory,
+    }
 }
 
 impl ScriptSession {
@@ -44,7 +55,7 @@ impl ScriptSession {
     {
         Ok(ScriptSession {
             script: RunScript::new(alloc)?,
-            line: Vec::new(alloc),
+            line: OpenLine::new(alloc),
             number: 1,
         })
     }
@@ -62,72 +73,6 @@ impl ScriptSession {
         ensures { result ≡ (script_reading self.now).number }
     {
         self.number
-    }
-
-    /// Takes some octets of the line that is being read.
-    fn gather(&mut self, part: &[u8]) -> Result<(), ScriptStop>
-        requires { IsOneLine part.now }
-        ensures script { self.new.script ≡ self.old.script }
-        ensures number { self.new.number ≡ self.old.number }
-        ensures ok { OnOk result (self.new.line.items ≡ self.old.line.items ++ part.now) }
-        ensures long { IfErr result (λ why. stop_of why ≢ NoMemory → line_limit < length self.old.line.items
-            + length part.now) }
-        ensures err { IfErr result (λ why. stop_of why ≢ NoMemory → stop_of why ≡ IsWrong TooLong) }
-    {
-        if part.len() > LINE_LIMIT - self.line.len() {
-            return Err(ScriptStop::Wrong(Wrong::TooLong));
-        }
-        Ok(self.line.extend_from_slice(part)?)
-    }
-
-    /// Carries out a line that is whole in the octets that came. It is not copied.
-    fn run_whole<F: Files>(
-        &mut self,
-        alloc: Global,
-        files: &mut F,
-        line: &[u8],
-        text: &mut Vec<u8>,
-    ) -> Result<(), ScriptStop>
-        requires { self.old.number + 1 < 2 ^ 64 }
-        ensures ok { OnOk result (IfSome (F.known files.old) (λ map.
-            Leads (line_step map (script_of self.old.script) line.now)
-            (script_of self.new.script) text.old.items text.new.items)) }
-        ensures err { IfErr result (λ why. IfSome (F.known files.old)
-            (λ map. StopsScript (line_step map (script_of self.old.script) line.now) why)) }
-        ensures kept { OnErr result (text.new.items ≡ text.old.items) }
-        ensures same { F.known files.new ≡ F.known files.old }
-        ensures line { self.new.line ≡ self.old.line }
-        ensures number { OnOk result (self.new.number ≡ self.old.number + 1) }
-        ensures stays { OnErr result (self.new.number ≡ self.old.number) }
-    {
-        self.script.line(alloc, files, line, text)?;
-        self.number += 1;
-        Ok(())
-    }
-
-    /// The line that was read ends here, and is carried out.
-    fn end_line<F: Files>(
-        &mut self,
-        alloc: Global,
-        files: &mut F,
-        text: &mut Vec<u8>,
-    ) -> Result<(), ScriptStop>
-        requires { self.old.number + 1 < 2 ^ 64 }
-        ensures ok { OnOk result (IfSome (F.known files.old) (λ map.
-            Leads (line_step map (script_of self.old.script) self.old.line.items)
-            (script_of self.new.script) text.old.items text.new.items)) }
-        ensures err { IfErr result (λ why. IfSome (F.known files.old) (λ map.
-            StopsScript (line_step map (script_of self.old.script) self.old.line.items) why)) }
-        ensures kept { OnErr result (text.new.items ≡ text.old.items) }
-        ensures same { F.known files.new ≡ F.known files.old }
-        ensures line { OnOk result (self.new.line.items ≡ []) }
-        ensures number { OnOk result (self.new.number ≡ self.old.number + 1) }
-        ensures stays { OnErr result (self.new.number ≡ self.old.number) }
-    {
-        self.script.line(alloc, files, &self.line, text)?;
-        self.line.clear();
-        self.number += 1;
-        Ok(())
     }
 
     /// Takes the next octets of the script up to the next newline, or all where there is none, and returns how many. A
@@ -164,18 +109,16 @@ impl ScriptSession {
         ensures stays { OnErr result ((script_reading self.new).number ≡ (script_reading self.old).number) }
         ensures same { F.known files.new ≡ F.known files.old }
     {
-        let Some(at) = memchr(NEWLINE, octets) else {
-            self.gather(octets)?;
-            return Ok(octets.len());
+        let end = match self.line.take(octets) {
+            Ok(Some(end)) => end,
+            Ok(None) => return Ok(octets.len()),
+            Err(fault) => return Err(stop_at(fault)),
         };
-        let line = &octets[..at];
-        if self.line.is_empty() {
-            self.run_whole(alloc, files, line, text)?;
-            return Ok(at + 1);
-        }
-        self.gather(line)?;
-        self.end_line(alloc, files, text)?;
-        Ok(at + 1)
+        let line = self.line.ended(octets, end);
+        self.script.line(alloc, files, line, text)?;
+        self.line.clear();
+        self.number += 1;
+        Ok(end + 1)
     }
 
     /// The script ends here. A last line without a newline is a line, too.
@@ -201,9 +144,10 @@ impl ScriptSession {
         ensures stays { (script_reading self.new).number ≡ (script_reading self.old).number }
         ensures same { F.known files.new ≡ F.known files.old }
     {
-        if self.line.is_empty() {
+        let line = self.line.octets();
+        if line.is_empty() {
             return Ok(());
         }
-        self.script.line(alloc, files, &self.line, text)
+        self.script.line(alloc, files, line, text)
     }
 }
