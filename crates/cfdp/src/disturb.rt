@@ -5,7 +5,7 @@ use crate::input::unread;
 use crate::pieces::PIECE;
 use crate::show::print;
 use cfdp_disturb::{Copies, Draw, Link, is_pdu_line};
-use cfdp_lines::{INPUT_LIMIT, LINE_LIMIT};
+use cfdp_lines::{INPUT_LIMIT, LINE_LIMIT, LineFault, OpenLine};
 use rand_core::utils::NextWord;
 use rand_pcg::Pcg32;
 use std::alloc::Global;
@@ -63,31 +63,23 @@ fn draw(random: &mut Pcg32, odds: Odds, line: &[u8]) -> Draw {
     }
 }
 
-/// A script that is read.
+/// A link with what is drawn for its lines.
 #[derive(Drop)]
-struct DisturbScript<'a> {
-    /// Its name in messages.
-    name: &'a str,
+struct DrawnLink {
     odds: Odds,
     random: Pcg32,
     link: Link,
-    /// The octets so far of the line that is being read, and its number, counted from 1.
-    line: Vec<u8>,
-    number: u64,
     /// What is not written yet.
     text: Vec<u8>,
 }
 
-impl<'a> DisturbScript<'a> {
+impl DrawnLink {
     /// Before the first line.
-    fn new(alloc: Global, name: &'a str, odds: Odds, seed: u64) -> DisturbScript<'a> {
-        DisturbScript {
-            name,
+    fn new(alloc: Global, odds: Odds, seed: u64) -> DrawnLink {
+        DrawnLink {
             odds,
             random: Pcg32::new(seed, STREAM),
             link: Link::new(),
-            line: Vec::new(alloc),
-            number: 1,
             text: Vec::new(alloc),
         }
     }
@@ -99,40 +91,80 @@ impl<'a> DisturbScript<'a> {
         Ok(())
     }
 
-    /// The line that was read ends here.
-    fn end_line<R: AllocGlobal + Print>(&mut self, rt: &R) -> Result<(), End> {
-        let draw = draw(&mut self.random, self.odds, &self.line);
-        self.link
-            .take(rt.alloc(), &self.line, draw, &mut self.text)?;
-        self.line.clear();
-        self.number = self.number.saturating_add(1);
+    /// Takes the next line, and writes what is held back if there is enough of it.
+    fn take<R: AllocGlobal + Print>(&mut self, rt: &R, line: &[u8]) -> Result<(), End> {
+        let draw = draw(&mut self.random, self.odds, line);
+        self.link.take(rt.alloc(), line, draw, &mut self.text)?;
         if self.text.len() < PIECE {
             return Ok(());
         }
         self.flush(rt)
     }
 
+    /// The script ends here.
+    fn finish<R: Print>(&mut self, rt: &R) -> Result<(), End> {
+        self.link.finish(&mut self.text)?;
+        self.flush(rt)
+    }
+}
+
+/// A script that is read.
+#[derive(Drop)]
+struct DisturbScript<'a> {
+    /// Its name in messages.
+    name: &'a str,
+    /// The line that is being read, and its number, counted from 1.
+    line: OpenLine,
+    number: u64,
+    link: DrawnLink,
+}
+
+impl<'a> DisturbScript<'a> {
+    /// Before the first line.
+    fn new(alloc: Global, name: &'a str, odds: Odds, seed: u64) -> DisturbScript<'a> {
+        DisturbScript {
+            name,
+            line: OpenLine::new(alloc),
+            number: 1,
+            link: DrawnLink::new(alloc, odds, seed),
+        }
+    }
+
+    /// How the program ends at the line that is being read.
+    fn end_of(&self, alloc: Global, fault: LineFault) -> End {
+        match fault {
+            LineFault::Bad => too_long(alloc, self.name, self.number),
+            LineFault::Memory => End::Memory,
+        }
+    }
+
     /// Takes the next octets.
     fn take<R: AllocGlobal + Print>(&mut self, rt: &R, octets: &[u8]) -> Result<(), End> {
-        for (index, part) in octets.split(|octet| *octet == b'\n').enumerate() {
-            if index > 0 {
-                self.end_line(rt)?;
+        let mut rest = octets;
+        'lines: loop {
+            let end = match self.line.take(rest) {
+                Ok(Some(end)) => end,
+                Ok(None) => return Ok(()),
+                Err(fault) => return Err(self.end_of(rt.alloc(), fault)),
+            };
+            let line = self.line.ended(rest, end);
+            if line.len() > LINE_LIMIT {
+                return Err(self.end_of(rt.alloc(), LineFault::Bad));
             }
-            if self.line.len().saturating_add(part.len()) > LINE_LIMIT {
-                return Err(too_long(rt.alloc(), self.name, self.number));
-            }
-            self.line.extend_from_slice(part)?;
+            self.link.take(rt, line)?;
+            self.line.clear();
+            self.number = self.number.saturating_add(1);
+            rest = &rest[end + 1..];
         }
-        Ok(())
     }
 
     /// The script ends here. A last line without a newline is a line, too.
     fn finish<R: AllocGlobal + Print>(&mut self, rt: &R) -> Result<(), End> {
-        if !self.line.is_empty() {
-            self.end_line(rt)?;
+        let line = self.line.octets();
+        if !line.is_empty() {
+            self.link.take(rt, line)?;
         }
-        self.link.finish(&mut self.text)?;
-        self.flush(rt)
+        self.link.finish(rt)
     }
 }
 
@@ -175,7 +207,7 @@ fn disturb<R: AllocGlobal + Print, I: Read + Drop>(
     match take_all(rt, input, &mut script) {
         Ok(()) => script.finish(rt),
         Err(end) => {
-            script.flush(rt)?;
+            script.link.flush(rt)?;
             Err(end)
         }
     }
