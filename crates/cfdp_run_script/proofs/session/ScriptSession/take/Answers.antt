@@ -1,6 +1,7 @@
-use Rattle.std.proofs.Common.{◌∙◌, Err, ap}
+use Rattle.std.proofs.Common.{◌≡◌, ◌∙◌, ◌++◌, Err, ap, length, take, arith, rules}
+use Rattle.std.proofs.lemmas.List.{take_all}
 use Rattle.std.proofs.lemmas.Result.{err_from_is_err_and}
-use Rattle.cfdp_run_script.proofs.KnownFiles.{adds, goes_on, long, long_for, stops, stops_for}
+use Rattle.cfdp_run_script.proofs.KnownFiles.{adds, gathers, goes_on, long, long_for, stops, stops_for}
 use Rattle.cfdp_run_script.proofs.session.ScriptSession.take.Goals as goal
 
 pub returns-in-Err-clause-stops : goal.returns-in-Err-clause-stops
@@ -38,3 +39,9 @@ returns-clause-goes_on g c =
     let ends = rw c.in-Ok-Some.field-0-is at c.in-Ok-Some.ensures.ends in
     rw c.clear.ensures.none
     (goes_on (g.F.Files.known c.args.files.now) _ _ _ _ _ _ _ _ _ c.in-Ok-Some.end ends c.ended-line.ensures c.in_ok-line.ensures.ok)
+
+pub returns-in-Ok-None-clause-ok : goal.returns-in-Ok-None-clause-ok
+returns-in-Ok-None-clause-ok g c =
+    let line : c.take.new.self ≡ c.args.self.now.line ++ c.args.octets.now = search rules in
+    let all : take (length c.args.octets.now) c.args.octets.now ≡ c.args.octets.now = take_all (length c.args.octets.now) c.args.octets.now (omega arith) in
+    rw (line, all) (gathers (g.F.Files.known c.args.files.now) _ _ _ _ _)
