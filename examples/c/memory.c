@@ -265,6 +265,51 @@ static bool run_nested(void) {
     return cfdp_free(&engine) == CFDP_ANSWER_DONE && in_use == 0 && blocks_in_use == 0 && right;
 }
 
+/* Directories, each with paths of up to eight names that the list does not name. It renames a file in the first one,
+ * and then all of them: so the view has its paths by their names, and a made-up path of eight names for each. */
+enum { HIDDEN = LIST - 1, LEVELS = 8 };
+
+/* The path of a directory, whose first letter is given, and of what is below it, with as many names more. */
+static struct cfdp_path hidden(char letter, unsigned directory, unsigned names) {
+    struct cfdp_path path = {0};
+    path.length = (uint32_t)sprintf((char *)path.octets, "%c%02u", letter, directory);
+    for (unsigned name = 0; name < names; name++)
+        path.length += (uint32_t)sprintf((char *)path.octets + path.length, "/%u", name);
+    return path;
+}
+
+static bool run_hidden(void) {
+    struct cfdp_reply reply = {0};
+    struct cfdp_path from = hidden('a', 0, 1), to = from;
+    bool right = make_engine(65536, 0);
+    from.octets[from.length - 1] = 'f';
+    to.octets[to.length - 1] = 'g';
+    for (unsigned directory = 0; directory < HIDDEN; directory++) {
+        for (unsigned names = 0; names < LEVELS; names++) {
+            struct cfdp_path path = hidden('a', directory, names);
+            right &= cfdp_put(&engine, &path, CFDP_ENTRY_DIRECTORY, pdu, 0) == CFDP_ANSWER_DONE;
+        }
+    }
+    right &= cfdp_put(&engine, &from, CFDP_ENTRY_FILE, pdu, 0) == CFDP_ANSWER_DONE;
+    size_t before = in_use, blocks_before = blocks_in_use;
+    size_t bound = 2000 + 4000 + 2 * 480 + 4 * (from.length + to.length);
+    begin_list();
+    bound += put_rename(&from, &to);
+    for (unsigned directory = 0; directory < HIDDEN; directory++) {
+        from = hidden('a', directory, 0);
+        to = hidden('b', directory, 0);
+        bound += put_rename(&from, &to) + 2 * 480 + 4 * (from.length + to.length);
+    }
+    end_list();
+    most = in_use;
+    right &= cfdp_receive(&engine, pdu, length, &reply) == CFDP_ANSWER_DONE && reply.kind == CFDP_REPLY_ADMITTED;
+    right &= most - before <= bound;
+    printf("64 renames of directories with hidden paths of eight names, in a PDU of %zu octets: it takes %zu octets"
+        " (at most %zu)\n", length, most - before, bound);
+    right &= end(&engine, 1) && in_use == before && blocks_in_use == blocks_before;
+    return cfdp_free(&engine) == CFDP_ANSWER_DONE && in_use == 0 && blocks_in_use == 0 && right;
+}
+
 /* A list that moves a directory to where another one was, renames files there, and moves it to a longer path. Both
  * directories have the same chains of directories, so that each path that the list names existed under another name
  * before it. No other list is known that takes as much until it is admitted. */
@@ -485,6 +530,7 @@ int main(void) {
     right &= measure_receiver(16, 72) && measure_receiver(65536, 65535);
     for (size_t i = 0; i < sizeof shapes / sizeof *shapes; i++) right &= run(&shapes[i]);
     right &= run_nested();
+    right &= run_hidden();
     right &= run_swap();
     right &= refuse();
     right &= run_moves();

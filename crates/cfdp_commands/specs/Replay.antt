@@ -48,7 +48,7 @@ abbrev pub config_without : Option ConfigFault → Config → Option ReplayStage
 config_without (Some fault) config = None
 config_without None config = Some (Preparing false config)
 
--- only the first line that is not passed over may be one
+-- only blank lines and comments may come before it
 abbrev pub configured : ReplayStage → (entity blocks cap checks journal : ℕ) → Option ReplayStage
 configured (Preparing true config) entity blocks cap checks journal =
     config_without (config_fault blocks cap checks journal)

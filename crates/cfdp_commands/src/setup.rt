@@ -111,7 +111,7 @@ fn config_of(
 /// What a line may still set up.
 #[derive(Clone, Copy)]
 pub(crate) enum SetupProgress {
-    /// The configuration and paths: no line came that is not passed over.
+    /// The configuration and paths: every line so far was blank or a comment.
     First,
     /// Paths.
     Open,
@@ -123,7 +123,7 @@ pub(crate) enum SetupProgress {
 #[derive(Drop)]
 pub struct Setup {
     progress: SetupProgress,
-    /// The configuration but for the paths that are protected.
+    /// The configuration, without the protected paths.
     config: Config,
     protected: Protected,
 }
@@ -145,7 +145,8 @@ impl Setup {
     ///
     /// # Errors
     ///
-    /// [`LineFault::Bad`] exactly if a line came before that is not passed over, or a number is outside its limits.
+    /// [`LineFault::Bad`] exactly if a line came before that was neither blank nor a comment, or a number is outside
+    /// its limits.
     pub fn configure(
         &mut self,
         entity: u64,

@@ -42,9 +42,9 @@ use std::marker::Model;
 /// The longest calls that are known on a full filestore of 65,536 blocks, in millions of instructions at most.
 /// `docs/C.md`, 'The longest calls', has each case, its count and its time.
 ///
-/// - [`receive`](Entity::receive) of a Metadata PDU: 150 (64 requests that rename directories with hundreds of others
-///   in them, which the list names)
-/// - the same: 20 (64 renames of long paths that a sender chose, beside 63 such lists)
+/// - [`receive`](Entity::receive) of a Metadata PDU: 46 (64 renames of and in two directories that hold the same 124
+///   chains of directories)
+/// - the same: 11 (64 renames of long paths, beside 63 such lists; a sender chose names of one hash)
 /// - the same: 4 (a rename of a directory that has 30,000 others, with 63 files beside them)
 /// - the drop of an entity: 30 (64 lists of 64 renames of long paths are live)
 /// - [`step`](Entity::step): 11 (an append of 3.9 MB)

@@ -403,7 +403,7 @@ impl Receiver {
     }
 
     /// How many octets a PDU that [`Receiver::write`] writes has at most: 16,490, or those of the longest NAK PDU, if
-    /// these are more.
+    /// these are more. In constant time.
     pub fn longest(&self) -> usize
         ensures { result ≡ max longest_sealed self.now.state.mib.longest_nak }
     {

@@ -206,7 +206,7 @@ find-moved_entries p q es s x =
     ≡ cond b (cond (is_some (find path_cmp y es)) (find path_cmp y es) (cond (is_at_or_below x p) None (find path_cmp x es)))
     (cond (is_at_or_below x p) None (find path_cmp x es))) [ true ↦ refl | false ↦ refl ]
 
-moved_entries_ordered : (p q : Path) (es : Entries) → IsOrdered es → IsOrdered (moved_entries p q es)
+pub moved_entries_ordered : (p q : Path) (es : Entries) → IsOrdered es → IsOrdered (moved_entries p q es)
 moved_entries_ordered p q es s = puts_ordered (rest_in p es) (moved_to p q (tree_in p es)) (where_ordered (λ x. not (is_at_or_below x p)) es s)
 
 pub get-rehomed : (p q : Path) (m : Extents) (x : Path) → get (rehomed p q m) x ≡ moved_where p q (get m) x

@@ -32,3 +32,4 @@ pub mod SparseFillers
 pub mod SparsePaths
 pub mod SparseSteps
 pub mod Fillers
+pub mod Branched

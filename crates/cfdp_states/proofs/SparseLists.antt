@@ -7,7 +7,7 @@
 --     knows_all_moves                   what is moved by a list
 use Rattle.std.proofs.Common.{◌≡◌, refl, sym, ◌∙◌, ap, subst, inl, inr, Bool, true, false, not, ◌||◌, nat_lt, is_some, get_or, Option, Some, None, ℕ, zero, suc, ◌+◌, ◌-◌, ◌≤◌, ◌<◌, min, List, [], ◌∷◌, ◌++◌, map, length, drop, take, take_all, arith, true≢false, lt-ltb, if◌then◌else◌}
 use Rattle.std.proofs.lemmas.Bool.{cases_lt, cases_Bool, and_parts, and_from, or_left, or_right, or_cases}
-use Rattle.std.proofs.lemmas.List.{drop-take, take_min}
+use Rattle.std.proofs.lemmas.List.{drop-take, drop_all, take_min}
 use Rattle.std.proofs.Math.Seq.{drop-cons, take-append-add}
 use Rattle.std.specs.List.{list_any, list_all}
 use Rattle.cfdp_paths.specs.Paths.{Path, IsPath, same_name, same_path, is_at_or_below, parent, rebased}
@@ -266,13 +266,7 @@ sees_next requests paths n k request next within is named sees =
     (sees_request request paths (map Perform (drop (suc n) requests)) named after)
 
 pub sees_end : (requests : List Request) (n : ℕ) → length requests ≤ n → SeesBy [] (map Perform (drop n requests))
-sees_end requests n all = subst (λ (rest : List Request). SeesBy [] (map Perform rest)) (sym (drop-past requests n all)) (sees_nothing [])
-  where
-    drop-past : (requests : List Request) (number : ℕ) → length requests ≤ number → drop number requests ≡ []
-    drop-past [] zero le = refl
-    drop-past [] (suc number) le = refl
-    drop-past (r ∷ rs) zero le = absurd (omega arith)
-    drop-past (r ∷ rs) (suc number) le = drop-past rs number (omega arith)
+sees_end requests n all = subst (λ (rest : List Request). SeesBy [] (map Perform rest)) (sym (drop_all n requests all)) (sees_nothing [])
 
 -- with the install, where there is one
 pub sees_all : (destination : Option Path) (requests : List Request) (paths : List Path) → destination ≡ None → SeesBy paths (map Perform requests) →

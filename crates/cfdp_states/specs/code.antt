@@ -2,3 +2,5 @@
 pub mod Sketching
 pub mod Sparse
 pub mod Views
+pub mod Branched
+pub mod Forms

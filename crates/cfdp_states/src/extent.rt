@@ -1,7 +1,7 @@
 //! What is at a path, without its octets.
 
 ghost use Rattle.std.specs.Prelude.{◌≡◌, ◌<◌, ◌≤◌, ◌^◌};
-ghost use Rattle.cfdp_states.specs.code.Sketching.{extent_weight, extent_content};
+ghost use Rattle.cfdp_states.specs.code.Sketching.{extent_weight, extent_content, weight_in};
 
 use cfdp_actions::PAYLOAD_OCTETS;
 
@@ -32,5 +32,16 @@ impl Extent {
         ensures within { result ≤ 2 ^ 58 }
     {
         1 + self.content()
+    }
+}
+
+/// All blocks that an extent takes: none where there is none.
+pub fn weigh(extent: Option<Extent>) -> u64
+    ensures value { result ≡ weight_in extent }
+    ensures within { result ≤ 2 ^ 58 }
+{
+    match extent {
+        None => 0,
+        Some(extent) => extent.blocks(),
     }
 }

@@ -5,6 +5,7 @@
 //! list on kinds and sizes alone, without octets: what it says is stated in `specs/Views.antt`.
 #![tactic(auto)]
 
+mod branched_extents;
 mod changes;
 mod extent;
 mod extent_kinds;
@@ -12,6 +13,7 @@ mod extents;
 pub mod laws;
 mod origins;
 mod performing;
+mod sorted_extents;
 mod sparse;
 mod sparse_survey;
 mod survey;

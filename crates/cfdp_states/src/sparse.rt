@@ -46,10 +46,12 @@ impl<'a> SparseView<'a> {
     /// - these paths and those of the footprint: they are put into path order, each once;
     /// - each of them and each of their ancestors, once: a `kind`, a `has_entries`, a `size` if that is a file, a look
     ///   at the footprint as by [`covers`](cfdp_leases::covers), and an insertion at or near the end of what the view
-    ///   has;
+    ///   has, which is a search for each of its names if the view keeps paths by their names;
     /// - each directory with entries that is leased exclusively: some searches among these paths, a look at each that
     ///   is below it, a copy of each child that leads to one, a `has_beside` with these children, a comparison with
-    ///   each rename, and a `deepest_beside` if one of the renames moves it.
+    ///   each rename, and a `deepest_beside` if one of the renames moves it;
+    /// - each rename, if there are at least two, up to the first that renames a path with some of these paths below it:
+    ///   two searches among these paths. If there is one, the view keeps paths by their names, else in path order.
     ///
     /// Without `covers`, the comparisons with renames and those of named paths it grows with the number of these paths
     /// times its logarithm.
@@ -84,7 +86,11 @@ impl<'a> SparseView<'a> {
     ///
     /// # Errors
     ///
-    /// [`Memory`] when out of memory; the view is then as before. Cost: that of [`View::apply`] on what the view has.
+    /// [`Memory`] when out of memory; the view is then as before.
+    ///
+    /// Cost: that of [`View::apply`] on what the view has. If it keeps paths by their names, it is a few searches for
+    /// each name of the request's paths; a rename then moves one branch, whatever is below it, and looks at the names
+    /// beside those of its two paths. If it keeps them in path order, at most one rename moves many of them.
     pub fn apply(&mut self, request: &Request) -> Result<Option<Status>, Memory>
         ensures stated { IfOk result (λ stated. IfSome stated (λ status.
             TellsSparse self.old.view self.new.view request.now status)) }
@@ -112,7 +118,9 @@ impl<'a> SparseView<'a> {
         self.view.install(path, bound)
     }
 
-    /// The view itself, which says what the items needed and took.
+    /// The view itself, which says what the items needed and took. If it keeps paths by their names, its
+    /// [`apply`](View::apply) also returns `Memory` for a rename to a path at which it has nothing, but below which it
+    /// has something.
     pub fn into_view(self) -> View<'a>
         ensures { result ≡ self.entry.view }
     {

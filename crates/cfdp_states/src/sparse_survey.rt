@@ -1,6 +1,7 @@
 //! What a list of items sees of a store, without octets.
 
 ghost use Rattle.std.specs.Prelude.{◌≡◌, ◌+◌, ◌<◌, ◌≤◌, ◌||◌, Bool, drop, if◌then◌else◌, is_some, IsFalse, IsTrue, [], Ok, IfOk, IfSome, OnOk, length, take, true};
+ghost use Rattle.std.specs.FinMap as finite;
 ghost use Rattle.std.specs.List.{list_any};
 ghost use Rattle.cfdp_paths.specs.Paths.{Path, is_at_or_below, is_below, same_path};
 ghost use Rattle.cfdp_actions.specs.Filestore.{Filestore, blocks, deepest_beside, has_beside, node_at};
@@ -27,7 +28,9 @@ use std::alloc::{AllocError, Global};
 /// - each path at or above one of the paths, once and in path order: a `kind`, a `has_entries`, and a `size` if that is
 ///   a file;
 /// - each of them that is leased exclusively and has entries: some searches among the paths, a look at those below it,
-///   a `has_beside`, and a `deepest_beside` if a request moves it.
+///   a `has_beside`, and a `deepest_beside` if a request moves it;
+/// - each rename, if there are at least two, up to the first that renames a path with some of the paths below it: two
+///   searches among the paths.
 pub fn survey_sparse<S: Filestore>(
     alloc: Global,
     store: &S,
@@ -44,7 +47,7 @@ pub fn survey_sparse<S: Filestore>(
 {
     // Its contract says that few blocks are in use, so that an extent can say each size.
     let _ = store.takes_no_memory();
-    let mut extents = Extents::new(alloc);
+    let mut extents = empty_form(alloc, paths, requests);
     let entries = paths.entries();
     for (index, entry) in entries.iter().enumerate() {
         let path = &entry.0;
@@ -63,6 +66,45 @@ pub fn survey_sparse<S: Filestore>(
         }
     }
     Ok(Some(extents))
+}
+
+/// Nothing, in the form that suits the requests: by names if at least two of them are renames, and one of these may
+/// move paths that the list sees; else in path order. Cost: that of `moves_seen` for each rename.
+fn empty_form(alloc: Global, paths: &PathMap<()>, requests: &[Request]) -> Extents
+    ensures { result ≡ finite.empty }
+{
+    let renames = requests
+        .iter()
+        .filter(|request| renamed_path(request).is_some());
+    if renames.count() > 1 && requests.iter().any(|request| moves_seen(paths, request)) {
+        Extents::branched(alloc)
+    } else {
+        Extents::sorted(alloc)
+    }
+}
+
+/// Whether one of the paths is below the path that a request renames. Cost: two searches, and none where the renamed
+/// path has 8 names.
+fn moves_seen(paths: &PathMap<()>, request: &Request) -> bool {
+    match renamed_path(request) {
+        None => false,
+        Some(from) => from.depth() < MOST_NAMES && paths.has_below(from),
+    }
+}
+
+/// The path that a request renames, if it is a rename.
+fn renamed_path(request: &Request) -> Option<&Path> {
+    match request {
+        Request::RenameFile(from, _) => Some(from),
+        Request::CreateFile(_)
+        | Request::DeleteFile(_)
+        | Request::AppendFile(_, _)
+        | Request::ReplaceFile(_, _)
+        | Request::CreateDirectory(_)
+        | Request::RemoveDirectory(_)
+        | Request::DenyFile(_)
+        | Request::DenyDirectory(_) => None,
+    }
 }
 
 /// How many first names of a path are the first names of the last of the paths before it, too.

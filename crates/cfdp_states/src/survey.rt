@@ -29,7 +29,7 @@ pub fn survey<S: Filestore>(
     let _ = store.takes_no_memory();
     let exclusive = footprint.exclusive();
     let shared = footprint.shared();
-    let mut extents = Extents::new(alloc);
+    let mut extents = Extents::sorted(alloc);
     // Shared paths and leased trees in turn, all in path order, so that each new entry is the last one.
     let mut next = 0;
     let mut last = 0;

@@ -100,14 +100,14 @@ impl<'a> View<'a> {
         }
     }
 
-    /// Whether it has anything at the path. Takes no memory. Cost: one search.
+    /// Whether it has anything at the path. Takes no memory. Cost: that of [`Extents::get`].
     pub(crate) fn has(&self, path: &Path) -> bool
         ensures { result ≡ is_some (finite.get self.now.extents path.now) }
     {
         self.extents.get(path).is_some()
     }
 
-    /// Whether it has anything strictly below the path. Takes no memory. Cost: two searches.
+    /// Whether it has anything strictly below the path. Takes no memory. Cost: that of [`Extents::has_below`].
     pub(crate) fn has_below(&self, path: &Path) -> bool
         ensures { result ≡ any_below path.now (finite.entries self.now.extents) }
     {

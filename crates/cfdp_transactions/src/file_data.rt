@@ -195,6 +195,7 @@ fn put_missing<S: Filestore>(store: &mut S, slot: u8, ranges: &Ranges, at: u64, 
     ensures { PutsOctets ranges.now at octets.now slot (S.state store.old) (S.state store.new)
         (at + length octets.now) }
 {
+    // Read for its contract: a store has 64 slots, and at most 7,864,320 octets are staged in one.
     let _ = store.staged_size(slot);
     let end = at + octets.len() as u64;
     let mut from = at;

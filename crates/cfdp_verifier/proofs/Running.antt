@@ -6,6 +6,7 @@
 --     begins, goes, fails, ends      the first index, the next index, a request that is not successful, the last index
 use Rattle.std.proofs.Common.{◌≡◌, refl, sym, ◌∙◌, ap, subst, true, false, cond, ℕ, suc, ◌+◌, ◌-◌, ◌≤◌, min, max, List, [], ◌∷◌, Some, Ok, zero, map, drop, length, get_or, Option, IfSome, ◌<◌, arith, add-zero, add-one}
 use Rattle.std.proofs.Math.Seq.{drop-cons}
+use Rattle.std.proofs.lemmas.List.{drop_all}
 use Rattle.cfdp_status.specs.declared.status.Status.{Status}
 use Rattle.cfdp_status.specs.Codes.{is_successful}
 use Rattle.cfdp_paths.specs.Paths.{Path}
@@ -101,12 +102,6 @@ answer_at_sparse prefixes v w requests number request status more is same tells 
     (AfterSparse w (map Perform (drop (number + 1) requests)) status) ps (Perform request) (Performed status)) same
     (tells (map Perform (drop (number + 1) requests))))
 
-drop-past : (requests : List Request) (number : ℕ) → length requests ≤ number → drop number requests ≡ []
-drop-past [] zero le = refl
-drop-past [] (suc number) le = refl
-drop-past (r ∷ rs) zero le = absurd (omega arith)
-drop-past (r ∷ rs) (suc number) le = drop-past rs number (omega arith)
-
 module _ (prefixes : List Path) (F : Filestore) (items : List Item) (start high taken : ℕ) where
   pub begins : (Seen : Filestore → ℕ → ℕ → ℕ → Type 0) → Seen F start high taken → blocks F ≤ high → GoesOn prefixes F items start high taken Seen 0 items
   begins Seen seen within = record { here = F; most = high; spent = taken; seen = seen; within = within; failure = refl; peaks = refl; counts = refl }
@@ -178,7 +173,7 @@ module _ (prefixes : List Path) (F : Filestore) (items : List Item) (start high 
       GoesOn prefixes F items start high taken Seen number (map Perform (drop number requests)) → EndsSo {X = X} prefixes F items start high taken w (Ok x)
   unfolding statuses steps peak
   ends x Seen w counts requests number all g =
-      let none = ap (map Perform) (drop-past requests number all) in
+      let none = ap (map Perform) (drop_all number requests all) in
       let last = subst (λ (rest : List Item). GoesOn prefixes F items start high taken Seen number rest) none g in
       let highest : last.most ≡ max high (peak prefixes F 0 items) = omega (arith, last.peaks, last.within) in
       let stated = counts last.here start last.most last.spent last.seen in

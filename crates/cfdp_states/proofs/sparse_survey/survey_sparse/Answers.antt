@@ -13,7 +13,7 @@ pub loop-index-init : goal.loop-index-init
 loop-index-init g c =
     let F = alone (only c.args.footprint.now (g.S.Filestore.state c.args.store.now).filestore) [] in
     subst (λ (m : Extents). IsSparseSurvey (is_moved c.args.requests.now) (shows (paths_in c.args.paths.now)) m (λ p. is_shown [] p) F)
-    (sym c.new-extents.ensures)
+    (sym c.empty_form-extents.ensures)
     (nothing_sparse (is_moved c.args.requests.now) (shows (paths_in c.args.paths.now)) F)
 
 pub add_beginnings-requires-clause-shown : goal.add_beginnings-requires-clause-shown
