@@ -28,17 +28,17 @@
  * 38400000 for 64 of them.
  * While cfdp_receive judges a Metadata PDU with more than 64 filestore requests it also takes, and gives back, 40
  * octets for each of them. A list that changes directories with entries, and names paths in them, takes more until it
- * is judged: up to 480 octets for each path that it sees, and four times the octets of that path (docs/C.md). So a
- * Metadata PDU takes at most 5200000 octets. The most that we know of is 1380061.
+ * is judged: up to 480 octets for each path that it sees, four times the octets of that path, and 600 for a directory
+ * that it moves (docs/C.md). So a Metadata PDU takes at most 5200000 octets. The most that we know of is 687498.
  * After the last cfdp_take nothing is kept but what cfdp_new took. examples/c/memory.c counts it.
  *
  * THE LONGEST CALLS that we know on a full filestore of 65536 blocks, in millions of instructions, rounded up.
  * docs/C.md has the longest case of each call.
- *   cfdp_receive, Metadata:   46  (64 renames of and in two directories that hold the same 124 chains of
+ *   cfdp_receive, Metadata:   44  (64 renames of and in two directories that hold the same 124 chains of
  *                                 directories)
- *   cfdp_receive, Metadata:   35  (the same with 100 chains, whose names a sender chose; 12 more renames move one of
+ *   cfdp_receive, Metadata:   26  (the same with 100 chains, whose names a sender chose; 12 more renames move one of
  *                                 the two)
- *   cfdp_receive, Metadata:   33  (the same with 84 chains; 20 more renames move one of the two)
+ *   cfdp_receive, Metadata:   19  (the same with 84 chains; 20 more renames move one of the two)
  *   cfdp_receive, Metadata:   11  (64 renames of long paths with names of one hash, beside 63 such lists)
  *   cfdp_receive, Metadata:  8.1  (64 renames of long paths in falling path order, beside 63 such lists)
  *   cfdp_receive, Metadata:  3.6  (63 files beside 30000 directories with a file each, and a rename of the directory
@@ -54,6 +54,7 @@
  *   cfdp_cancel:             1.7  (a list of 64 renames of long paths, beside 63 such lists; as much for each other
  *                                 call by which such a list ends)
  *   cfdp_new:                1.6  (65536 blocks)
+ *   cfdp_receive, another:  0.92  (a Finished PDU with 13106 responses)
  *   cfdp_reply_text:        0.24  (the longest Finished PDU)
  *   any other call: less than 0.1
  *

@@ -688,6 +688,8 @@ static const struct workload workloads[] = {
     {"take", 1, LIST, LIST, RISING, prepare_take, take_list, check_taken},
     {"take-long", 1, LIST, LIST, RISING, prepare_long_take, take_list, check_nothing},
     {"reply-text", 1, LIST, LIST, RISING, prepare_text, write_text, check_text},
+    /* the size: responses of a Finished PDU */
+    {"other", 1, MOST_RESPONSES, MOST_RESPONSES, RISING, prepare_other, receive_other, check_nothing},
     /* the size: other transactions with a list as long as the one that is admitted */
     {"long-list", 1, LIVE, LIVE, RISING, prepare_long, admit, check_nothing},
     {"long-list-falling", 1, LIVE, LIVE, FALLING, prepare_long, admit, check_nothing},
@@ -706,6 +708,12 @@ static const struct workload workloads[] = {
     /* the size: other transactions of a receiver */
     {"receiver-metadata", 1, LIVE, LIVE, RISING, prepare_heard_metadata, hear_one, check_receiver},
     {"receiver-data", 1, LIVE, LIVE, RISING, prepare_heard_data, hear_one, check_receiver},
+    /* the size: octets of a PDU, beside 63 other transactions of a receiver */
+    {"receiver-crc", 1000, 65000, 65000, RISING, prepare_heard_crc, hear_one, check_receiver},
+    /* the size: responses of a Finished PDU */
+    {"receiver-other", 1, MOST_RESPONSES - 1, MOST_RESPONSES - 1, RISING, prepare_heard_other, hear_other,
+        check_receiver},
+    /* the size: other transactions of a receiver */
     {"receiver-eof", 1, LIVE, LIVE, RISING, prepare_heard_eof, hear_one, check_receiver},
     {"receiver-ack", 1, LIVE, LIVE, RISING, prepare_heard_ack, hear_ack, check_receiver},
     {"receiver-expire", 1, LIVE, LIVE, RISING, prepare_expire, expire, check_receiver},

@@ -66,7 +66,7 @@ static const char *running;
 static enum arrangement arrangement;
 static bool scattered;
 static uint64_t digest, random_state;
-static uint8_t pdu[20000];
+static uint8_t pdu[HEADER + 65535];
 static size_t length;
 static struct piece pieces[MOST_PIECES];
 static uint8_t copy[MOST_PIECES * PIECE];

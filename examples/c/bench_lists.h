@@ -431,4 +431,27 @@ static void check_text(uint32_t requests) {
     }
 }
 
+/* A Finished PDU with this many filestore responses (5.4.2), each of five octets: without a name. It is for the sender
+ * of a file, and an engine answers that once it has read all of it. */
+enum { MOST_RESPONSES = 13106 };
+
+static void make_other(uint32_t responses) {
+    begin(0x2c, LIST_NUMBER);
+    put("\x05\x02", 2);
+    for (uint32_t response = 0; response < responses; response++) put("\x01\x03\x00\x00\x00", 5);
+    end();
+}
+
+static void prepare_other(uint32_t responses) {
+    make_engine(BLOCKS);
+    make_other(responses);
+}
+
+static uint32_t receive_other(uint32_t responses) {
+    struct cfdp_reply reply = {0};
+    (void)responses;
+    if (cfdp_receive(&engine, pdu, length, &reply) != CFDP_ANSWER_NOT_OURS) fail("another answer to a PDU");
+    return 1;
+}
+
 #endif

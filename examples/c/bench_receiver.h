@@ -1,5 +1,6 @@
-/* The workloads with a receiver, for bench.c, which includes this after what they use of it. Their size is the number
- * of other transactions: each has a list of 64 renames of long paths, and waits for its EOF PDU. */
+/* The workloads with a receiver, for bench.c, which includes this after what they use of it. Where bench.c says nothing
+ * else, their size is the number of other transactions: each has a list of 64 renames of long paths, and waits for its
+ * EOF PDU. */
 #ifndef BENCH_RECEIVER_H
 #define BENCH_RECEIVER_H
 
@@ -70,6 +71,42 @@ static void prepare_heard_data(uint32_t others) {
     make_metadata(FILE_NUMBER, GAPPED, "image");
     hear(CFDP_BECAME_REPLIED);
     make_data(FILE_NUMBER, 0, SMALL_PIECE);
+}
+
+/* The PDU that was made gets its CRC: its last two octets, of all octets before them (CRC procedures). */
+static void seal(void) {
+    uint16_t crc = 0xffff;
+    pdu[0] = (uint8_t)((pdu[0] & 0xfb) | 0x02);
+    length += 2;
+    end();
+    for (size_t at = 0; at < length - 2; at++) {
+        crc ^= (uint16_t)(pdu[at] << 8);
+        for (int bit = 0; bit < 8; bit++) crc = (uint16_t)(crc & 0x8000 ? crc << 1 ^ 0x1021 : crc << 1);
+    }
+    pdu[length - 2] = (uint8_t)(crc >> 8);
+    pdu[length - 1] = (uint8_t)crc;
+}
+
+/* A file of this many octets is announced, and comes in one PDU with a CRC. */
+static void prepare_heard_crc(uint32_t octets) {
+    make_others(LIVE);
+    make_metadata(FILE_NUMBER, octets, "image");
+    hear(CFDP_BECAME_REPLIED);
+    make_data(FILE_NUMBER, 0, octets);
+    seal();
+}
+
+/* A Finished PDU with this many filestore responses, and with a CRC. */
+static void prepare_heard_other(uint32_t responses) {
+    make_others(LIVE);
+    make_other(responses);
+    seal();
+}
+
+static uint32_t hear_other(uint32_t responses) {
+    (void)responses;
+    note_report(cfdp_receiver_receive(&receiver, 0, pdu, length, &report), CFDP_BECAME_NOT_OURS);
+    return 1;
 }
 
 /* Each second piece of a file came, from its second piece on. Its EOF PDU is made. */

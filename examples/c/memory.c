@@ -3,7 +3,7 @@
  * for itself is not counted.
  *
  * It fails if cfdp_new or cfdp_receiver_new takes another number of octets than the headers say; if a Metadata PDU
- * takes more than docs/C.md says, also one that is refused since it has too many requests and two whose lists rename
+ * takes more than docs/C.md says, also one that is refused since it has too many requests and three whose lists rename
  * directories that have entries; if a rename of a directory takes more where that has more entries; or if anything is
  * kept after the last outcome was taken. */
 #include "../../include/cfdp_receiver.h"
@@ -265,47 +265,75 @@ static bool run_nested(void) {
     return cfdp_free(&engine) == CFDP_ANSWER_DONE && in_use == 0 && blocks_in_use == 0 && right;
 }
 
-/* Directories, each with paths of up to eight names that the list does not name. It renames a file in the first one,
- * and then all of them: so the view has its paths by their names, and a made-up path of eight names for each. */
-enum { HIDDEN = LIST - 1, LEVELS = 8 };
+static bool put_entry(struct cfdp_path path, enum cfdp_entry_kind kind) {
+    return cfdp_put(&engine, &path, kind, pdu, 0) == CFDP_ANSWER_DONE;
+}
 
-/* The path of a directory, whose first letter is given, and of what is below it, with as many names more. */
-static struct cfdp_path hidden(char letter, unsigned directory, unsigned names) {
+/* Directories `a` and `b` with the same directories, each with another one in it, and with entries that go as deep as
+ * paths may. A list moves the second to where the first was, and there moves the directory in each second one of these
+ * into the next. So the view of the list has its paths by their names, and a made-up path for each directory. */
+enum { INNER = 2 * (LIST - 2) };
+
+/* The path of a directory in `a` or `b` (`top`), or of what is in it. */
+static struct cfdp_path inner(char top, unsigned directory, const char *names) {
     struct cfdp_path path = {0};
-    path.length = (uint32_t)sprintf((char *)path.octets, "%c%02u", letter, directory);
-    for (unsigned name = 0; name < names; name++)
-        path.length += (uint32_t)sprintf((char *)path.octets + path.length, "/%u", name);
+    path.length = (uint32_t)sprintf((char *)path.octets, "%c/%03u%s", top, directory, names);
     return path;
 }
 
+/* It exists, with `depth` names, and directories below it, each in the one before it, until paths have eight names. */
+static bool put_deep(struct cfdp_path path, unsigned depth) {
+    bool right = put_entry(path, CFDP_ENTRY_DIRECTORY);
+    for (; depth < DEEPEST; depth++) {
+        path.octets[path.length++] = '/';
+        path.octets[path.length++] = '0';
+        right &= put_entry(path, CFDP_ENTRY_DIRECTORY);
+    }
+    return right;
+}
+
+/* Adds the requests, and returns the octets of their names. */
+static size_t put_hidden(void) {
+    const struct cfdp_path a = {.length = 1, .octets = "a"}, b = {.length = 1, .octets = "b"};
+    const struct cfdp_path c = {.length = 1, .octets = "c"};
+    size_t names = 4;
+    put_rename(&a, &c);
+    put_rename(&b, &a);
+    for (unsigned directory = 0; directory < INNER; directory += 2) {
+        struct cfdp_path from = inner('a', directory, "/y"), to = inner('a', directory + 1, "/z");
+        names += from.length + to.length;
+        put_rename(&from, &to);
+    }
+    return names;
+}
+
 static bool run_hidden(void) {
+    const struct cfdp_path tops[] = {{.length = 1, .octets = "a"}, {.length = 1, .octets = "b"}};
     struct cfdp_reply reply = {0};
-    struct cfdp_path from = hidden('a', 0, 1), to = from;
-    bool right = make_engine(65536, 0);
-    from.octets[from.length - 1] = 'f';
-    to.octets[to.length - 1] = 'g';
-    for (unsigned directory = 0; directory < HIDDEN; directory++) {
-        for (unsigned names = 0; names < LEVELS; names++) {
-            struct cfdp_path path = hidden('a', directory, names);
-            right &= cfdp_put(&engine, &path, CFDP_ENTRY_DIRECTORY, pdu, 0) == CFDP_ANSWER_DONE;
+    bool right = make_engine(65536, 0) && put_entry(tops[0], CFDP_ENTRY_DIRECTORY);
+    right &= put_entry(tops[1], CFDP_ENTRY_DIRECTORY);
+    for (unsigned directory = 0; directory < INNER; directory++) {
+        for (char top = 'a'; top <= 'b'; top++) {
+            right &= put_deep(inner(top, directory, ""), 2);
+            if (directory % 2 == 0) right &= put_deep(inner(top, directory, "/y"), 3);
         }
     }
-    right &= cfdp_put(&engine, &from, CFDP_ENTRY_FILE, pdu, 0) == CFDP_ANSWER_DONE;
     size_t before = in_use, blocks_before = blocks_in_use;
-    size_t bound = 2000 + 4000 + 2 * 480 + 4 * (from.length + to.length);
     begin_list();
-    bound += put_rename(&from, &to);
-    for (unsigned directory = 0; directory < HIDDEN; directory++) {
-        from = hidden('a', directory, 0);
-        to = hidden('b', directory, 0);
-        bound += put_rename(&from, &to) + 2 * 480 + 4 * (from.length + to.length);
-    }
+    size_t names = put_hidden();
     end_list();
+    /* It names three directories of one name, and one path in each of those in `a`. */
+    size_t path = inner('a', 0, "").length, leaf = inner('a', 0, "/y").length;
+    size_t kept = 2000 + 150 * LIST + 2 * names + 3 * (300 + 2) + INNER * (2 * 300 + 2 * (path + leaf));
+    /* It sees the same in `b`. The directories in both, and half of the paths in these, have entries that it does not
+     * name. */
+    size_t judged = 4000 + 3 * (480 + 4) + 2 * INNER * (2 * 480 + 4 * (path + leaf)) + 600 * (2 * INNER + INNER);
     most = in_use;
     right &= cfdp_receive(&engine, pdu, length, &reply) == CFDP_ANSWER_DONE && reply.kind == CFDP_REPLY_ADMITTED;
-    right &= most - before <= bound;
-    printf("64 renames of directories with hidden paths of eight names, in a PDU of %zu octets: it takes %zu octets"
-        " (at most %zu)\n", length, most - before, bound);
+    right &= most - before <= kept + judged && in_use - before <= kept;
+    printf("64 renames of and in two directories with hidden paths of eight names, in a PDU of %zu octets: it takes %zu"
+        " octets (at most %zu), and keeps %zu (at most %zu)\n", length, most - before, kept + judged, in_use - before,
+        kept);
     right &= end(&engine, 1) && in_use == before && blocks_in_use == blocks_before;
     return cfdp_free(&engine) == CFDP_ANSWER_DONE && in_use == 0 && blocks_in_use == 0 && right;
 }
@@ -338,10 +366,6 @@ static struct cfdp_path chained(char top, unsigned chain, unsigned directories, 
         path.length += (uint32_t)sprintf(octets + path.length, "/0");
     path.length += (uint32_t)sprintf(octets + path.length, "%s", file);
     return path;
-}
-
-static bool put_entry(struct cfdp_path path, enum cfdp_entry_kind kind) {
-    return cfdp_put(&engine, &path, kind, pdu, 0) == CFDP_ANSWER_DONE;
 }
 
 /* A directory with a long name exists, in which the one of two names can be. */
