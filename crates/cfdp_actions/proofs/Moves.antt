@@ -3,12 +3,14 @@
 --     after-append                    changes in turn
 --     tree_at-all, find-tree_at       the entries of a tree are at or below its path, and those of the filestore
 --     node_at-vacated, node_at-arriving
---     moved_there, moved_apart        path by path
+--     node_at-vacated_tree            without a tree
+--     moved_there, moved_there_free, moved_apart      path by path
 --     rename-grows                    the blocks stay
 --     staged-vacated, staged-moved    the staged lists stay
 use Rattle.std.proofs.Common.{◌≡◌, ◌≢◌, refl, sym, ◌∙◌, ap, subst, Bool, true, false, cond, not, T, IsTrue, IsSome, is_some, Option, Some, None, ℕ, zero, suc, ◌+◌, ◌≤◌, List, [], ◌∷◌, ◌++◌, length, arith, true≢false, le_refl, if◌then◌else◌}
 use Rattle.std.specs.List.{AllByRecursion}
 use Rattle.std.proofs.lemmas.Bool.{and_parts}
+use Rattle.std.proofs.lemmas.Option.{none-some}
 use Rattle.std.specs.FinMap.{entries, entries_sorted, get-entries, retain_keys}
 use Rattle.std.specs.FinMap.Entries.{is_sorted, find, where_key}
 use Rattle.cfdp_paths.specs.Paths.{Path, path_cmp, same_path, is_at_or_below, parent, rebased}
@@ -25,14 +27,11 @@ use Rattle.cfdp_paths.proofs.InOrder.{path_antisym}
 use Rattle.cfdp_paths.proofs.Comparing.{path_cmp-total}
 use Rattle.cfdp_paths.specs.PathMaps.{is_too_deep}
 
-not_none : {A : Type 0} (x : A) → Some x ≢ None
-not_none x e = true≢false (ap is_some e)
-
 -- ---- nothing is below a path where nothing exists
 
 directory_there : (a : Option Node) → is_directory a ≡ true → a ≢ None
 directory_there None e none = true≢false (sym e)
-directory_there (Some node) e none = not_none node none
+directory_there (Some node) e none = none-some node (sym none)
 
 pub none_unless : (a : Option Node) → (is_some a ≡ true → ⊥) → a ≡ None
 none_unless None f = refl
@@ -215,6 +214,20 @@ holds_tree F p x there =
       | false ↦ λ e. absurd (true≢false (sym there ∙ ap is_some e))
     ] (find-tree_at F p x)
 
+-- without what is at or below p
+pub node_at-vacated_tree : (F : Filestore) (p x : Path) → node_at (after F (vacating (tree_at F p))) x ≡ cond (is_at_or_below x p) None (node_at F x)
+node_at-vacated_tree F p x =
+    node_at-vacated F (tree_at F p) x
+    ∙ ap (λ v. cond (is_some v) None (node_at F x)) (find-tree_at F p x)
+    ∙ elim (is_at_or_below x p) as (λ b. cond (is_some (cond b (node_at F x) None)) None (node_at F x) ≡ cond b None (node_at F x)) [
+      | true ↦ gone (node_at F x)
+      | false ↦ refl
+    ]
+  where
+    gone : (v : Option Node) → cond (is_some v) None v ≡ None
+    gone None = refl
+    gone (Some n) = refl
+
 -- where nothing exists at or below q
 module _ (F : Filestore) (p q : Path) (empty : (x : Path) → is_at_or_below x q ≡ true → node_at F x ≡ None) where
   pub nothing_vacated : (x : Path) → is_at_or_below x q ≡ true → node_at (after F (vacating (tree_at F p))) x ≡ None
@@ -232,18 +245,14 @@ module _ (F : Filestore) (p q : Path) (empty : (x : Path) → is_at_or_below x q
       blocks-arriving p q (after F (vacating es)) es (tree_at-sorted F p) (tree_at-all F p) (λ x below there. nothing_vacated x below) in
       ap blocks (after-append F (vacating es) (arriving p q es)) ∙ back ∙ out
 
-module _ (F : Filestore) (p q : Path) (rooted : IsRooted F) (named : q ≢ []) (none : node_at F q ≡ None) where
-  pub nothing_there : (x : Path) → is_at_or_below x q ≡ true → node_at F x ≡ None
-  nothing_there x below = below_absent F q rooted named none (length x) x (le_refl _) below
-
   -- at or below q is what was at or below p
-  pub moved_there : (x : Path) → is_at_or_below x q ≡ true → node_at (moved F p q) x ≡ node_at F (rebased q p x)
-  moved_there x below =
+  pub moved_there_free : (x : Path) → is_at_or_below x q ≡ true → node_at (moved F p q) x ≡ node_at F (rebased q p x)
+  moved_there_free x below =
       let y = rebased q p x in
       let es = tree_at F p in
       ap (λ G. node_at G x) (after-append F (vacating es) (arriving p q es))
       ∙ node_at-arriving p q (after F (vacating es)) es (tree_at-sorted F p) (tree_at-all F p) x below
-      ∙ ap (λ v. cond (is_some (find path_cmp y es)) (find path_cmp y es) v) (nothing_vacated F p q nothing_there x below)
+      ∙ ap (λ v. cond (is_some (find path_cmp y es)) (find path_cmp y es) v) (nothing_vacated x below)
       ∙ itself (find path_cmp y es)
       ∙ find-tree_at F p y ∙ ap (λ b. cond b (node_at F y) None) (rebased-below q p x)
     where
@@ -251,22 +260,21 @@ module _ (F : Filestore) (p q : Path) (rooted : IsRooted F) (named : q ≢ []) (
       itself None = refl
       itself (Some n) = refl
 
+module _ (F : Filestore) (p q : Path) (rooted : IsRooted F) (named : q ≢ []) (none : node_at F q ≡ None) where
+  pub nothing_there : (x : Path) → is_at_or_below x q ≡ true → node_at F x ≡ None
+  nothing_there x below = below_absent F q rooted named none (length x) x (le_refl _) below
+
+  -- at or below q is what was at or below p
+  pub moved_there : (x : Path) → is_at_or_below x q ≡ true → node_at (moved F p q) x ≡ node_at F (rebased q p x)
+  moved_there = moved_there_free F p q nothing_there
+
   -- at or below p nothing exists any more, and at all others what was there
   pub moved_apart : (x : Path) → is_at_or_below x q ≡ false → node_at (moved F p q) x ≡ cond (is_at_or_below x p) None (node_at F x)
   moved_apart x apart =
       let es = tree_at F p in
       ap (λ G. node_at G x) (after-append F (vacating es) (arriving p q es))
       ∙ node_at-arriving_apart p q (after F (vacating es)) es x apart
-      ∙ node_at-vacated F es x
-      ∙ ap (λ v. cond (is_some v) None (node_at F x)) (find-tree_at F p x)
-      ∙ elim (is_at_or_below x p) as (λ b. cond (is_some (cond b (node_at F x) None)) None (node_at F x) ≡ cond b None (node_at F x)) [
-        | true ↦ gone (node_at F x)
-        | false ↦ refl
-      ]
-    where
-      gone : (v : Option Node) → cond (is_some v) None v ≡ None
-      gone None = refl
-      gone (Some n) = refl
+      ∙ node_at-vacated_tree F p x
 
   -- the blocks stay
   pub blocks-moved : blocks (moved F p q) ≡ blocks F

@@ -2,8 +2,9 @@
 --     same_path-refl, same_path-true, ..        the test of two paths
 --     node_at-becomes                           after one change of a path
 --     get_kept                                  at the paths that pass a test
-use Rattle.std.proofs.Common.{◌≡◌, refl, sym, ◌∙◌, ap, subst, Bool, true, false, cond, Option, Some, None, Ordering, Less, Equal, Greater, is_eq, true≢false}
-use Rattle.std.specs.Cmp.{eq_by_cmp_equiv}
+--     kept_some                                 what is kept passes, and is there
+use Rattle.std.proofs.Common.{◌≡◌, refl, sym, ◌∙◌, ap, subst, Bool, true, false, cond, Option, Some, None, Ordering, Equal, is_eq, is_some, true≢false}
+use Rattle.std.specs.Cmp.{eq_by_cmp_equiv, Equal-is}
 use Rattle.std.specs.FinMap.{get, get-insert, get-remove, retain_keys, get-retain_keys}
 use Rattle.cfdp_paths.specs.Paths.{Path, path_cmp, same_path}
 use Rattle.cfdp_actions.specs.Filestore.{Node, Filestore, node_at, Becomes, changed}
@@ -11,9 +12,7 @@ use Rattle.cfdp_paths.proofs.InOrder.{path_antisym}
 use Rattle.cfdp_paths.proofs.Comparing.{path_cmp-total}
 
 pub tied : (r : Ordering) → is_eq r ≡ true → r ≡ Equal
-tied Less e = absurd (true≢false (sym e))
-tied Equal e = refl
-tied Greater e = absurd (true≢false (sym e))
+tied r = (Equal-is r).0
 
 pub same_path-true : (p q : Path) → same_path p q ≡ true → p ≡ q
 same_path-true p q e = path_antisym p q (tied (path_cmp p q) e)
@@ -43,3 +42,7 @@ node_at-becomes_apart F p node q e = node_at-becomes F p node q ∙ ap (λ b. co
 -- what is at the paths that pass a test
 pub get_kept : (F : Filestore) (test : Path → Bool) (q : Path) → get (retain_keys F.nodes test) q ≡ cond (test q) (node_at F q) None
 get_kept F test q = get-retain_keys F.nodes test q (λ x e. ap test (sym (path_antisym q x e)))
+
+pub kept_some : {X : Type 0} (b : Bool) (x : Option X) → is_some (cond b x None) ≡ true → (b ≡ true) × (is_some x ≡ true)
+kept_some true x some = (refl, some)
+kept_some false x some = absurd (true≢false (sym some))

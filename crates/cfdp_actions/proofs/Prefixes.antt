@@ -1,11 +1,12 @@
 -- Prefixes of paths.
 --     rebased-below, rebased_back, same_rebased    p/r to q/r and back
 --     length-parent
-use Rattle.std.proofs.Common.{◌≡◌, refl, sym, ◌∙◌, ap, Bool, true, false, suc, [], ◌∷◌, ◌++◌, length, drop}
+use Rattle.std.proofs.Common.{◌≡◌, refl, sym, ◌∙◌, ap, true, suc, [], ◌∷◌, ◌++◌, length, drop}
 use Rattle.cfdp_paths.specs.Paths.{Name, Path, same_name, same_path, is_at_or_below, parent, rebased}
 use Rattle.std.specs.FinMap.{slice_cmp-IsAntisymmetric, nat_cmp-IsAntisymmetric}
 use Rattle.std.specs.Cmp.{Equal-is}
 use Rattle.cfdp_actions.proofs.Order.{same_path-true, same_path-is}
+use Rattle.cfdp_actions.proofs.Truths.{by_truth}
 use Rattle.cfdp_paths.proofs.Below.{at_or_below-append, append_from_at_or_below}
 
 pub same_name-true : (m n : Name) → same_name m n ≡ true → m ≡ n
@@ -29,14 +30,9 @@ rebased_back p q x h = ap (λ r. p ++ r) (drop_append q (drop (length p) x)) ∙
 
 -- so two paths tie exactly where they do once they are moved
 pub same_rebased : (p q x y : Path) → is_at_or_below x q ≡ true → is_at_or_below y p ≡ true → same_path x (rebased p q y) ≡ same_path (rebased q p x) y
-same_rebased p q x y below_x below_y = agree (same_path x (rebased p q y)) (same_path (rebased q p x) y)
+same_rebased p q x y below_x below_y = by_truth (same_path x (rebased p q y)) (same_path (rebased q p x) y)
     (λ e. same_path-is _ _ (ap (rebased q p) (same_path-true x (rebased p q y) e) ∙ rebased_back p q y below_y))
     (λ e. same_path-is _ _ (sym (rebased_back q p x below_x) ∙ ap (rebased p q) (same_path-true (rebased q p x) y e)))
-  where
-    agree : (a b : Bool) → (a ≡ true → b ≡ true) → (b ≡ true → a ≡ true) → a ≡ b
-    agree true b f g = sym (f refl)
-    agree false true f g = g refl
-    agree false false f g = refl
 
 pub length-parent : (n : Name) (p : Path) → length (parent (n ∷ p)) ≡ length p
 length-parent n [] = refl

@@ -1,6 +1,5 @@
 -- Paths that are in all of the entries of an array.
 --     present_at       what is in an entry is the path of that number
---     present_after    after the last entry there is none
 --     same_present     two arrays have the same in all entries exactly where they have the same paths
 use Rattle.std.proofs.Common.{◌≡◌, ℕ, zero, suc, ◌≤◌, ◌<◌, Bool, ◌&&◌, List, [], ◌∷◌, length, Option, Some, None, refl, arith, slice_index_or}
 use Rattle.std.specs.Cmp.Lexicographic.{pointwise, slice_cmp}
@@ -24,11 +23,6 @@ present_at [] k d e h = absurd (omega arith)
 present_at (None ∷ slots) k d e h = absurd (omega (arith, few_present slots, e))
 present_at (Some path ∷ slots) zero d e h = refl
 present_at (Some path ∷ slots) (suc k) d e h = present_at slots k d (omega (arith, e)) (omega (arith, h))
-
-pub present_after : (paths : List Path) (k : ℕ) → length paths ≤ k → None ≡ slice_get paths k
-present_after [] k h = refl
-present_after (path ∷ paths) zero h = absurd (omega arith)
-present_after (path ∷ paths) (suc k) h = present_after paths k (omega (arith, h))
 
 then_eq : (o rest : Ordering) (b : Bool) → b ≡ is_eq rest → (is_eq o && b) ≡ is_eq (ordering_then o rest)
 then_eq Less rest b e = refl

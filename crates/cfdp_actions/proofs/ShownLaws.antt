@@ -13,6 +13,7 @@ use Rattle.std.specs.FinMap.Entries.{where_key, below_all, find-put}
 use Rattle.std.specs.Option.{option_map, IsSomeAnd}
 use Rattle.std.specs.declared.cmp.Ordering.TheVariants.{Less, Equal, Greater}
 use Rattle.std.proofs.lemmas.Bool.{and_parts, false≢true}
+use Rattle.std.proofs.lemmas.Option.{none-some, same_Some}
 use Rattle.cfdp_paths.specs.Paths.{Path, path_cmp, same_path, is_at_or_below, is_below, rebased}
 use Rattle.cfdp_paths.specs.PathMaps as maps
 use Rattle.cfdp_paths.proofs.Comparing.{same_path-Decides, path_cmp-total}
@@ -78,16 +79,13 @@ put-put k v w (e ∷ es) =
           ∙ sym (put-greater k v e es p)
     ] refl
 
-other_way : {u v : Node} → Some u ≡ Some v → v ≡ u
-other_way e = cc
-
 pub put-same : (k : Path) (v : Node) (es : List (Path × Node)) → is_sorted path_cmp es ≡ true → find path_cmp k es ≡ Some v → put path_cmp k v es ≡ es
 put-same k v [] s h = cc
 put-same k v (e ∷ es) s h =
     let parts = and_parts (below_all path_cmp e.0 es) (is_sorted path_cmp es) s in
     elim (path_cmp k e.0) as (λ o. path_cmp k e.0 ≡ o → put path_cmp k v (e ∷ es) ≡ e ∷ es) [
-      | Less ↦ λ p. let none : None ≡ Some v = sym (find-less k e es p ∙ not_in k es (below_before k e.0 es p parts.0)) ∙ h in cc
-      | Equal ↦ λ p. let same : Some e.1 ≡ Some v = sym (find-equal k e es p) ∙ h in put-equal k v e es p ∙ ap (λ u. (e.0, u) ∷ es) (other_way same)
+      | Less ↦ λ p. absurd (none-some v (sym (find-less k e es p ∙ not_in k es (below_before k e.0 es p parts.0)) ∙ h))
+      | Equal ↦ λ p. let same : Some e.1 ≡ Some v = sym (find-equal k e es p) ∙ h in put-equal k v e es p ∙ ap (λ u. (e.0, u) ∷ es) (sym (same_Some e.1 v same))
       | Greater ↦ λ p. put-greater k v e es p ∙ ap (λ ys. e ∷ ys) (put-same k v es parts.1 (sym (find-greater k e es p) ∙ h))
     ] refl
 

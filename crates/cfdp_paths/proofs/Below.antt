@@ -2,7 +2,7 @@
 --     append_from_at_or_below, at_or_below_from_append     p is at or below q where p is q and a rest
 --     at_or_below-itself, -trans, -antisym, prefixes_compare, length-at_or_below
 --     is_below-Decides                                     below: at or below, and another path
---     parent-push, parent-take, parent_below, below_parent, child_from_below, length-child, below_from_child
+--     parent-push, parent-take, parent_below, parent_other, below_parent, child_from_below, length-child, below_from_child
 --     ancestors-push, ancestors-take, ancestors-Contains, below_ancestor, ancestor_from_below
 --     IsPath-take, IsPath-prefix, IsPath-rebased           paths made of paths
 --     rebased_depth                                        the depth of such a path
@@ -109,6 +109,11 @@ parent_below p some =
       λ e. let same : length p ≡ length (take (length p - 1) p) = ap length (e ∙ parent-take p) in
           omega (arith, length-take (length p - 1) p),
     )
+
+-- a path but the root is not its own parent
+pub parent_other : (p : Path) → p ≢ [] → p ≢ parent p
+parent_other [] some same = some refl
+parent_other (n ∷ p) some same = ((is_below-Decides (n ∷ p) (parent (n ∷ p))).0 (parent_below (n ∷ p) (omega arith))).1 same
 
 other_rest : (m n : Name) (p q : Path) → m ≡ n → ◌≢◌ {A = Path} (m ∷ p) (n ∷ q) → p ≢ q
 other_rest m n p q same other e = other (ap (λ x. x ∷ p) same ∙ ap (λ x. n ∷ x) e)

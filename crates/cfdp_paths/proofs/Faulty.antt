@@ -15,10 +15,10 @@ use Rattle.cfdp_paths.specs.Faults.{fault_of_name, or_fault, first_fault, fault_
 use Rattle.cfdp_paths.proofs.Comparing.{same_name-Decides}
 use Rattle.cfdp_paths.proofs.Spelling.{LacksSlash, names_in-spelled, spells_names_in, is_path-Decides, path_of_spelled}
 
--- which way a test went
-chosen : {X : Type 0} (b : Bool) (x y z : X) → cond b x y ≡ z → ((b ≡ true) × (x ≡ z)) ⊎ ((b ≡ false) × (y ≡ z))
-chosen true x y z e = inl (refl, e)
-chosen false x y z e = inr (refl, e)
+-- where a test finds no fault it failed, and no later one finds any
+passed : (b : Bool) (fault : PathFault) (later : Option PathFault) → cond b (Some fault) later ≡ None → (b ≡ false) × (later ≡ None)
+passed true fault later e = absurd (none-some fault (sym e))
+passed false fault later e = (refl, e)
 
 -- where the octets hold no 0
 zero_free : (n : Name) → list_any (λ octet. octet == 0) n ≡ false → All (λ octet. octet ≢ 0) n
@@ -49,27 +49,19 @@ fault_of_some n = cond (same_name n (dot ∷ []) || same_name n (dot ∷ dot ∷
 -- a name with no `/` has no fault exactly where it is one
 pub name_from_no_fault : (n : Name) → LacksSlash n → fault_of_name n ≡ None → IsName n
 name_from_no_fault n lacks e =
-    elim (chosen (length n == 0) (Some EmptyName) (fault_of_some n) None e) [
-      | inl h ↦ absurd (none-some EmptyName (sym h.1))
-      | inr h ↦ elim (chosen (same_name n (dot ∷ []) || same_name n (dot ∷ dot ∷ []) || list_any (λ octet. octet == 0) n) (Some BadName)
-          (fault_of_good n) None h.1) [
-            | inl bad ↦ absurd (none-some BadName (sym bad.1))
-            | inr good ↦ elim (chosen (nat_lt 96 (length n)) (Some NameTooLong) None None good.1) [
-              | inl long ↦ absurd (none-some NameTooLong (sym long.1))
-              | inr short ↦
-                  let nonempty : length n ≢ 0 = eqb-false (length n) 0 h.0 in
-                  let tests = or_parts (same_name n (dot ∷ []) || same_name n (dot ∷ dot ∷ [])) (list_any (λ octet. octet == 0) n) good.0 in
-                  let dots = or_parts (same_name n (dot ∷ [])) (same_name n (dot ∷ dot ∷ [])) tests.0 in
-                  record {
-                    some = omega arith;
-                    short = ltb-false 96 (length n) short.0;
-                    octets = both n lacks (zero_free n tests.1);
-                    not_dot = not_from_Decides (same_name n (dot ∷ [])) (same_name-Decides n (dot ∷ [])) dots.0;
-                    not_dots = not_from_Decides (same_name n (dot ∷ dot ∷ [])) (same_name-Decides n (dot ∷ dot ∷ [])) dots.1;
-                  }
-            ]
-          ]
-    ]
+    let some = passed (length n == 0) EmptyName (fault_of_some n) e in
+    let good = passed (same_name n (dot ∷ []) || same_name n (dot ∷ dot ∷ []) || list_any (λ octet. octet == 0) n) BadName (fault_of_good n) some.1 in
+    let short = passed (nat_lt 96 (length n)) NameTooLong None good.1 in
+    let nonempty : length n ≢ 0 = eqb-false (length n) 0 some.0 in
+    let tests = or_parts (same_name n (dot ∷ []) || same_name n (dot ∷ dot ∷ [])) (list_any (λ octet. octet == 0) n) good.0 in
+    let dots = or_parts (same_name n (dot ∷ [])) (same_name n (dot ∷ dot ∷ [])) tests.0 in
+    record {
+      some = omega arith;
+      short = ltb-false 96 (length n) short.0;
+      octets = both n lacks (zero_free n tests.1);
+      not_dot = not_from_Decides (same_name n (dot ∷ [])) (same_name-Decides n (dot ∷ [])) dots.0;
+      not_dots = not_from_Decides (same_name n (dot ∷ dot ∷ [])) (same_name-Decides n (dot ∷ dot ∷ [])) dots.1;
+    }
 
 pub no_fault_of_name : (n : Name) → IsName n → fault_of_name n ≡ None
 no_fault_of_name n w =
@@ -125,12 +117,9 @@ parts_lack_slash (octet ∷ octets) = lacks_split octet (slice_split is_slash oc
 
 pub path_from_no_fault : (octets : List ℕ) → fault_of octets ≡ None → IsPath (names_in octets)
 path_from_no_fault octets e =
-    elim (chosen (length (without_slash octets) == 0) (Some Empty) (first_fault 8 (names_in octets)) None e) [
-      | inl h ↦ absurd (none-some Empty (sym h.1))
-      | inr h ↦
-          let names = names_from_no_fault 8 (names_in octets) (parts_lack_slash (without_slash octets)) h.1 in
-          record { some = omega (arith, length-slice_split is_slash (without_slash octets)); few = names.0; names = names.1 }
-    ]
+    let some = passed (length (without_slash octets) == 0) Empty (first_fault 8 (names_in octets)) e in
+    let names = names_from_no_fault 8 (names_in octets) (parts_lack_slash (without_slash octets)) some.1 in
+    record { some = omega (arith, length-slice_split is_slash (without_slash octets)); few = names.0; names = names.1 }
 
 not_empty : (octets : List ℕ) → All IsName (slice_split is_slash octets) → (length octets == 0) ≡ false
 not_empty [] good = let none = All-head IsName [] [] good in absurd (omega (arith, none.some))

@@ -1,5 +1,6 @@
 -- Entries in path order, and the index of a path among them.
 --     path_antisym                 only a path ties with itself
+--     less_by                      the test of a comparison
 --     less_back, greater_back      a comparison the other way round
 --     prefix_len_of_point          what `partition_point` finds
 --     ranks_parted                 the entries before a path are at the front;  all_before: where the last is one
@@ -18,6 +19,7 @@ use Rattle.std.specs.Ordering.{is_lt, is_eq, ordering_reverse}
 use Rattle.std.specs.declared.cmp.Ordering.{Ordering}
 use Rattle.std.specs.declared.cmp.Ordering.TheVariants.{Less, Equal, Greater}
 use Rattle.std.proofs.lemmas.Bool.{and_parts, true≢false}
+use Rattle.std.proofs.lemmas.Float.{T_from_true}
 use Rattle.std.proofs.lemmas.List.{get_or_default}
 use Rattle.std.proofs.Math.Dec.{T}
 use Rattle.std.specs.List.{insert, remove}
@@ -50,10 +52,6 @@ less_itself k p = absurd (true≢false (sym (ap is_lt (sym (tied_itself path_cmp
 pub true_from_T : (b : Bool) → T b → b ≡ true
 true_from_T true h = refl
 true_from_T false h = absurd h
-
-pub T_from_true : (b : Bool) → b ≡ true → T b
-T_from_true true h = tt
-T_from_true false h = absurd (true≢false (sym h))
 
 -- ---- where a test stops to hold
 

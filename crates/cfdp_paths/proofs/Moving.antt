@@ -8,23 +8,25 @@
 --     one_tree, one_read, one_rest, one_below, one_shallow, one_moved     where the piece is one entry
 --     moved_up_to, not_moved_yet, all_moved, length-moved, below_at, shallow_at    where entries move one after the other
 --     puts_piece                 where nothing is at or below the path, the entries go in as one piece
-use Rattle.std.proofs.Common.{◌≡◌, ℕ, zero, suc, ◌+◌, ◌-◌, ◌<◌, ◌≤◌, true, false, not, Result, Ok, Err, OnOk, OnErr, List, [], ◌∷◌, ◌++◌, map, length, take, drop, get_or, refl, sym, ap, subst, ◌∙◌, arith, append_assoc, length-take, length-drop, length-append}
+--     by_depths                  whether an entry would be too deep, by the depths alone
+use Rattle.std.proofs.Common.{◌≡◌, ℕ, zero, suc, ◌+◌, ◌-◌, ◌<◌, ◌≤◌, nat_lt, ◌||◌, true, false, not, Result, Ok, Err, OnOk, OnErr, List, [], ◌∷◌, ◌++◌, map, length, take, drop, get_or, refl, sym, ap, subst, ◌∙◌, arith, append_assoc, length-take, length-drop, length-append}
 use Rattle.std.specs.Cmp.{tied_itself}
 use Rattle.std.specs.Cmp.Lexicographic.{slice_cmp, nat_list_cmp_total}
 use Rattle.std.specs.FinMap.{put, is_sorted}
 use Rattle.std.specs.FinMap.Entries.{below_all}
 use Rattle.std.specs.declared.alloc.AllocError.{AllocError}
-use Rattle.std.specs.List.{list_all, between, remove}
+use Rattle.std.specs.List.{list_all, list_any, between, remove}
 use Rattle.std.specs.Ordering.{is_lt, nat_cmp}
 use Rattle.std.specs.declared.cmp.Ordering.TheVariants.{Less, Equal, Greater}
 use Rattle.std.proofs.Math.ListN.{drop_of_length-le}
 use Rattle.std.proofs.lemmas.Bool.{and_parts, or_parts, ltb-false, true≢false, true_from_ne_false, false_from_ne_true}
+use Rattle.std.proofs.lemmas.Bool.Decides.{nat_tests}
 use Rattle.std.proofs.lemmas.List.{append-nil, get_or_default, take-append-drop, take_all, take_at, drop_at, drop-take, take-take, drop-drop}
 use Rattle.cfdp_paths.specs.Paths.{Path, path_cmp, is_at_or_below, rebased}
 use Rattle.cfdp_paths.specs.PathMaps.{tree_in, rest_in, puts, moved_to, is_too_deep}
 use Rattle.cfdp_paths.specs.code.PathMaps.{IsPieceOf, rank, spread, with_paths}
 use Rattle.cfdp_paths.proofs.Comparing.{path_cmp-total}
-use Rattle.cfdp_paths.proofs.Below.{append_from_at_or_below, at_or_below-append}
+use Rattle.cfdp_paths.proofs.Below.{append_from_at_or_below, at_or_below-append, length-rebased}
 use Rattle.cfdp_paths.proofs.InOrder.{path_antisym, less_by, less_back, greater_back, put-less, put-greater, below_before, ordered-put, ordered-where}
 use Rattle.cfdp_paths.proofs.Pieces.{between_below, below_not_before, BeginsAt, begins_at_rank, sorted_following, tree_split, tree_between}
 
@@ -359,3 +361,17 @@ module _ {X : Type 0} where
   pub length-moved : (p q : Path) (es : List (Path × X)) → length (moved_to p q es) ≡ length es
   length-moved p q [] = refl
   length-moved p q (e ∷ es) = ap suc (length-moved p q es)
+
+-- ---- depth
+
+-- with b names instead of the first a, c names are more than 8
+same_test : (a b c : ℕ) → b ≤ 8 → nat_lt 8 (b + (c - a)) ≡ nat_lt (8 + a) (c + b)
+same_test a b c few = grind (arith, nat_tests)
+
+-- whether an entry would be too deep, by the depths alone
+pub by_depths : {X : Type 0} → (p q : Path) (es : List (Path × X)) → length q ≤ 8
+    → is_too_deep p q es ≡ list_any (λ e. nat_lt (8 + length p) (length e.0 + length q)) es
+by_depths p q [] few = refl
+by_depths p q (e ∷ es) few =
+    ap (λ b. b || is_too_deep p q es) (ap (λ n. nat_lt 8 n) (length-rebased p q e.0) ∙ same_test (length p) (length q) (length e.0) few)
+    ∙ ap (λ b. nat_lt (8 + length p) (length e.0 + length q) || b) (by_depths p q es few)

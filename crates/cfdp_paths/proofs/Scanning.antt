@@ -4,6 +4,8 @@
 --     scan_start, scan_octet, scan_slash, scan_fault, scan_end, scan_all      at each step of it
 use Rattle.std.proofs.Common.{◌≡◌, ◌≢◌, refl, sym, ◌∙◌, ap, cond, ℕ, zero, suc, ◌+◌, ◌-◌, ◌<◌, ◌≤◌, ◌==◌, Bool, true, false, ◌||◌, List, [], ◌∷◌, ◌++◌, length, take, drop, get_or, length-drop, append_assoc, Option, Some, None, arith}
 use Rattle.std.specs.List.{list_any, slice_split, onto_first}
+use Rattle.std.proofs.Math.Bool.{or-false}
+pub use Rattle.std.proofs.Math.Bool.{or-true as or_true, or-false as or_false}
 use Rattle.std.proofs.Math.Seq.{drop-cons}
 use Rattle.std.proofs.lemmas.Bool.{cond-false, eq-eqb, ne_eqb}
 use Rattle.std.proofs.lemmas.List.{append-nil, take_more, take_all, drop_all, get_or-drop}
@@ -13,14 +15,6 @@ use Rattle.cfdp_paths.specs.declared.fault.PathFault.{PathFault}
 use Rattle.cfdp_paths.specs.declared.fault.PathFault.TheVariants.{Empty, TooDeep}
 use Rattle.cfdp_paths.specs.Faults.{fault_of_name, or_fault, first_fault, fault_of}
 use Rattle.cfdp_paths.specs.Paths.{Name, is_slash, without_slash, names_in}
-
-pub or_true : (a : Bool) → (a || true) ≡ true
-or_true true = refl
-or_true false = refl
-
-pub or_false : (a : Bool) → (a || false) ≡ a
-or_false true = refl
-or_false false = refl
 
 abbrev front : List ℕ → List Name → List Name
 front cur [] = cur ∷ []
@@ -115,18 +109,13 @@ module _ (octets names : List ℕ) (count start index : ℕ) (holds_zero : Bool)
           length-onto x (slice_split is_slash (drop (index + 1) names)),
           length-slice_split is_slash (drop (index + 1) names),
         );
-        zeros = zero_too ∙ ap (λ b. b || is_zero x) h.zeros ∙ or_end (list_any is_zero (so_far names start index)) (is_zero x)
+        zeros = zero_too ∙ ap (λ b. b || is_zero x) h.zeros ∙ ap (λ b. list_any is_zero (so_far names start index) || b) (sym (or-false (is_zero x)))
             ∙ sym (ap (list_any is_zero) longer ∙ list_any-append is_zero (so_far names start index) (x ∷ []));
       }
     where
       length-onto : (x : ℕ) (parts : List Name) → 1 ≤ length parts → length (onto_first x parts) ≡ length parts
       length-onto x [] some = absurd (omega arith)
       length-onto x (part ∷ parts) some = refl
-
-      or_end : (a b : Bool) → (a || b) ≡ (a || (b || false))
-      or_end true b = refl
-      or_end false true = refl
-      or_end false false = refl
 
   -- the names from this one on, where the `/` after it was found
   at_slash : (x : ℕ) → index < length names → x ≡ get_or names index 0 → is_slash x ≡ true → slice_split is_slash (drop index names)

@@ -18,6 +18,7 @@ use Rattle.std.specs.Ordering.{ordering_then, nat_cmp, is_eq}
 use Rattle.std.specs.declared.cmp.Ordering.{Ordering}
 use Rattle.std.specs.declared.cmp.Ordering.TheVariants.{Less, Equal, Greater}
 use Rattle.std.proofs.Math.Bool.{and_assoc}
+use Rattle.std.proofs.Math.Bool.{and-false, and-true}
 use Rattle.std.proofs.lemmas.Bool.{and_parts, false_from_ne_true, cond-false, eqb-true, eqb-false, ne_eqb}
 use Rattle.std.proofs.Math.Seq.{drop-cons}
 use Rattle.std.proofs.lemmas.List.{take_all, take_at, take-take, append-nil, get_or-take, length-map}
@@ -140,14 +141,6 @@ above_root (m ∷ q) some = refl
 above_empty : (y : ℕ) (b : List ℕ) (v : Bool) → is_at_or_below ([] ∷ []) (cond v ([] ∷ names_of b) (onto_first y (names_of b))) ≡ false
 above_empty y b true = above_root (names_of b) (some_names b)
 above_empty y b false = below_none y [] (names_of b) (some_names b)
-
-and_true : (b : Bool) → (b && true) ≡ b
-and_true true = refl
-and_true false = refl
-
-and_false : (b : Bool) → (b && false) ≡ false
-and_false true = refl
-and_false false = refl
 
 pub at_or_below-names_of : (a b : List ℕ) → is_at_or_below (names_of a) (names_of b) ≡ (pointwise nat_eq (take (length b) a) b && ends_name (drop (length b) a))
 at_or_below-names_of [] [] = refl
@@ -318,14 +311,14 @@ begins_short a b short =
 pub begins_ending : (a b head rest : List ℕ) (r : Bool) → r ≡ pointwise nat_eq head b → head ≡ take (length b) a → rest ≡ drop (length b) a → ends_name rest
     ≡ true → r ≡ is_at_or_below (names_of a) (names_of b)
 begins_ending a b head rest r same front following ends =
-    same ∙ ap (λ h. pointwise nat_eq h b) front ∙ sym (and_true (pointwise nat_eq (take (length b) a) b))
+    same ∙ ap (λ h. pointwise nat_eq h b) front ∙ sym (and-true (pointwise nat_eq (take (length b) a) b))
     ∙ ap (λ e. pointwise nat_eq (take (length b) a) b && e) (sym ends ∙ ap ends_name following)
     ∙ sym (at_or_below-names_of a b)
 
 -- or goes on with it
 pub begins_going_on : (a b rest : List ℕ) → rest ≡ drop (length b) a → ends_name rest ≡ false → false ≡ is_at_or_below (names_of a) (names_of b)
 begins_going_on a b rest following goes =
-    sym (and_false (pointwise nat_eq (take (length b) a) b)) ∙ ap (λ e. pointwise nat_eq (take (length b) a) b && e) (sym goes ∙ ap ends_name following)
+    sym (and-false (pointwise nat_eq (take (length b) a) b)) ∙ ap (λ e. pointwise nat_eq (take (length b) a) b && e) (sym goes ∙ ap ends_name following)
     ∙ sym (at_or_below-names_of a b)
 
 pub ends_nothing : (rest : List ℕ) → length rest < 1 → true ≡ ends_name rest

@@ -126,6 +126,7 @@ impl Path {
         ensures names { result ≡ take depth self.now }
         ensures within { IsPath self.now }
     {
+        // Read for the contract alone: it brings what is always true of the path.
         let _ = &self.octets;
         Names {
             octets: self.first_octets(depth),
@@ -235,6 +236,7 @@ impl Path {
         requires within { depth ≤ length self.now }
         ensures { IfOk result (λ path. path ≡ take depth self.now) }
     {
+        // Read for the contract alone: it brings what is always true of the path.
         let _ = &self.octets;
         let octets = Vec::from_slice(alloc, self.front(depth))?;
         Ok(Path { octets, depth })

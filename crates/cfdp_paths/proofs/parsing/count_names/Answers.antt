@@ -1,7 +1,8 @@
 use Rattle.std.proofs.Common.{sym, ◌∙◌, ap, get_or, length, ◌||◌, refl}
+use Rattle.std.proofs.Math.Bool.{or-false, or-true}
 use Rattle.std.proofs.lemmas.Bool.{eqb-false, eq-eqb, ne_eqb}
 use Rattle.cfdp_paths.specs.Paths.{slash}
-use Rattle.cfdp_paths.proofs.Scanning.{or_true, or_false, scan_start, scan_octet, scan_slash, scan_fault, scan_end, scan_all}
+use Rattle.cfdp_paths.proofs.Scanning.{scan_start, scan_octet, scan_slash, scan_fault, scan_end, scan_all}
 use Rattle.cfdp_paths.proofs.parsing.count_names.Goals as goal
 use Rattle.cfdp_paths.proofs.parsing.count_names.Goals.{then-octet-eq47+in_default, else-octet-eq47+then-octet-eq0, else-octet-eq47+else-octet-eq0}
 
@@ -32,11 +33,11 @@ loop-index-preserved c =
       | else-octet-eq47+then-octet-eq0 w ↦
           rw (w.count-is, w.start-is, w.holds_zero-is)
           (scan_octet octets names l.count l.start l.index l.holds_zero l.invariant x _ c.loop-index-test.true refl (ne_eqb x slash w.if-octet-eq47.false)
-          (sym (ap (λ b. l.holds_zero || b) (eq-eqb x 0 w.if-octet-eq0.true) ∙ or_true l.holds_zero)))
+          (sym (ap (λ b. l.holds_zero || b) (eq-eqb x 0 w.if-octet-eq0.true) ∙ or-true l.holds_zero)))
       | else-octet-eq47+else-octet-eq0 w ↦
           rw (w.count-is, w.start-is, w.holds_zero-is)
           (scan_octet octets names l.count l.start l.index l.holds_zero l.invariant x _ c.loop-index-test.true refl (ne_eqb x slash w.if-octet-eq47.false)
-          (sym (ap (λ b. l.holds_zero || b) (ne_eqb x 0 w.if-octet-eq0.false) ∙ or_false l.holds_zero)))
+          (sym (ap (λ b. l.holds_zero || b) (ne_eqb x 0 w.if-octet-eq0.false) ∙ or-false l.holds_zero)))
     ]
 
 pub returns-in-Some-fault_at : goal.returns-in-Some-fault_at

@@ -1,6 +1,7 @@
-use Rattle.std.proofs.Common.{◌<◌, ◌≤◌, length, arith, ◌∙◌, ap}
+use Rattle.std.proofs.Common.{◌<◌, ◌≤◌, length, arith, sym, ◌∙◌, ap}
 use Rattle.std.specs.List.{slice_get}
-use Rattle.cfdp_actions.proofs.PresentLaws.{present_at, present_after}
+use Rattle.std.proofs.lemmas.Option.{slice_get_past}
+use Rattle.cfdp_actions.proofs.PresentLaws.{present_at}
 use Rattle.cfdp_actions.proofs.protected.Protected.get.Goals as goal
 
 pub returns : goal.returns
@@ -15,5 +16,5 @@ pub returns-in_err-get : goal.returns-in_err-get
 returns-in_err-get c =
     let items = c.self.inside.prefixes.items in
     let past : length items ≤ c.args.index = omega (arith, c.in_err-get.ensures.lookup.3, ap length c.as_slice.ensures.value) in
-    let none = present_after _ c.args.index (omega (arith, past, c.self.invariant)) in
+    let none = sym (slice_get_past _ c.args.index (omega (arith, past, c.self.invariant))) in
     rw c.from_residual.ensures (none ∙ ap (λ paths. slice_get paths c.args.index) c.self.view_is)
