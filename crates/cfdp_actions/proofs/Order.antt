@@ -32,9 +32,6 @@ pub node_at-becomes : (F : Filestore) (p : Path) (node : Option Node) (q : Path)
 node_at-becomes F p None q = get-remove path_cmp-total F.nodes p q
 node_at-becomes F p (Some n) q = get-insert path_cmp-total F.nodes p n q
 
-pub node_at-becomes_here : (F : Filestore) (p : Path) (node : Option Node) → node_at (changed F (Becomes p node)) p ≡ node
-node_at-becomes_here F p node = node_at-becomes F p node p ∙ ap (λ b. cond b node (node_at F p)) (same_path-refl p)
-
 pub node_at-becomes_apart : (F : Filestore) (p : Path) (node : Option Node) (q : Path) → same_path q p ≡ false → node_at (changed F (Becomes p node)) q
     ≡ node_at F q
 node_at-becomes_apart F p node q e = node_at-becomes F p node q ∙ ap (λ b. cond b node (node_at F q)) e

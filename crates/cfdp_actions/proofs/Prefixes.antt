@@ -2,15 +2,10 @@
 --     rebased-below, rebased_back, same_rebased    p/r to q/r and back
 --     length-parent
 use Rattle.std.proofs.Common.{◌≡◌, refl, sym, ◌∙◌, ap, true, suc, [], ◌∷◌, ◌++◌, length, drop}
-use Rattle.cfdp_paths.specs.Paths.{Name, Path, same_name, same_path, is_at_or_below, parent, rebased}
-use Rattle.std.specs.FinMap.{slice_cmp-IsAntisymmetric, nat_cmp-IsAntisymmetric}
-use Rattle.std.specs.Cmp.{Equal-is}
+use Rattle.cfdp_paths.specs.Paths.{Name, Path, same_path, is_at_or_below, parent, rebased}
 use Rattle.cfdp_actions.proofs.Order.{same_path-true, same_path-is}
 use Rattle.cfdp_actions.proofs.Truths.{by_truth}
 use Rattle.cfdp_paths.proofs.Below.{at_or_below-append, append_from_at_or_below}
-
-pub same_name-true : (m n : Name) → same_name m n ≡ true → m ≡ n
-same_name-true m n e = slice_cmp-IsAntisymmetric nat_cmp-IsAntisymmetric m n ((Equal-is _).0 e)
 
 pub below_root : (p : Path) → is_at_or_below p [] ≡ true
 below_root [] = refl

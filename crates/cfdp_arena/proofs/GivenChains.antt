@@ -5,6 +5,7 @@
 --     all_given, all_given_sound      the arena after it
 use Rattle.std.proofs.Common.{◌≡◌, ◌≢◌, ℕ, suc, zero, ◌+◌, ◌-◌, ◌<◌, ◌≤◌, List, [], ◌∷◌, ◌++◌, length, map, get_or, set, Option, Some, None, refl, sym, ap, ◌∙◌, subst, arith, length-set, length-append}
 use Rattle.std.proofs.lemmas.List.{get_or-set_same, get_or-set_other, set-set, map-set}
+use Rattle.std.proofs.lemmas.List.Elements.{All-tail}
 use Rattle.std.specs.Prelude.{All, AllPairs, unwrap_or}
 use Rattle.cfdp_arena.specs.Arena.{Blocks, octets_of, IsLive}
 use Rattle.cfdp_arena.specs.Chain.{chain_in}
@@ -36,9 +37,6 @@ first_absent x xs once = absent_from x xs (λ k d less. once 0 (suc k) d (omega 
 pub rest_once : (x : ℕ) (xs : List ℕ) → AllPairs (λ a b. a ≢ b) (x ∷ xs) → AllPairs (λ a b. a ≢ b) xs
 rest_once x xs once i j d less within = once (suc i) (suc j) d (omega (arith, less)) (omega (arith, within))
 
-pub rest_all : (P : ℕ → Type 0) (x : ℕ) (xs : List ℕ) → All P (x ∷ xs) → All P xs
-rest_all P x xs all k d less = all (suc k) d (omega (arith, less))
-
 apart-append : (capacity : ℕ) (xs ys : List ℕ) → All (λ b. b < capacity) xs → AllPairs (λ a b. a ≢ b) xs → All (λ b. IsAbsent b ys) xs →
     AreDistinctBlocks capacity ys →
     AreDistinctBlocks capacity (xs ++ ys)
@@ -46,7 +44,7 @@ apart-append capacity [] ys within once off ys_apart = ys_apart
 apart-append capacity (x ∷ xs) ys within once off ys_apart = (
   within 0 0 (omega arith),
   absent-append x xs ys (first_absent x xs once) (off 0 0 (omega arith)),
-  apart-append capacity xs ys (rest_all (λ b. b < capacity) x xs within) (rest_once x xs once) (rest_all (λ b. IsAbsent b ys) x xs off) ys_apart,
+  apart-append capacity xs ys (All-tail (λ b. b < capacity) x xs within) (rest_once x xs once) (All-tail (λ b. IsAbsent b ys) x xs off) ys_apart,
 )
 
 -- what is written to a block that is vacated is lost
@@ -89,7 +87,7 @@ module _ {blocks : List (List ℕ)} {free head : ℕ} {value : Blocks} (sound : 
         let same = ap link (get_or-set_other blocks last first written [] apart) ∙ link_is first here in
         ap (λ n. free_chain after n first) count
         ∙ ap (λ b. first ∷ free_chain after (suc n + free) b) same
-        ∙ ap (λ xs. first ∷ xs) (all_chain n next last (rest_all (IsLive value) first rest live) (rest_once first rest once) is)
+        ∙ ap (λ xs. first ∷ xs) (all_chain n next last (All-tail (IsLive value) first rest live) (rest_once first rest once) is)
 
   -- the whole chain, of at least one block
   module _ (count first last : ℕ) (some : 0 < count) (live : All (IsLive value) (chain_in value count first))

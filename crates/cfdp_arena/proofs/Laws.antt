@@ -1,16 +1,15 @@
 -- What callers may use of the words of `specs/Arena.antt`.
---     octets_at-..        a block after a block was set or freed
 --     length-..           the capacity stays
 --     live_count-..       how many blocks are live after that, or where the same are live
 --     free_count-..       how many are free after that
 --     ..-vacated          the same where several were freed
 use Rattle.std.proofs.Common.{◌≡◌, ◌≢◌, ℕ, suc, zero, ◌+◌, ◌<◌, ◌≤◌, List, [], ◌∷◌, length, Some, None, is_some, refl, sym, ap, subst, arith, length-set}
-use Rattle.std.proofs.lemmas.List.{get_or-set_same, get_or-set_other}
 use Rattle.std.specs.Prelude.{All, AllPairs, IsSome}
 use Rattle.cfdp_arena.specs.Arena.{Blocks, octets_at, IsLive, live_count, free_count, with_block, without_block}
 use Rattle.cfdp_arena.specs.FreeList.{vacated}
 use Rattle.cfdp_arena.proofs.Chains.{get_or-vacated}
-use Rattle.cfdp_arena.proofs.GivenChains.{absent_from, first_absent, rest_once, rest_all}
+use Rattle.std.proofs.lemmas.List.Elements.{All-tail}
+use Rattle.cfdp_arena.proofs.GivenChains.{absent_from, first_absent, rest_once}
 
 pub live_count-le : (arena : Blocks) → live_count arena ≤ length arena
 live_count-le [] = omega arith
@@ -50,11 +49,6 @@ live_count-same (Some x ∷ xs) (None ∷ ys) long same = (let e = same 0 in cc)
 live_count-same (None ∷ xs) (Some y ∷ ys) long same = (let e = same 0 in cc)
 
 module _ (arena : Blocks) (block : ℕ) (octets : List ℕ) where
-  pub octets_at-with_same : block < length arena → octets_at (with_block arena block octets) block ≡ Some octets
-  octets_at-with_same within = get_or-set_same arena block (Some octets) None within
-
-  pub octets_at-with_other : (other : ℕ) → other ≢ block → octets_at (with_block arena block octets) other ≡ octets_at arena other
-  octets_at-with_other other apart = get_or-set_other arena block other (Some octets) None apart
 
   pub length-with : length (with_block arena block octets) ≡ length arena
   length-with = length-set arena block (Some octets)
@@ -69,11 +63,6 @@ module _ (arena : Blocks) (block : ℕ) (octets : List ℕ) where
   free_count-written live = omega (arith, length-with, live_count-written arena block octets live)
 
 module _ (arena : Blocks) (block : ℕ) where
-  pub octets_at-without_same : block < length arena → octets_at (without_block arena block) block ≡ None
-  octets_at-without_same within = get_or-set_same arena block None None within
-
-  pub octets_at-without_other : (other : ℕ) → other ≢ block → octets_at (without_block arena block) other ≡ octets_at arena other
-  octets_at-without_other other apart = get_or-set_other arena block other None None apart
 
   pub length-without : length (without_block arena block) ≡ length arena
   length-without = length-set arena block None
@@ -90,4 +79,4 @@ pub free_count-vacated : (arena : Blocks) (xs : List ℕ) → All (IsLive arena)
 free_count-vacated arena [] live once = omega arith
 free_count-vacated arena (x ∷ xs) live once =
     let there : IsLive (vacated xs arena) x = subst IsSome (sym (get_or-vacated xs arena x (first_absent x xs once))) (live 0 0 (omega arith)) in
-    omega (arith, free_count-given (vacated xs arena) x there, free_count-vacated arena xs (rest_all (IsLive arena) x xs live) (rest_once x xs once))
+    omega (arith, free_count-given (vacated xs arena) x there, free_count-vacated arena xs (All-tail (IsLive arena) x xs live) (rest_once x xs once))

@@ -1,12 +1,11 @@
 -- A search that goes down a tree.
 --     Reached            the part of an order to which a search has come, and the node that it found before: the first
 --                        node after the wanted index is in the part, or else it is the one that was found
---     reach_begin        at the beginning
 --     reach_right        one step to the right
 --     reach_left         one step to the left
 --     reach_end          at an empty part
 --     first_left         the first node of a list, by that of its front
-use Rattle.std.proofs.Common.{◌≡◌, ℕ, List, [], ◌∷◌, ◌++◌, Option, Some, None, refl, sym, ap, ◌∙◌}
+use Rattle.std.proofs.Common.{◌≡◌, ℕ, List, [], ◌∷◌, ◌++◌, Option, Some, refl, sym, ap, ◌∙◌}
 use Rattle.std.specs.Prelude.{All, slice_get}
 use Rattle.std.specs.Option.{option_or}
 use Rattle.cfdp_order.proofs.SplitLaws.{split_right, split_left}
@@ -22,20 +21,6 @@ pub record Reached (P Q : ℕ → Type 0) (list : List ℕ) (found : Option ℕ)
 pub first_left : (l : List ℕ) (x : ℕ) (r : List ℕ) (found : Option ℕ) → option_or (slice_get l 0) (Some x) ≡ option_or (slice_get (l ++ x ∷ r) 0) found
 first_left [] x r found = refl
 first_left (y ∷ l) x r found = refl
-
-or_none : (o : Option ℕ) → option_or o None ≡ o
-or_none None = refl
-or_none (Some x) = refl
-
-pub reach_begin : (P Q : ℕ → Type 0) (list before after : List ℕ) → list ≡ before ++ after → All P before → All Q after → Reached P Q list None after
-reach_begin P Q list before after parted less rest = record {
-  front = before;
-  back = after;
-  parted = parted;
-  less = less;
-  rest = rest;
-  is = or_none (slice_get after 0);
-}
 
 pub reach_right : (P Q : ℕ → Type 0) (list l : List ℕ) (x : ℕ) (r : List ℕ) (found : Option ℕ) (after : List ℕ) → list ≡ l ++ x ∷ r → (Q x → ⊥) →
     Reached P Q list found after → Reached P Q r found after

@@ -4,10 +4,10 @@
 --     is_below-Decides                                     below: at or below, and another path
 --     parent-push, parent-take, parent_below, parent_other, below_parent, child_from_below, length-child, below_from_child
 --     ancestors-push, ancestors-take, ancestors-Contains, below_ancestor, ancestor_from_below
---     IsPath-take, IsPath-prefix, IsPath-rebased           paths made of paths
+--     IsPath-rebased                        paths made of paths
 --     rebased_depth                                        the depth of such a path
 --     path_cmp-below                                       a path is before what is below it
-use Rattle.std.proofs.Common.{◌≡◌, ◌≢◌, refl, sym, ◌∙◌, ap, subst, ℕ, zero, suc, ◌+◌, ◌-◌, ◌≤◌, ◌<◌, true, false, not, ◌⊎◌, ◌↔◌, inl, inr, List, [], ◌∷◌, ◌++◌, map, length, take, drop, arith, length-append, length-take, length-drop, take-append-drop, get_or, Some, None, Contains}
+use Rattle.std.proofs.Common.{◌≡◌, ◌≢◌, refl, sym, ◌∙◌, ap, subst, ℕ, zero, suc, ◌+◌, ◌-◌, ◌≤◌, ◌<◌, true, false, not, ◌⊎◌, ◌↔◌, inl, inr, List, [], ◌∷◌, ◌++◌, map, length, take, drop, arith, length-append, length-take, length-drop, take-append-drop, get_or, Some, Contains}
 use Rattle.std.specs.Bool.{Decides}
 use Rattle.std.specs.Cmp.{tied_itself}
 use Rattle.std.specs.Cmp.Lexicographic.{slice_cmp, nat_list_cmp_total}
@@ -16,7 +16,7 @@ use Rattle.std.specs.declared.cmp.Ordering.TheVariants.{Less, Equal}
 use Rattle.std.proofs.lemmas.Bool.{and_parts, and_from, true≢false}
 use Rattle.std.proofs.lemmas.Bool.Decides.{Decides-and, Decides-not}
 use Rattle.std.proofs.lemmas.List.{map-append, get_or-map, take_at, drop_at, take_more, length-map}
-use Rattle.std.proofs.lemmas.List.Elements.{All-take, All-drop, All-append}
+use Rattle.std.proofs.lemmas.List.Elements.{All-drop, All-append}
 use Rattle.cfdp_paths.specs.Paths.{Name, Path, IsName, IsPath, same_name, same_path, is_at_or_below, is_below, path_cmp, parent, unless_root, ancestors, rebased}
 use Rattle.cfdp_paths.proofs.Comparing.{same_name-Decides, same_path-Decides}
 
@@ -191,13 +191,6 @@ ancestors-Contains p q = (
 
 -- ---- paths made of paths
 
-pub IsPath-take : (p : Path) (n : ℕ) → 1 ≤ n → IsPath p → IsPath (take n p)
-IsPath-take p n h w = record {
-  some = omega (arith, length-take n p, w.some);
-  few = omega (arith, length-take n p, w.few);
-  names = All-take IsName n p w.names;
-}
-
 pub length-rebased : (p q x : Path) → length (rebased p q x) ≡ length q + (length x - length p)
 length-rebased p q x = omega (arith, length-append q (drop (length p) x), length-drop (length p) x)
 
@@ -212,14 +205,6 @@ IsPath-rebased p q x room above v w = record {
 pub rebased_depth : (own to from : ℕ) (x q p : Path) → length p ≤ length x → own ≡ length x → to ≡ length q → from ≡ length p → own + to - from
     ≡ length (rebased p q x)
 rebased_depth own to from x q p short own_is to_is from_is = omega (arith, length-rebased p q x, short, own_is, to_is, from_is)
-
--- a prefix of a path, the root apart, is a path
-pub IsPath-prefix : (p q : Path) → is_at_or_below p q ≡ true → q ≢ [] → IsPath p → IsPath q
-IsPath-prefix p [] h some w = absurd (some refl)
-IsPath-prefix p (n ∷ q) h some w =
-    let e : p ≡ (n ∷ q) ++ drop (length (n ∷ q)) p = append_from_at_or_below p (n ∷ q) h in
-    let front : take (length (n ∷ q)) p ≡ n ∷ q = ap (take (length (n ∷ q))) e ∙ take_at (n ∷ q) (drop (length (n ∷ q)) p) (length (n ∷ q)) refl in
-    subst IsPath front (IsPath-take p (length (n ∷ q)) (omega arith) w)
 
 -- ---- children
 
@@ -238,11 +223,6 @@ pub below_from_child : (p q : Path) → parent p ≡ q → is_at_or_below p q �
 below_from_child p q e = subst (λ x. is_at_or_below p x ≡ true) e (parent_at_or_below p)
 
 -- ---- the parent, the root apart
-
-pub unless_root-one : (p : Path) → length p ≡ 1 → None ≡ unless_root (parent p)
-unless_root-one [] one = refl
-unless_root-one (n ∷ []) one = refl
-unless_root-one (n ∷ m ∷ p) one = absurd (omega arith)
 
 pub unless_root-more : (p q : Path) → 1 ≤ length p → length p ≢ 1 → q ≡ take (length p - 1) p → Some q ≡ unless_root (parent p)
 unless_root-more [] q some more e = absurd (omega arith)
@@ -280,8 +260,3 @@ path_cmp-below (m ∷ p) (n ∷ q) h other =
 
 pub rebased-append : (p q r : Path) → rebased p q (p ++ r) ≡ q ++ r
 rebased-append p q r = ap (λ x. q ++ x) (drop_at p r (length p) refl)
-
-pub ancestors-some : (p : Path) → 2 ≤ length p → ancestors p ≢ []
-ancestors-some [] long none = absurd (omega arith)
-ancestors-some (n ∷ []) long none = absurd (omega arith)
-ancestors-some (n ∷ m ∷ p) long none = cc

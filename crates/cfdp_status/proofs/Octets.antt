@@ -1,4 +1,8 @@
--- Each status is in the table beside its own octet, and beside no other.
+-- Each status is in the table beside its own octet, whose high four bits are the code of its action.
+--     beside-octet_of        the status that is beside its own octet
+--     chosen                 which way a test went
+--     beside_all             what is beside a number has the property that each row has
+--     action_of-beside       the action of the status beside an octet
 use Rattle.std.proofs.Common.{◌≡◌, ◌⊎◌, ℕ, ◌/◌, Bool, true, false, cond, eqb, List, [], ◌∷◌, Some, refl, sym, subst, inl, inr}
 use Rattle.std.proofs.lemmas.Bool.{eqb-true}
 use Rattle.cfdp_status.specs.Codes.{beside, actions, status_octets, octet_of, action_of}
@@ -64,79 +68,6 @@ beside_all {A = A} P (row ∷ rows) number x all e =
           subst Q (sym number-is) (subst (λ (y : A). P row.0 y) x-is all.0)
       | inr there ↦ beside_all P rows number x all.1 there.1
     ]
-
--- the octet of a status of the table is the status's own
-pub octet_of-beside : (octet : ℕ) (status : Status) → beside status_octets octet ≡ Some status → octet ≡ octet_of status
-octet_of-beside octet status e = beside_all (λ n s. n ≡ octet_of s) status_octets octet status (
-  refl,
-  (
-    refl,
-    (
-      refl,
-      (
-        refl,
-        (
-          refl,
-          (
-            refl,
-            (
-              refl,
-              (
-                refl,
-                (
-                  refl,
-                  (
-                    refl,
-                    (
-                      refl,
-                      (
-                        refl,
-                        (
-                          refl,
-                          (
-                            refl,
-                            (
-                              refl,
-                              (
-                                refl,
-                                (
-                                  refl,
-                                  (
-                                    refl,
-                                    (
-                                      refl,
-                                      (
-                                        refl,
-                                        (
-                                          refl,
-                                          (
-                                            refl,
-                                            (
-                                              refl,
-                                              (refl, (refl, (refl, (refl, (refl, (refl, (refl, (refl, (refl, (refl, (refl, (refl, tt)))))))))))),
-                                            ),
-                                          ),
-                                        ),
-                                      ),
-                                    ),
-                                  ),
-                                ),
-                              ),
-                            ),
-                          ),
-                        ),
-                      ),
-                    ),
-                  ),
-                ),
-              ),
-            ),
-          ),
-        ),
-      ),
-    ),
-  ),
-) e
 
 -- the high four bits of an octet of the table are the code of the status's action
 pub action_of-beside : (octet : ℕ) (status : Status) → beside status_octets octet ≡ Some status → beside actions (octet / 16) ≡ Some (action_of status)

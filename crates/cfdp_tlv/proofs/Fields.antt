@@ -1,5 +1,5 @@
 -- An LV or TLV field that is read is spelled so, and one that is spelled so is read.
-use Rattle.std.proofs.Common.{◌≡◌, ℕ, ◌≤◌, List, [], ◌∷◌, ◌++◌, length, take, drop, false, ltb, Ok, refl, sym, ap, subst, ◌∙◌, arith}
+use Rattle.std.proofs.Common.{◌≡◌, ℕ, ◌≤◌, List, [], ◌∷◌, ◌++◌, length, take, drop, false, ltb, Ok, refl, sym, ap, subst, arith}
 use Rattle.std.proofs.lemmas.Bool.{ltb-false, le-ltb}
 use Rattle.std.proofs.lemmas.List.{take_at, drop_at, take-append-drop, length-append, length-take}
 use Rattle.cfdp_tlv.specs.declared.fault.TlvFault.TheVariants.{Truncated}
@@ -25,9 +25,6 @@ lv_again value rest =
     let long : ltb (length (value ++ rest)) (length value) ≡ false = le-ltb _ _ (omega (arith, length-append value rest)) in
     rw (long, take_at value rest (length value) refl, drop_at value rest (length value) refl) refl
 
-pub lv_is : (octets value rest : List ℕ) → octets ≡ lv value ++ rest → lv_at octets ≡ Ok (value, rest)
-lv_is octets value rest e = ap lv_at e ∙ lv_again value rest
-
 pub tlv_takes : (octets : List ℕ) (kind : ℕ) (value rest : List ℕ) → tlv_at octets ≡ Ok (kind, value, rest) → octets ≡ tlv kind value ++ rest
 unfolding tlv_at
 tlv_takes [] kind value rest e = absurd cc
@@ -40,6 +37,3 @@ tlv_takes (octet ∷ octets) kind value rest e =
 pub tlv_again : (kind : ℕ) (value rest : List ℕ) → tlv_at (tlv kind value ++ rest) ≡ Ok (kind, value, rest)
 unfolding tlv_at
 tlv_again kind value rest = rw (lv_again value rest) refl
-
-pub tlv_is : (octets : List ℕ) (kind : ℕ) (value rest : List ℕ) → octets ≡ tlv kind value ++ rest → tlv_at octets ≡ Ok (kind, value, rest)
-tlv_is octets kind value rest e = ap tlv_at e ∙ tlv_again kind value rest
