@@ -1,7 +1,7 @@
 -- What only the proofs of the code need of `Branches`.
 --     below_name n es, all_below cs     a tree one name further down;  those of branches, each below its name
---     branches_of v cs                      the tree of a branch with this value and these branches below
---     under_names cs                          branches by the path of their one name
+--     branches_of v cs                  the tree of a branch with this value and these branches below
+--     under_names cs                    branches by the path of their one name
 --     in_branch p o                     what is at p below a branch, if there is one
 --     IsOpened n cs ds                  the branches as they were, or with a new one for n, which had none
 --     IsReachedBy, AreLevels v cs i n   n is one more than the names to the deepest value, of v or below one of the
