@@ -1,33 +1,24 @@
 -- What is at a path of a branch, by its first name.
---     then-eq, same_path-name     two paths by their first names
+--     same_path-name, one_name    two paths by their first names
 --     find-below_name, find-joined, find-all_below      what is found below a name;  in one list or the other;  below all names
 --     grown                       after a change of one of the branches below
 use Rattle.std.proofs.Common.{◌≡◌, refl, sym, ◌∙◌, ap, subst, Bool, true, false, cond, ◌&&◌, Option, Some, None, List, [], ◌∷◌, ◌++◌}
+use Rattle.std.proofs.Math.Bool.{and-true}
 use Rattle.std.proofs.lemmas.Bool.{and_parts}
 use Rattle.std.specs.FinMap.{find, put, is_sorted}
 use Rattle.std.specs.FinMap.Entries.{below_all, find-put}
-use Rattle.std.specs.Ordering.{is_eq, ordering_then, eq_by_cmp}
-use Rattle.std.specs.declared.cmp.Ordering.{Ordering}
-use Rattle.std.specs.declared.cmp.Ordering.TheVariants.{Less, Equal, Greater}
+use Rattle.std.specs.Cmp.{tied_then}
+use Rattle.std.specs.Ordering.{eq_by_cmp}
 use Rattle.cfdp_paths.specs.Paths.{Name, Path, path_cmp, same_name}
 use Rattle.cfdp_paths.proofs.Comparing.{path_cmp-total, same_name-Decides}
 use Rattle.cfdp_paths.proofs.InOrder.{not_in, ordered-put}
 use Rattle.cfdp_branches.specs.code.Branches.{all_below, below_name, in_branch, under_names}
 
-pub then-eq : (a b : Ordering) → is_eq (ordering_then a b) ≡ (is_eq a && is_eq b)
-then-eq Less b = refl
-then-eq Equal b = refl
-then-eq Greater b = refl
-
 pub same_path-name : (m n : Name) (p q : Path) → eq_by_cmp path_cmp (m ∷ p) (n ∷ q) ≡ (same_name m n && eq_by_cmp path_cmp p q)
-same_path-name m n p q = then-eq _ _
-
-and_true : (b : Bool) → (b && true) ≡ b
-and_true true = refl
-and_true false = refl
+same_path-name m n p q = sym (tied_then _ _)
 
 pub one_name : (m n : Name) → eq_by_cmp path_cmp (m ∷ []) (n ∷ []) ≡ same_name m n
-one_name m n = same_path-name m n [] [] ∙ and_true _
+one_name m n = same_path-name m n [] [] ∙ and-true _
 
 module _ {X : Type 0} where
   abbrev pub or_else : Option X → Option X → Option X
