@@ -229,6 +229,7 @@ impl Filestore for TreeStore {
     }
 
     fn takes_no_memory(&self) -> bool {
+        // Read for the contract alone: it brings what is always true of the store.
         let _ = &self.arena;
         true
     }
