@@ -1,15 +1,14 @@
 -- The lists of the index.
 --     chain_more       a list's first node, and those after it
---     no_entry         what was denied
 --     own_first, rest_has                of all of its nodes, of the first one, and of those after it
 --     has_later, has_first, has_longer, chain_some     a node that is in it
 --     chain_one                a list of one node
 --     once_first               no node is in it twice
 --     kept_links               a list of nodes whose links have stayed
 --     kept_chain               a list without the node whose link has changed
-use Rattle.std.proofs.Common.{◌≡◌, ◌≢◌, ℕ, suc, zero, ◌<◌, List, [], ◌∷◌, length, get_or, refl, ap, ◌∙◌, subst, inl, inr, arith, Bool, false}
+use Rattle.std.proofs.Common.{◌≡◌, ◌≢◌, ℕ, suc, zero, ◌<◌, List, [], ◌∷◌, length, get_or, refl, ap, ◌∙◌, subst, inl, inr, arith}
 use Rattle.std.proofs.lemmas.Bool.{cases_eq}
-use Rattle.std.specs.Prelude.{All, AllPairs, Contains, IsTrue}
+use Rattle.std.specs.Prelude.{All, AllPairs, Contains}
 use Rattle.cfdp_arena.specs.Arena.{Blocks}
 use Rattle.cfdp_tree.specs.code.Tree.{node_fields_at}
 use Rattle.cfdp_tree.specs.code.Index.{index_chain}
@@ -28,9 +27,6 @@ rest_has b rest c has other = at_index has.0 has.1 has.2
     at_index : (k : ℕ) → k < length (b ∷ rest) → get_or (b ∷ rest) k c ≡ c → Contains rest c
     at_index zero within e = absurd (other e)
     at_index (suc k) within e = (k, omega arith, e)
-
-pub no_entry : {b : Bool} → IsTrue b → b ≡ false → ⊥
-no_entry is not = cc
 
 pub has_later : (b : ℕ) (rest : List ℕ) (c : ℕ) → Contains rest c → Contains (b ∷ rest) c
 has_later b rest c has = (suc has.0, omega arith, has.2)

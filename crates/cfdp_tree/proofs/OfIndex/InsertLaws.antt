@@ -7,6 +7,7 @@ use Rattle.std.proofs.lemmas.List.Elements.{All-cons, All-push, Contains-append_
 use Rattle.std.proofs.lemmas.List.Kept.{AllPairs-cons}
 use Rattle.std.proofs.lemmas.Bool.{cases_eq}
 use Rattle.std.specs.Prelude.{All, AllPairs, Contains, unwrap_or}
+use Rattle.std.proofs.lemmas.Option.{none-some, same_Some}
 use Rattle.cfdp_arena.specs.Arena.{Blocks, with_block}
 use Rattle.cfdp_tree.specs.declared.index.ListHead.{ListHead}
 use Rattle.cfdp_tree.specs.code.NodeFields.{node_fields_of, node_name}
@@ -16,12 +17,8 @@ use Rattle.cfdp_tree.proofs.OfNodes.EntryLaws.{kept_by}
 use Rattle.cfdp_tree.proofs.OfNodes.LinkLaws.{next_here, next_other}
 use Rattle.cfdp_tree.proofs.OfIndex.IndexLaws.{chain_more, has_later, has_first, kept_chain}
 use Rattle.cfdp_tree.proofs.OfIndex.HeadLaws.{once_last, head_kept, index_set}
-use Rattle.cfdp_tree.proofs.OfNodes.NodeLaws.{none_some}
 use Rattle.cfdp_arena.proofs.Laws.{live_count-written}
 use Rattle.cfdp_order.proofs.SplitLaws.{All_front}
-
-pub some_same : {x y : ℕ} → Some x ≡ Some y → x ≡ y
-some_same e = cc
 
 module _ (nodes : Blocks) (n b : ℕ) where
   -- it is apart from those that were in the index
@@ -29,10 +26,10 @@ module _ (nodes : Blocks) (n b : ℕ) where
   apart j xs own i d less e = (own i d less).inside (ap Some e)
 
   within_now : (j c : ℕ) → HasHead nodes (Some b) n j c → HasHead nodes None n j c
-  within_now j c was = record { node = was.node; bucket = was.bucket; inside = none_some }
+  within_now j c was = record { node = was.node; bucket = was.bucket; inside = none-some _ }
 
   within_then : (j c : ℕ) → c ≢ b → HasHead nodes None n j c → HasHead nodes (Some b) n j c
-  within_then j c other has = record { node = has.node; bucket = has.bucket; inside = (λ e. other (sym (some_same e))) }
+  within_then j c other has = record { node = has.node; bucket = has.bucket; inside = (λ e. other (sym (same_Some _ _ e))) }
 
   -- of another head
   other_head : (j c k : ℕ) → bucket_of (home nodes b) (name_at nodes b) n ≡ k → j ≢ k → HasHead nodes None n j c → c ≢ b
@@ -54,7 +51,7 @@ module _ (nodes : Blocks) (heads : Heads) (b k : ℕ) (within : k < length heads
   nodes_beside = sym (append_assoc (list_of nodes head) is_head.rest (b ∷ []))
 
   here : HasHead nodes None (length heads) k b
-  here = record { node = node; bucket = bucket; inside = none_some }
+  here = record { node = node; bucket = bucket; inside = none-some _ }
 
   has_all : (c : ℕ) → HasHead nodes None (length heads) k c → Contains (before ++ b ∷ []) c
   has_all c has = elim (cases_eq c b) [
@@ -106,13 +103,13 @@ module _ (nodes : Blocks) (heads : Heads) (b k : ℕ) (within : k < length heads
     buckets c = (λ i. bucket_of (homes c i) (names c i) (length heads))
 
     stays : (j c : ℕ) → HasHead nodes (Some b) (length heads) j c → HasHead new None (length heads) j c
-    stays j c was = record { node = somes c ∙ was.node; bucket = buckets c ∙ was.bucket; inside = none_some }
+    stays j c was = record { node = somes c ∙ was.node; bucket = buckets c ∙ was.bucket; inside = none-some _ }
 
     stood : (j c : ℕ) → c ≢ b → HasHead new None (length heads) j c → HasHead nodes (Some b) (length heads) j c
     stood j c other has = record {
       node = sym (somes c) ∙ has.node;
       bucket = sym (buckets c) ∙ has.bucket;
-      inside = (λ e. other (sym (some_same e)));
+      inside = (λ e. other (sym (same_Some _ _ e)));
     }
 
     -- the list of a head as it was
@@ -131,7 +128,7 @@ module _ (nodes : Blocks) (heads : Heads) (b k : ℕ) (within : k < length heads
     nodes_here = ap (λ xs. xs ++ is_head.rest) list_here
 
     here_listed : HasHead new None (length heads) k b
-    here_listed = record { node = somes b ∙ node; bucket = buckets b ∙ bucket; inside = none_some }
+    here_listed = record { node = somes b ∙ node; bucket = buckets b ∙ bucket; inside = none-some _ }
 
     has_listed : (c : ℕ) → HasHead new None (length heads) k c → Contains (b ∷ before) c
     has_listed c has = elim (cases_eq c b) [

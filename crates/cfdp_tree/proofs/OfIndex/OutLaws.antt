@@ -5,6 +5,7 @@
 use Rattle.std.proofs.Common.{◌≡◌, ◌≢◌, ℕ, suc, zero, ◌+◌, ◌<◌, List, [], ◌∷◌, length, get_or, Option, Some, None, refl, sym, ap, ◌∙◌, subst, arith}
 use Rattle.std.proofs.lemmas.List.{get_or-set_same, get_or-set_other, length-map}
 use Rattle.std.specs.Prelude.{IsSome, unwrap_or}
+use Rattle.std.proofs.lemmas.Option.{none-some, same_Some}
 use Rattle.cfdp_arena.specs.Arena.{Blocks, octets_at, octets_of, with_block, without_block, live_count}
 use Rattle.cfdp_arena.proofs.Chains.{live_within}
 use Rattle.cfdp_tree.specs.declared.index.ListHead.{ListHead}
@@ -16,8 +17,7 @@ use Rattle.cfdp_tree.proofs.OfIndex.IndexLaws.{kept_chain}
 use Rattle.cfdp_tree.proofs.OfIndex.HeadLaws.{head_kept}
 use Rattle.cfdp_arena.proofs.Laws.{live_count-written, live_count-given, live_count-taken, live_count-same}
 use Rattle.cfdp_order.proofs.SplitLaws.{All_front}
-use Rattle.cfdp_tree.proofs.OfIndex.InsertLaws.{some_same}
-use Rattle.cfdp_tree.proofs.OfNodes.NodeLaws.{none_some, no_live}
+use Rattle.cfdp_tree.proofs.OfNodes.NodeLaws.{no_live}
 
 module _ (old new : Blocks) (b : ℕ) (heads : Heads) (was now : Option ℕ) (others : (c : ℕ) → c ≢ b → octets_at new c ≡ octets_at old c)
     (was_out : IsNode old b → was ≡ Some b) (now_out : IsNode new b → now ≡ Some b) (was_no_other : (c : ℕ) → c ≢ b → was ≢ Some c) (no_other : (c : ℕ) → c
@@ -63,21 +63,21 @@ pub index_created : (old : Blocks) (heads : Heads) (b : ℕ) (block : List ℕ) 
     IsIndex (with_block old b block) heads (Some b)
 index_created old heads b block within free index =
     index_out old (with_block old b block) b heads None (Some b) (λ c other. get_or-set_other old b c (Some block) None other)
-    (λ node. absurd (no_live _ free node)) (λ node. refl) (λ c other. none_some) (λ c other e. other (sym (some_same e)))
+    (λ node. absurd (no_live _ free node)) (λ node. refl) (λ c other. none-some c) (λ c other e. other (sym (same_Some _ _ e)))
     (omega (arith, live_count-taken old b block within free)) index
 
 pub index_moved : (old : Blocks) (heads : Heads) (b : ℕ) (block : List ℕ) → IsNode old b → IsIndex old heads (Some b) →
     IsIndex (with_block old b block) heads (Some b)
 index_moved old heads b block node index =
     index_out old (with_block old b block) b heads (Some b) (Some b) (λ c other. get_or-set_other old b c (Some block) None other)
-    (λ node. refl) (λ node. refl) (λ c other e. other (sym (some_same e))) (λ c other e. other (sym (some_same e)))
+    (λ node. refl) (λ node. refl) (λ c other e. other (sym (same_Some _ _ e))) (λ c other e. other (sym (same_Some _ _ e)))
     (omega (arith, live_count-written old b block node)) index
 
 pub index_deleted : (old : Blocks) (heads : Heads) (b : ℕ) → IsNode old b → IsIndex old heads (Some b) → IsIndex (without_block old b) heads None
 index_deleted old heads b node index =
     index_out old (without_block old b) b heads (Some b) None (λ c other. get_or-set_other old b c None None other)
-    (λ was. refl) (λ left. absurd (no_live _ (get_or-set_same old b None None (live_within old b node)) left)) (λ c other e. other (sym (some_same e)))
-    (λ c other. none_some)
+    (λ was. refl) (λ left. absurd (no_live _ (get_or-set_same old b None None (live_within old b node)) left)) (λ c other e. other (sym (same_Some _ _ e)))
+    (λ c other. none-some c)
     (omega (arith, live_count-given old b node)) index
 
 pub nodes_long : (arena later : Blocks) → length later ≡ length arena → length (nodes_in later) ≡ length (nodes_in arena)

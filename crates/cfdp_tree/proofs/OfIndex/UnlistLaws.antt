@@ -1,19 +1,18 @@
 -- A node goes out of the index.
 --     removed      the index then
-use Rattle.std.proofs.Common.{◌≡◌, ◌≢◌, ℕ, ◌+◌, ◌<◌, ◌≤◌, List, ◌++◌, length, set, get_or, Some, None, true, false, sym, ap, ◌∙◌, subst, arith}
+use Rattle.std.proofs.Common.{◌≡◌, ◌≢◌, ℕ, ◌+◌, ◌<◌, ◌≤◌, List, ◌++◌, length, set, get_or, Some, None, true, sym, ap, ◌∙◌, subst, arith}
 use Rattle.std.proofs.lemmas.List.{length-append}
 use Rattle.std.proofs.lemmas.List.Elements.{All-filter, filter_passes, filter-append}
 use Rattle.std.proofs.lemmas.List.Kept.{AllPairs-filter}
-use Rattle.std.proofs.lemmas.Bool.{eq-eqb}
+use Rattle.std.proofs.lemmas.Bool.{eq-eqb, false≢true}
 use Rattle.std.specs.Prelude.{◌==◌, not, All, AllPairs, Contains}
+use Rattle.std.proofs.lemmas.Option.{none-some, same_Some}
 use Rattle.cfdp_arena.specs.Arena.{Blocks, live_count}
 use Rattle.cfdp_tree.specs.declared.index.ListHead.{ListHead}
 use Rattle.cfdp_tree.specs.code.Tree.{IsNode, name_at, home, SameEntries}
 use Rattle.cfdp_tree.specs.code.Index.{Heads, bucket_of, no_head, list_of, without_node, head_count, HasHead, IsHead, IsIndex}
 use Rattle.cfdp_tree.proofs.OfIndex.CutLaws.{without_has, length_without}
 use Rattle.cfdp_tree.proofs.OfIndex.HeadLaws.{length_chain, head_kept, index_set}
-use Rattle.cfdp_tree.proofs.OfIndex.InsertLaws.{some_same}
-use Rattle.cfdp_tree.proofs.OfNodes.NodeLaws.{none_some}
 
 module _ (nodes new : Blocks) (heads : Heads) (b k : ℕ) (within : k < length heads) (index : IsIndex nodes heads None) (node : IsNode nodes b) (head : ListHead)
     (bucket : bucket_of (home nodes b) (name_at nodes b) (length heads) ≡ k) (same : SameEntries nodes new) (small : head.first < 65536)
@@ -37,17 +36,14 @@ module _ (nodes new : Blocks) (heads : Heads) (b k : ℕ) (within : k < length h
   buckets c = (λ i. bucket_of (same.homes c i) (same.names c i) (length heads))
 
   stays : (j c : ℕ) → b ≢ c → HasHead nodes None (length heads) j c → HasHead new (Some b) (length heads) j c
-  stays j c other has = record { node = same.nodes c ∙ has.node; bucket = buckets c ∙ has.bucket; inside = (λ e. other (some_same e)) }
+  stays j c other has = record { node = same.nodes c ∙ has.node; bucket = buckets c ∙ has.bucket; inside = (λ e. other (same_Some _ _ e)) }
 
   stood : (j c : ℕ) → HasHead new (Some b) (length heads) j c → HasHead nodes None (length heads) j c
-  stood j c has = record { node = sym (same.nodes c) ∙ has.node; bucket = sym (buckets c) ∙ has.bucket; inside = none_some }
+  stood j c has = record { node = sym (same.nodes c) ∙ has.node; bucket = sym (buckets c) ∙ has.bucket; inside = none-some _ }
 
   -- the test that a node passes which stays
   passes : (c : ℕ) → not (c == b) ≡ true → b ≢ c
-  passes c pass e = differ (sym (ap not (eq-eqb c b (sym e))) ∙ pass)
-    where
-      differ : false ≡ true → ⊥
-      differ f = cc
+  passes c pass e = false≢true (sym (ap not (eq-eqb c b (sym e))) ∙ pass)
 
   own_here : All (HasHead new (Some b) (length heads) k) (without_node b before)
   own_here i d less =
@@ -60,7 +56,7 @@ module _ (nodes new : Blocks) (heads : Heads) (b k : ℕ) (within : k < length h
   -- one less
   rest_count : length (without_node b is_head.rest) ≡ head.unlisted
   rest_count =
-      let there = is_head.all b record { node = node; bucket = bucket; inside = none_some } in
+      let there = is_head.all b record { node = node; bucket = bucket; inside = none-some _ } in
       omega (
         arith,
         length_without b before is_head.once there,

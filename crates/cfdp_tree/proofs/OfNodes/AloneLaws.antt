@@ -12,20 +12,14 @@ use Rattle.cfdp_tree.specs.code.Kept.{Shows}
 use Rattle.cfdp_tree.specs.code.Orders.{in_order, IsInOrders}
 use Rattle.cfdp_tree.specs.code.Walk.{walks}
 use Rattle.cfdp_tree.specs.code.NodesBelow.{AreNodesBelow, shown_node}
-use Rattle.cfdp_tree.proofs.OfWalks.NodesBelowLaws.{nodes_from}
+use Rattle.cfdp_tree.proofs.OfWalks.NodesBelowLaws.{nodes_from, some_node}
 use Rattle.cfdp_tree.proofs.OfWalks.InOrderLaws.{found_tree}
 
 module _ (nodes : Blocks) (tree : IsTree nodes) (orders : Orders) (ordered : IsInOrders nodes orders None) where
-  some_node : (b d : ℕ) → IsNode nodes b → Some b ≡ Some d → IsNode nodes d
-  some_node b d node e = subst (IsNode nodes) (same e) node
-    where
-      same : Some b ≡ Some d → b ≡ d
-      same e = cc
-
   pub alone_below : (b : ℕ) → IsNode nodes b → in_order orders (Some b) ≡ [] → AreNodesBelow nodes (path_of_node nodes b) (b ∷ [])
   alone_below b node none =
       subst (λ (xs : List ℕ). AreNodesBelow nodes (path_of_node nodes b) (b ∷ walks orders (8 - length (path_of_node nodes b)) xs)) none
-      (nodes_from nodes tree orders ordered (Some b) (length (path_of_node nodes b)) (λ d e. some_node b d node e) refl)
+      (nodes_from nodes tree orders ordered (Some b) (length (path_of_node nodes b)) (some_node (IsNode nodes) b node) refl)
 
   pub alone_tree : (b : ℕ) (p : Path) → IsNode nodes b → path_of_node nodes b ≡ p → in_order orders (Some b) ≡ [] → (arena : Blocks) (F : Filestore) →
       Shows arena nodes F.nodes

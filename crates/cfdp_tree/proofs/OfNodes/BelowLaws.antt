@@ -8,6 +8,7 @@ use Rattle.std.proofs.lemmas.List.{take_all, take_at, take_more}
 use Rattle.std.specs.Prelude.{Contains}
 use Rattle.std.specs.FinMap as finite
 use Rattle.std.specs.FinMap.{get-empty, len-empty, empty_of_len, same_map}
+use Rattle.std.proofs.lemmas.Option.{none-some, same_Some}
 use Rattle.cfdp_paths.specs.Paths.{Path, path_cmp, is_below}
 use Rattle.cfdp_paths.proofs.Below.{is_below-Decides, append_from_at_or_below, at_or_below_from_append, length-at_or_below}
 use Rattle.cfdp_paths.proofs.Comparing.{path_cmp-total}
@@ -45,10 +46,7 @@ module _ (F : Filestore) (test : Path → Bool) where
           ∙ ap (λ b. cond b (node_at F q) None) passes ∙ e
 
       by_length : (n : ℕ) → finite.len passing ≡ n → not (finite.len passing == 0) ≡ true
-      by_length zero none = absurd (none_some (absent none))
-        where
-          none_some : {A : Type 0} {x : A} → None ≡ Some x → ⊥
-          none_some e = cc
+      by_length zero none = absurd (none-some node (absent none))
       by_length (suc n) some = ap (λ k. not (k == 0)) some ∙ some_more n
 
   pub has_none : ((q : Path) (node : Node) → node_at F q ≡ Some node → test q ≡ true → ⊥)
@@ -80,12 +78,9 @@ module _ (nodes : Blocks) (tree : IsTree nodes) where
         entry.0,
         entry.1,
         same_bucket nodes tree (home nodes entry.0) (Some b) (λ d there. (tree.homes entry.0 d entry.1 there).node)
-            (λ d is. subst (IsNode nodes) (some_same is) node) (same.0 ∙ sym way),
+            (λ d is. subst (IsNode nodes) (same_Some _ _ is) node) (same.0 ∙ sym way),
         entry.2,
       )
-    where
-      some_same : {x y : ℕ} → Some x ≡ Some y → x ≡ y
-      some_same e = cc
 
   -- an entry is below its directory
   pub below_by_entry : (b e : ℕ) → IsNode nodes e → home nodes e ≡ Some b → is_below (path_of_node nodes e) (path_of_node nodes b) ≡ true
@@ -128,12 +123,9 @@ module _ (nodes : Blocks) (tree : IsTree nodes) where
             let entry = member_at nodes orders None ordered (Some b) top there in
             entry_some top entry.node entry.there
 
-        none_is : {x : ℕ} → None ≡ Some x → ⊥
-        none_is e = cc
-
         pub order_none : (order_at orders (Some b)).height ≡ 0 → has_entries F p ≡ false
         order_none empty = entry_none (λ e entry there.
-            (let has = subst (λ x. Contains (in_order orders x) e) there (ordered.all e entry none_is) in
+            (let has = subst (λ x. Contains (in_order orders x) e) there (ordered.all e entry (none-some e)) in
             omega (arith, has.1, ap length (no_nodes orders.links.items (order_at orders (Some b)) empty))))
 
     pub absent_none : (p : Path) → 1 ≤ length p → ((b : ℕ) → IsNode nodes b → path_of_node nodes b ≡ p → ⊥) → has_entries F p ≡ false

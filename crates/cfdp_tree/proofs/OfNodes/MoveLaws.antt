@@ -4,9 +4,10 @@
 --     stayed_path       the others are where they were
 use Rattle.std.proofs.Common.{◌≡◌, ◌≢◌, ℕ, zero, suc, ◌+◌, ◌-◌, ◌≤◌, Bool, true, false, List, [], ◌∷◌, ◌++◌, length, length-append, take, drop, append_assoc, Option, Some, None, is_some, refl, sym, ap, ◌∙◌, subst, inl, inr, arith}
 use Rattle.std.proofs.lemmas.List.{get_or-set_other, take_at, drop_all, length-drop, append-nil}
-use Rattle.std.proofs.lemmas.Bool.{cases_eq}
+use Rattle.std.proofs.lemmas.Bool.{both_ways, cases_eq}
 use Rattle.std.specs.Option.{option_map_or}
 use Rattle.std.specs.Prelude.{unwrap_or}
+use Rattle.std.proofs.lemmas.Option.{same_Some}
 use Rattle.cfdp_paths.specs.Paths.{Name, Path, parent, is_at_or_below, rebased}
 use Rattle.cfdp_paths.proofs.Below.{at_or_below-itself, at_or_below-trans, at_or_below-append, length-at_or_below, is_below-Decides, below_parent, parent-take}
 use Rattle.cfdp_arena.specs.Arena.{Blocks, octets_at, octets_of, with_block}
@@ -29,9 +30,6 @@ drop_front : (k : ℕ) (xs ys : Path) → k ≤ length xs → drop k (xs ++ ys) 
 drop_front zero xs ys within = refl
 drop_front (suc k) [] ys within = absurd (omega arith)
 drop_front (suc k) (x ∷ xs) ys within = drop_front k xs ys (omega arith)
-
-pub true_false : {b : Bool} → b ≡ true → b ≡ false → ⊥
-true_false is not = cc
 
 module _ (old : Blocks) (b : ℕ) (block : List ℕ) (node : IsNode old b) (tree : IsTree old) (named : IsNamed block)
     (kind : kind_of_octet (node_fields_of block).kind ≡ kind_of_octet (node_fields_at old b).kind)
@@ -83,7 +81,7 @@ module _ (old : Blocks) (b : ℕ) (block : List ℕ) (node : IsNode old b) (tree
     where
       by_case : (below : Bool) → is_at_or_below x p ≡ below → is_at_or_below x p ≡ false
       by_case false e = e
-      by_case true e = absurd (true_false (at_or_below-trans (x ++ n ∷ []) x p (at_or_below-append x (n ∷ [])) e) outside)
+      by_case true e = absurd (both_ways _ outside (at_or_below-trans (x ++ n ∷ []) x p (at_or_below-append x (n ∷ [])) e))
 
   closed : (c d : ℕ) → Stays c → home old c ≡ Some d → Stays d
   closed c d stays there = record {
@@ -92,7 +90,7 @@ module _ (old : Blocks) (b : ℕ) (block : List ℕ) (node : IsNode old b) (tree
   }
 
   is_other : (c : ℕ) → Stays c → c ≢ b
-  is_other c stays e = true_false (ap (λ x. is_at_or_below x p) (ap (path_of_node old) e ∙ p_is) ∙ at_or_below-itself p) stays.outside
+  is_other c stays e = both_ways _ stays.outside (ap (λ x. is_at_or_below x p) (ap (path_of_node old) e ∙ p_is) ∙ at_or_below-itself p)
 
   climb_stays : (n c : ℕ) → Stays c → climb new n c ≡ climb old n c
   climb_stays = kept_climb old new Stays closed (λ c stays. home_other c (is_other c stays)) (λ c stays. name_other c (is_other c stays))
@@ -134,7 +132,7 @@ module _ (old : Blocks) (b : ℕ) (block : List ℕ) (node : IsNode old b) (tree
 
   way_below : (k c d : ℕ) → IsNode old c → c ≢ b → home old c ≡ Some d → length p ≤ length (path_of_node old d) → Way k d → Way (suc k) c
   way_below k c d was other there long way = (
-    (λ e at. subst (Ends new k) (some_same (sym there ∙ sym (home_other c other) ∙ at)) way.0),
+    (λ e at. subst (Ends new k) (same_Some _ _ (sym there ∙ sym (home_other c other) ∙ at)) way.0),
     (λ i. option_map_or (λ e. climb new k e) (home_other c other i) [] ++ name_other c other i ∷ [])
         ∙ ap (λ x. option_map_or (λ e. climb new k e) x [] ++ name_at old c ∷ []) there
         ∙ ap (λ x. x ++ name_at old c ∷ []) way.1
@@ -142,9 +140,6 @@ module _ (old : Blocks) (b : ℕ) (block : List ℕ) (node : IsNode old b) (tree
         ∙ ap (λ x. q ++ x) (sym (drop_front (length p) (path_of_node old d) (name_at old c ∷ []) long))
         ∙ ap (λ x. rebased p q x) (sym (under_home c d was there)),
   )
-    where
-      some_same : {x y : ℕ} → Some x ≡ Some y → x ≡ y
-      some_same e = cc
 
   some_q : 1 ≤ length q
   some_q = omega (arith, ap length q_is, length-append (path_at old (home_in b block)) (node_name block ∷ []))

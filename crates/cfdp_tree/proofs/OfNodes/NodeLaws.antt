@@ -3,7 +3,7 @@
 --     nodes-kept           a block that is no node is written, taken or given back
 --     node_only, nodes-noted       a node's block is written
 --     nodes-written        the same of a block of a run whose header stays
---     none_some, no_live   what is nothing is no value, and no live block
+--     no_live              what is nothing is no value, as a live block
 use Rattle.std.proofs.Common.{◌≡◌, ℕ, List, Option, Some, None, refl, sym, ap, ◌∙◌}
 use Rattle.std.proofs.Math.Seq.{map-set_same}
 use Rattle.std.proofs.lemmas.List.{map-set}
@@ -13,10 +13,7 @@ use Rattle.cfdp_tree.specs.code.Block.{block_header}
 use Rattle.cfdp_tree.specs.code.Nodes.{only_node, nodes_in}
 use Rattle.cfdp_tree.specs.code.Runs.{header_in, IsRunPart}
 
-pub none_some : {A : Type 0} {x : A} → None ≡ Some x → ⊥
-none_some e = cc
-
-pub no_live : (entry : Option (List ℕ)) → entry ≡ None → IsSome entry → ⊥
+pub no_live : {A : Type 0} (entry : Option A) → entry ≡ None → IsSome entry → ⊥
 no_live (Some x) e s = cc
 no_live None e s = cc
 

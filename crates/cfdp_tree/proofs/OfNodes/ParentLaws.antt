@@ -3,6 +3,7 @@
 --     parent_exists                     it is the root or a directory
 use Rattle.std.proofs.Common.{◌≡◌, ℕ, zero, suc, ◌+◌, true, not, length, take, Option, Some, None, refl, sym, ap, ◌∙◌, subst, ◌≤◌, arith}
 use Rattle.std.specs.Prelude.{IfSome, IfNone}
+use Rattle.std.proofs.lemmas.Option.{none-some, same_Some}
 use Rattle.cfdp_paths.specs.Paths.{Path}
 use Rattle.cfdp_arena.specs.Arena.{Blocks, octets_of}
 use Rattle.cfdp_actions.specs.declared.kind.Kind.{Kind}
@@ -15,7 +16,6 @@ use Rattle.cfdp_tree.specs.code.Kept.{file_of, Shows}
 use Rattle.cfdp_tree.specs.code.Directories.{path_at, IsAtPath}
 use Rattle.cfdp_tree.proofs.OfNodes.ClimbLaws.{some_path}
 use Rattle.cfdp_tree.proofs.OfStore.SeenLaws.{seen_parent, node_is_directory}
-use Rattle.cfdp_tree.proofs.OfIndex.InsertLaws.{some_same}
 
 directory_kind : (k : Kind) → not (is_file_kind k) ≡ true → k ≡ kind.Directory
 directory_kind kind.File directory = cc
@@ -43,14 +43,11 @@ module _ (arena nodes : Blocks) (tree : IsTree nodes) (F : Filestore) (shows : S
 
   exists : (n : ℕ) → n ≡ depth → (directory : Option ℕ) → Found directory → ((d : ℕ) → directory ≡ Some d → IsDirectory nodes d) ×
       (path_at nodes directory ≡ take depth path)
-  exists zero is None found = ((λ d e. absurd (none_some e)), ap (λ n. take n path) is)
-    where
-      none_some : {x : ℕ} → None ≡ Some x → ⊥
-      none_some e = cc
+  exists zero is None found = ((λ d e. absurd (none-some d e)), ap (λ n. take n path) is)
   exists zero is (Some b) found = absurd (some_path nodes tree b found.0 (found.1 ∙ sym (ap (λ n. take n path) is)))
   exists (suc n) is None found = absurd (no_directory (node_at F (take depth path))
       (λ node e. (let at = shows.only (take depth path) node e in found.2 at.0 at.1 at.2)) (good_node (omega (arith, is))))
-  exists (suc n) is (Some b) found = ((λ d e. subst (IsDirectory nodes) (some_same e) (of_node b (omega (arith, is)) found.0 found.1)), found.1)
+  exists (suc n) is (Some b) found = ((λ d e. subst (IsDirectory nodes) (same_Some _ _ e) (of_node b (omega (arith, is)) found.0 found.1)), found.1)
 
   module _ (directory : Option ℕ) (found : Found directory) where
     pub parent_directory : (d : ℕ) → directory ≡ Some d → IsDirectory nodes d

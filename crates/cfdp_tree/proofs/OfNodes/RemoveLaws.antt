@@ -7,6 +7,8 @@ use Rattle.std.proofs.lemmas.List.{get_or-set_same, get_or-set_other}
 use Rattle.std.specs.FinMap as finite
 use Rattle.std.specs.FinMap.{get-remove}
 use Rattle.std.specs.Prelude.{IsSome, unwrap_or}
+use Rattle.std.proofs.lemmas.Option.{none-some}
+use Rattle.std.proofs.lemmas.Bool.{both_ways}
 use Rattle.cfdp_paths.specs.Paths.{Path, path_cmp, same_path}
 use Rattle.cfdp_paths.proofs.Comparing.{same_path-Decides, path_cmp-total}
 use Rattle.cfdp_arena.specs.Arena.{Blocks, octets_at, octets_of, without_block}
@@ -17,7 +19,7 @@ use Rattle.cfdp_tree.specs.code.Tree.{IsNode, IsDirectory, name_at, home_in, hom
 use Rattle.cfdp_tree.specs.code.Kept.{node_of, Shows}
 use Rattle.cfdp_tree.proofs.OfNodes.TreeLaws.{same_node}
 use Rattle.cfdp_tree.proofs.OfNodes.EntryLaws.{kept_climb, kept_ends}
-use Rattle.cfdp_tree.proofs.OfNodes.NodeLaws.{no_live, none_some}
+use Rattle.cfdp_tree.proofs.OfNodes.NodeLaws.{no_live}
 
 module _ (old : Blocks) (b : ℕ) (node : IsNode old b) (tree : IsTree old) (childless : (c : ℕ) → IsNode old c → home old c ≡ Some b → ⊥) where
   abbrev new : Blocks
@@ -102,15 +104,12 @@ module _ (old : Blocks) (b : ℕ) (node : IsNode old b) (tree : IsTree old) (chi
     only_new : (q : Path) (here : Node) (same : Bool) → same_path q (path_of_node old b) ≡ same → without same (finite.get F q) ≡ Some here
         → (c : ℕ) × IsNode new c × (path_of_node new c ≡ q)
     unfolding without
-    only_new q here true is e = absurd (none_some e)
+    only_new q here true is e = absurd (none-some here e)
     only_new q here false is e =
         let there = shows.only q here e in
-        let other : there.0 ≢ b = λ same. differ (same_path q (path_of_node old b)) is
+        let other : there.0 ≢ b = λ same. both_ways (same_path q (path_of_node old b)) is
         ((same_path-Decides q (path_of_node old b)).1 (sym there.2 ∙ ap (path_of_node old) same)) in
         (there.0, subst IsSome (sym (at_other there.0 other)) there.1, left_path there.0 there.1 other ∙ there.2)
-      where
-        differ : (x : Bool) → x ≡ false → x ≡ true → ⊥
-        differ x is not = cc
 
     pub removed_shows : Shows later new (finite.remove F (path_of_node old b))
     removed_shows = record {

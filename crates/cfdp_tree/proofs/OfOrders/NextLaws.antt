@@ -14,6 +14,7 @@ use Rattle.std.specs.Ordering.{ordering_then, ordering_reverse}
 use Rattle.std.specs.Prelude.{All, Contains, IsSome}
 use Rattle.std.specs.declared.cmp.Ordering.{Ordering}
 use Rattle.std.specs.declared.cmp.Ordering.TheVariants.{Less, Equal, Greater}
+use Rattle.std.proofs.lemmas.Option.{none-some}
 use Rattle.cfdp_arena.specs.Arena.{Blocks}
 use Rattle.cfdp_paths.specs.Paths.{Name, Path, path_cmp, same_name, is_at_or_below}
 use Rattle.cfdp_paths.proofs.Below.{append_from_at_or_below, at_or_below_from_append, at_or_below-trans}
@@ -112,7 +113,7 @@ module _ (nodes : Blocks) (tree : IsTree nodes) (directory : Option ℕ) (a : Pa
       (above.0, entry_at nodes tree directory a m above.0 exists above.1 (above.2 ∙ front))
 
   member_of : (m : Name) (e : ℕ) → IsEntry nodes directory m e → IsMember nodes None directory e
-  member_of m e entry = record { node = entry.node; there = entry.there; listed = λ same. cc }
+  member_of m e entry = record { node = entry.node; there = entry.there; listed = none-some e }
 
   way_of : (e : ℕ) → IsMember nodes None directory e → path_of_node nodes e ≡ a ++ name_at nodes e ∷ []
   way_of e member = path_entry nodes tree directory a (name_at nodes e) e exists (record { node = member.node; there = member.there; named = refl })

@@ -12,6 +12,7 @@ use Rattle.std.specs.Cmp.Lexicographic.{nat_list_cmp_total}
 use Rattle.std.specs.Prelude.{All, AllPairs, Contains}
 use Rattle.std.specs.declared.cmp.Ordering.{Ordering}
 use Rattle.std.specs.declared.cmp.Ordering.TheVariants.{Less, Equal, Greater}
+use Rattle.std.proofs.lemmas.Option.{none-some, same_Some}
 use Rattle.cfdp_arena.specs.Arena.{Blocks}
 use Rattle.cfdp_arena.proofs.Chains.{live_within}
 use Rattle.cfdp_paths.specs.Paths.{Name}
@@ -29,7 +30,7 @@ use Rattle.cfdp_tree.specs.code.Tree.{IsNode, name_at, home, IsEntry, IsTree}
 use Rattle.cfdp_tree.specs.code.Entries.{IsMember}
 use Rattle.cfdp_tree.specs.code.Next.{name_cmp}
 use Rattle.cfdp_tree.specs.code.Orders.{order_at, in_order, Rises, IsInOrders}
-use Rattle.cfdp_tree.proofs.OfOrders.LeastLaws.{flipped}
+use Rattle.cfdp_tree.proofs.OfOrders.LeastLaws.{flipped, less_greater}
 use Rattle.cfdp_tree.proofs.OfOrders.SortLaws.{of_times, at_times, split_at, pairs_front, pairs_back, less_back, less_first, directory_cases}
 use Rattle.cfdp_tree.proofs.OfOrders.NextLaws.{name_antisym}
 
@@ -91,9 +92,6 @@ module _ (nodes : Blocks) (tree : IsTree nodes) (old : Orders) (directory : Opti
 
   within : b < length nodes
   within = live_within nodes b entry.node
-
-  some_same : {x y : ℕ} → Some x ≡ Some y → x ≡ y
-  some_same e = cc
 
   -- the orders of other directories, whose nodes are not in a list
   module _ (out : Option ℕ) (ordered : IsInOrders nodes old out) (links : List Links) (changed : List ℕ) (others : OtherLinksStay old.links.items links changed)
@@ -164,15 +162,15 @@ module _ (nodes : Blocks) (tree : IsTree nodes) (old : Orders) (directory : Opti
 
       own_now : All (IsMember nodes None directory) (before ++ b ∷ after)
       own_now = of_times (IsMember nodes None directory) (before ++ b ∷ after) (λ m some. elim (cases_eq b m) [
-        | inl e ↦ subst (IsMember nodes None directory) e (record { node = entry.node; there = entry.there; listed = λ e. cc })
+        | inl e ↦ subst (IsMember nodes None directory) e (record { node = entry.node; there = entry.there; listed = none-some _ })
         | inr other ↦ (let was = member_at nodes old (Some b) ordered directory m (omega (arith, some, count m, one_other b m other)) in
-            record { node = was.node; there = was.there; listed = λ e. cc })
+            record { node = was.node; there = was.there; listed = none-some _ })
       ])
 
       all_now : (c : ℕ) → IsNode nodes c → home nodes c ≡ directory → Contains (before ++ b ∷ after) c
       all_now c node there = times_contains (before ++ b ∷ after) c (elim (cases_eq b c) [
         | inl e ↦ (let one_is : one b c ≡ 1 = subst (λ x. one b x ≡ 1) e (one_self b) in omega (arith, count c, one_is))
-        | inr other ↦ (let was = contains_times list c (subst (λ q. Contains (in_order old q) c) there (ordered.all c node (λ e. other (some_same e)))) in
+        | inr other ↦ (let was = contains_times list c (subst (λ q. Contains (in_order old q) c) there (ordered.all c node (λ e. other (same_Some _ _ e)))) in
             omega (arith, count c, was))
       ])
 
@@ -181,8 +179,8 @@ module _ (nodes : Blocks) (tree : IsTree nodes) (old : Orders) (directory : Opti
           (ap (λ (ls : List Links). length ls) links_now ∙ others.long ∙ ordered.links) (long ∙ ordered.directories)
           (subst (λ (o : Order). IsOrder now.links.items o) (sym here) (subst (λ ls. IsOrder ls order) (sym links_now) is)) now_is
           (other_orders (Some b) ordered links (b ∷ list) others apart now links_now elsewhere)
-          own_now (λ p other m member. record { node = member.node; there = member.there; listed = λ e. cc }) rising_now
-          (λ c node listed there. all_now c node there) (λ c node listed other e. other (subst (λ x. home nodes x ≡ directory) (some_same e) entry.there))
+          own_now (λ p other m member. record { node = member.node; there = member.there; listed = none-some _ }) rising_now
+          (λ c node listed there. all_now c node there) (λ c node listed other e. other (subst (λ x. home nodes x ≡ directory) (same_Some _ _ e) entry.there))
 
   module _ (ordered : IsInOrders nodes old None) (links : List Links) (order : Order) (is : IsOrder links order)
       (removed : (before after : List ℕ) → in_order old directory ≡ before ++ b ∷ after → SplitsFrom (λ m. name_cmp (name_at nodes m) name) before after →
@@ -192,7 +190,7 @@ module _ (nodes : Blocks) (tree : IsTree nodes) (old : Orders) (directory : Opti
       ≡ order_at old p)
       (long : length now.directories.items ≡ length old.directories.items) where
     there_now : 1 ≤ times_in b list
-    there_now = contains_times list b (subst (λ q. Contains (in_order old q) b) entry.there (ordered.all b entry.node (λ e. cc)))
+    there_now = contains_times list b (subst (λ q. Contains (in_order old q) b) entry.there (ordered.all b entry.node (none-some _)))
 
     parts : (before : List ℕ) × (after : List ℕ) × (list ≡ before ++ b ∷ after)
     parts = split_at list b there_now
@@ -206,15 +204,12 @@ module _ (nodes : Blocks) (tree : IsTree nodes) (old : Orders) (directory : Opti
     rising_was : AllPairs (Rises nodes) (front ++ b ∷ back)
     rising_was = subst (AllPairs (Rises nodes)) parts.2 (ordered.rising directory)
 
-    less_greater : {o : Ordering} → o ≡ Greater → o ≡ Less → ⊥
-    less_greater e f = cc
-
     splits : SplitsFrom side front back
     splits = record {
       less = All-weaker (λ m. Rises nodes m b) (λ m. side m ≡ Less) (λ m less. subst (λ n. name_cmp (name_at nodes m) n ≡ Less) entry.named less) front
           (pairs_front (Rises nodes) front b back rising_was);
       rest = All-weaker (Rises nodes b) (λ m. side m ≢ Less)
-          (λ m less. less_greater (less_back name (name_at nodes m) (subst (λ n. name_cmp n (name_at nodes m) ≡ Less) entry.named less))) back
+          (λ m less e. less_greater e (less_back name (name_at nodes m) (subst (λ n. name_cmp n (name_at nodes m) ≡ Less) entry.named less))) back
           (pairs_back (Rises nodes) front b back rising_was);
     }
 
@@ -241,17 +236,17 @@ module _ (nodes : Blocks) (tree : IsTree nodes) (old : Orders) (directory : Opti
         record {
           node = was.node;
           there = was.there;
-          listed = λ e. absurd (let gone = subst (λ x. times_in x (front ++ back) ≡ 0) (some_same e) none_left in
+          listed = λ e. absurd (let gone = subst (λ x. times_in x (front ++ back) ≡ 0) (same_Some _ _ e) none_left in
               omega (arith, some, gone));
         })))
         (λ p other m member. record {
           node = member.node;
           there = member.there;
-          listed = λ e. other (sym member.there ∙ ap (home nodes) (sym (some_same e)) ∙ entry.there);
+          listed = λ e. other (sym member.there ∙ ap (home nodes) (sym (same_Some _ _ e)) ∙ entry.there);
         })
         (pairs_without (Rises nodes) front b back rising_was)
         (λ c node listed there. times_contains (front ++ back) c
-        (let was = contains_times list c (subst (λ q. Contains (in_order old q) c) there (ordered.all c node (λ e. cc))) in
+        (let was = contains_times list c (subst (λ q. Contains (in_order old q) c) there (ordered.all c node (none-some _))) in
         omega (arith, was, counted c, one_other b c (λ e. listed (ap Some e)))))
         (λ c node listed other e. cc)
 

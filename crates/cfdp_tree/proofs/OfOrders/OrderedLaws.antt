@@ -12,6 +12,7 @@ use Rattle.std.proofs.lemmas.List.{get_or-set_same, get_or-set_other}
 use Rattle.std.proofs.lemmas.List.Elements.{All-nil, All-weaker}
 use Rattle.std.specs.Prelude.{All, AllPairs, Contains, unwrap_or}
 use Rattle.std.specs.declared.cmp.Ordering.TheVariants.{Less}
+use Rattle.std.proofs.lemmas.Option.{none-some, same_Some}
 use Rattle.cfdp_arena.specs.Arena.{Blocks, octets_at, with_block, without_block}
 use Rattle.cfdp_arena.proofs.Chains.{live_within}
 use Rattle.cfdp_tree.specs.declared.orders.Orders.{Orders}
@@ -25,8 +26,7 @@ use Rattle.cfdp_tree.specs.code.Entries.{IsMember}
 use Rattle.cfdp_tree.specs.code.Next.{name_cmp, IsListOf}
 use Rattle.cfdp_tree.specs.code.Orders.{order_at, in_order, Rises, IsInOrders}
 use Rattle.cfdp_tree.proofs.OfStore.FileNodeLaws.{file_entries}
-use Rattle.cfdp_tree.proofs.OfIndex.InsertLaws.{some_same}
-use Rattle.cfdp_tree.proofs.OfNodes.NodeLaws.{none_some, no_live}
+use Rattle.cfdp_tree.proofs.OfNodes.NodeLaws.{no_live}
 
 pub record KeepsEntries (old new : Blocks) (out : Option ℕ) : Type 0 where
   pub nodes : (c : ℕ) → out ≢ Some c → is_some (octets_at new c) ≡ is_some (octets_at old c)
@@ -83,10 +83,10 @@ module _ (nodes : Blocks) (orders : Orders) (b : ℕ) (free : octets_at nodes b 
     directories = ordered.directories;
     order = ordered.order;
     own = (λ directory. All-weaker (IsMember nodes None directory) (IsMember nodes (Some b) directory)
-        (λ c member. record { node = member.node; there = member.there; listed = λ e. no_live _ free (subst (IsNode nodes) (sym (some_same e)) member.node) })
+        (λ c member. record { node = member.node; there = member.there; listed = λ e. no_live _ free (subst (IsNode nodes) (sym (same_Some _ _ e)) member.node) })
         (in_order orders directory) (ordered.own directory));
     rising = ordered.rising;
-    all = (λ c node listed. ordered.all c node none_some);
+    all = (λ c node listed. ordered.all c node (none-some c));
   }
 
   pub ordered_back : IsInOrders nodes orders (Some b) → IsInOrders nodes orders None
@@ -95,9 +95,9 @@ module _ (nodes : Blocks) (orders : Orders) (b : ℕ) (free : octets_at nodes b 
     directories = ordered.directories;
     order = ordered.order;
     own = (λ directory. All-weaker (IsMember nodes (Some b) directory) (IsMember nodes None directory)
-        (λ c member. record { node = member.node; there = member.there; listed = none_some }) (in_order orders directory) (ordered.own directory));
+        (λ c member. record { node = member.node; there = member.there; listed = none-some c }) (in_order orders directory) (ordered.own directory));
     rising = ordered.rising;
-    all = (λ c node listed. ordered.all c node (λ e. no_live _ free (subst (IsNode nodes) (sym (some_same e)) node)));
+    all = (λ c node listed. ordered.all c node (λ e. no_live _ free (subst (IsNode nodes) (sym (same_Some _ _ e)) node)));
   }
 
 pub ordered_made : (old : Blocks) (orders : Orders) (b : ℕ) (block : List ℕ) → octets_at old b ≡ None → IsInOrders old orders None →
@@ -120,7 +120,7 @@ pub listed_in : (nodes : Blocks) (orders : Orders) → IsInOrders nodes orders N
     (in_order orders directory)
 listed_in nodes orders ordered directory = record {
   own = ordered.own directory;
-  all = (λ b member. subst (λ p. Contains (in_order orders p) b) member.there (ordered.all b member.node none_some));
+  all = (λ b member. subst (λ p. Contains (in_order orders p) b) member.there (ordered.all b member.node (none-some b)));
 }
 
 -- the octets of a file change, and its block says so

@@ -20,6 +20,7 @@ use Rattle.std.specs.Ordering.{ordering_reverse}
 use Rattle.std.specs.Prelude.{All, AllPairs, Contains, IfSome, IfNone}
 use Rattle.std.specs.declared.cmp.Ordering.{Ordering}
 use Rattle.std.specs.declared.cmp.Ordering.TheVariants.{Less, Equal, Greater}
+use Rattle.std.proofs.lemmas.Option.{none-some, same_Some}
 use Rattle.cfdp_arena.specs.Arena.{Blocks}
 use Rattle.cfdp_paths.specs.Paths.{Name}
 use Rattle.cfdp_order.specs.Orders.{times_in, SplitsFrom, SplitsAfter}
@@ -79,15 +80,12 @@ module _ (nodes : Blocks) (name : Name) (list : List ℕ) (rising : AllPairs (Ri
 
 pub directory_cases : (p q : Option ℕ) → (p ≡ q) ⊎ (p ≢ q)
 directory_cases None None = inl refl
-directory_cases None (Some d) = inr (λ e. cc)
-directory_cases (Some c) None = inr (λ e. cc)
+directory_cases None (Some d) = inr (none-some d)
+directory_cases (Some c) None = inr (λ e. none-some c (sym e))
 directory_cases (Some c) (Some d) = elim (cases_eq c d) [
   | inl e ↦ inl (ap Some e)
-  | inr other ↦ inr (λ e. other (same e))
+  | inr other ↦ inr (λ e. other (same_Some c d e))
 ]
-  where
-    same : Some c ≡ Some d → c ≡ d
-    same e = cc
 
 module _ (nodes : Blocks) (list : List ℕ) (rising : AllPairs (Rises nodes) list) where
   abbrev Upto : ℕ → ℕ → Type 0
@@ -180,13 +178,10 @@ module _ (nodes : Blocks) (list : List ℕ) (rising : AllPairs (Rises nodes) lis
   other_from b found other = subst None-named (sym is) (All-append (λ e. name_at nodes e ≡ name → ⊥) before after front_other
       (go after (subst (AllPairs (Rises nodes)) is rising) splits.rest found))
     where
-      same : {x y : ℕ} → Some x ≡ Some y → x ≡ y
-      same e = cc
-
       go : (l : List ℕ) → AllPairs (Rises nodes) (before ++ l) → All (λ m. name_cmp (name_at nodes m) name ≢ Less) l → slice_get l 0 ≡ Some b → None-named l
       go [] pairs rest e = All-nil (λ e. name_at nodes e ≡ name → ⊥)
       go (x ∷ l) pairs rest e =
-          All-cons (λ e. name_at nodes e ≡ name → ⊥) x l (subst (λ y. name_at nodes y ≡ name → ⊥) (sym (same e)) other)
+          All-cons (λ e. name_at nodes e ≡ name → ⊥) x l (subst (λ y. name_at nodes y ≡ name → ⊥) (sym (same_Some x b e)) other)
           (All-weaker (Rises nodes x) (λ e. name_at nodes e ≡ name → ⊥)
           (λ e less named. All-head (λ m. name_cmp (name_at nodes m) name ≢ Less) x l rest (subst (λ n. name_cmp (name_at nodes x) n ≡ Less) named less)) l
           (pairs_back (Rises nodes) before x l pairs))
@@ -195,8 +190,5 @@ module _ (nodes : Blocks) (list : List ℕ) (rising : AllPairs (Rises nodes) lis
   there_from b found = contains_times list b (subst (λ l. Contains l b) (sym is) (Contains-append_right before after b (first after found)))
     where
       first : (l : List ℕ) → slice_get l 0 ≡ Some b → Contains l b
-      first [] e = cc
-      first (x ∷ l) e = (0, omega arith, same e)
-        where
-          same : Some x ≡ Some b → x ≡ b
-          same e = cc
+      first [] e = absurd (none-some b e)
+      first (x ∷ l) e = (0, omega arith, same_Some x b e)

@@ -6,6 +6,7 @@ use Rattle.std.proofs.Common.{◌≡◌, ◌≢◌, ℕ, suc, ◌+◌, ◌-◌, 
 use Rattle.std.proofs.lemmas.List.{get_or-set_same, get_or-set_other, set-set}
 use Rattle.std.proofs.lemmas.Bool.{cases_eq}
 use Rattle.std.specs.Prelude.{IsSome}
+use Rattle.std.proofs.lemmas.Option.{same_Some}
 use Rattle.cfdp_arena.specs.Arena.{Blocks, octets_at, IsLive, with_block, free_count}
 use Rattle.cfdp_arena.specs.Blocks.{blank_block}
 use Rattle.cfdp_arena.proofs.Chains.{live_within}
@@ -170,12 +171,9 @@ module _ (arena begun : Blocks) (block : ℕ) (free : octets_at arena block ≡ 
       pub grown_size : length grown ≡ length arena
       grown_size = length-set begun run.last (Some new) ∙ ap length begun_is ∙ length-set arena block (Some fresh)
 
-some_same : {x y : List ℕ} → Some x ≡ Some y → x ≡ y
-some_same e = cc
-
 -- what a taken block holds
 pub taken_octets : (arena : Blocks) (block : ℕ) (o p : List ℕ) → block < length arena → octets_at (with_block arena block o) block ≡ Some p → p ≡ o
-taken_octets arena block o p inside e = some_same (sym e ∙ get_or-set_same arena block (Some o) None inside)
+taken_octets arena block o p inside e = same_Some _ _ (sym e ∙ get_or-set_same arena block (Some o) None inside)
 
 -- and once it is written
 pub taken_written : (arena taken : Blocks) (block : ℕ) (o p : List ℕ) → taken ≡ with_block arena block o → with_block taken block p ≡ with_block arena block p

@@ -7,7 +7,7 @@
 --     drop_view, drop_store                 the store once it is given back
 use Rattle.std.proofs.Common.{◌≡◌, ◌≢◌, ℕ, ◌+◌, ◌-◌, ◌≤◌, true, false, not, List, [], ◌∷◌, ◌++◌, length, length-append, map, get_or, Option, Some, None, refl, sym, ap, ◌∙◌, subst, inl, inr, arith}
 use Rattle.std.proofs.lemmas.List.{get_or-set_same, get_or-set_other, get_or-append_right, get_or_append_left, get_or_past}
-use Rattle.std.proofs.lemmas.Bool.{cases_eq, cases_lt}
+use Rattle.std.proofs.lemmas.Bool.{both_ways, cases_eq, cases_lt}
 use Rattle.std.specs.FinMap as finite
 use Rattle.std.specs.Prelude.{IsSome, IfNone}
 use Rattle.cfdp_paths.specs.Paths.{Name, Path, path_cmp}
@@ -43,7 +43,7 @@ use Rattle.cfdp_tree.proofs.OfNodes.RemoveLaws.{removed_tree, removed_shows}
 use Rattle.cfdp_tree.proofs.OfIndex.OutLaws.{index_deleted}
 use Rattle.cfdp_tree.proofs.OfStore.AlikeLaws.{Alike, alike_relinked, alike_node, node_by_contents, alike_shows, held_is}
 use Rattle.cfdp_tree.proofs.OfStore.ChangedLaws.{IsLeft, nodes_seen, nodes_store}
-use Rattle.cfdp_tree.proofs.OfNodes.MoveLaws.{true_false}
+use Rattle.cfdp_tree.proofs.OfNodes.NodeLaws.{no_live}
 
 node_weight : (arena : Blocks) (k : Kind) (fields : NodeFields) → length (contents_in arena (contents_of_fields k fields)) ≡ (contents_of_fields k fields).size
     → weight (Some (node_with arena k (contents_of_fields k fields))) ≡ 1 + blocks_of (contents_of_fields k fields).size
@@ -71,10 +71,7 @@ module _ (arena : Blocks) (heads : Heads) (slots : List Slot) {ways : List Way} 
     (view : store_of arena (lists_staged slots) ≡ now) where
   pub seen_found : (p : Path) (found : Option ℕ) → IfNone found ((b : ℕ) → IsNode (nodes_in arena) b → path_of_node (nodes_in arena) b ≡ p → ⊥) →
       IsSome (node_at now.filestore p) → IsSome found
-  seen_found p None none some = absurd (none_is (seen_none arena heads slots store now view p none) some)
-    where
-      none_is : {o : Option Node} → o ≡ None → IsSome o → ⊥
-      none_is absent is = cc
+  seen_found p None none some = absurd (no_live _ (seen_none arena heads slots store now view p none) some)
   seen_found p (Some b) none some = refl
 
 module _ (arena : Blocks) (heads : Heads) (slots : List Slot) {ways : List Way} (store : IsStore arena ways heads slots) (now : Store)
@@ -101,7 +98,7 @@ module _ (arena : Blocks) (heads : Heads) (slots : List Slot) {ways : List Way} 
       let above = store.kept.tree.homes c b inside there in
       let k = kind_of_octet (node_fields_of (octets_of nodes b)).kind in
       let directory = ap is_directory at ∙ node_is_directory arena k (file_of (octets_of nodes b)) ∙ ap (λ x. not (is_file_kind x)) above.directory in
-      true_false (entry_some nodes store.kept.tree arena now.filestore seen b path node way c inside there) (childless directory)
+      both_ways _ (childless directory) (entry_some nodes store.kept.tree arena now.filestore seen b path node way c inside there)
 
   held_there : get_or (holdings nodes staged) (length staged + b) no_contents ≡ held
   held_there = held_at arena heads slots store now view b

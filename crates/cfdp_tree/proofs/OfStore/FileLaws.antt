@@ -11,7 +11,7 @@ use Rattle.std.proofs.lemmas.List.{map-set, set-append_right, get_or_append_left
 use Rattle.std.proofs.lemmas.Bool.{cases_eq}
 use Rattle.std.specs.FinMap as finite
 use Rattle.std.specs.FinMap.{get-insert}
-use Rattle.std.specs.Prelude.{All, IsSome, unwrap_or}
+use Rattle.std.specs.Prelude.{All, unwrap_or}
 use Rattle.cfdp_paths.specs.Paths.{Path, same_path}
 use Rattle.cfdp_paths.proofs.Comparing.{same_path-Decides, path_cmp-total}
 use Rattle.cfdp_arena.specs.Arena.{Blocks, octets_at, octets_of, free_count, with_block}
@@ -41,6 +41,7 @@ use Rattle.cfdp_tree.proofs.OfRuns.WayLaws.{same_ways, ways_still}
 use Rattle.cfdp_tree.proofs.OfRuns.ContentsLaws.{length-contents, none_filled, none_contents, none_sum as none_summed, stays_filled, stays_contents}
 use Rattle.cfdp_tree.proofs.OfNodes.TreeLaws.{same_node}
 use Rattle.cfdp_tree.proofs.OfNodes.EntryLaws.{same_paths, same_tree}
+use Rattle.cfdp_tree.proofs.OfStore.AlikeLaws.{held_is}
 use Rattle.cfdp_tree.proofs.OfStore.ShowLaws.{tree_shows, shown_same}
 use Rattle.cfdp_tree.proofs.OfStore.StoredLaws.{stored_changed, stored_others, spared as run_spared}
 use Rattle.cfdp_tree.proofs.OfStore.SeenLaws.{shows, seen_node, seen_blocks, mapped_at, held_at}
@@ -83,10 +84,6 @@ pub all_maps : {A B : Type 0} (f g : A → B) (xs : List A) (d : A) → ((j : �
 all_maps f g [] d same = refl
 all_maps f g (x ∷ xs) d same = (λ k. same 0 (omega arith) k ∷ all_maps f g xs d (λ j within. same (suc j) (omega arith)) k)
 
-pub some_is : (o : Option (List ℕ)) → IsSome o → file_in o ≡ file_of (unwrap_or o [])
-some_is None some = cc
-some_is (Some block) some = refl
-
 file_by_node : (arena : Blocks) (k : Kind) (contents : Contents) → is_file (Some (node_with arena k contents)) ≡ true → k ≡ kind.File
 file_by_node arena kind.File contents file = refl
 file_by_node arena kind.Directory contents file = cc
@@ -117,7 +114,7 @@ module _ (arena : Blocks) (heads : Heads) (slots : List Slot) {ways : List Way} 
 
   pub held_here : get_or held (length staged + b) no_contents ≡ before
   held_here =
-      held_at arena heads slots store now view b ∙ some_is (octets_at nodes b) node
+      held_at arena heads slots store now view b ∙ sym (held_is (octets_at nodes b) node)
       ∙ ap (λ k. contents_of_fields k (node_fields_at nodes b)) kind_there
 
   pub file_filled : IsFilled arena before
@@ -128,7 +125,7 @@ module _ (arena : Blocks) (heads : Heads) (slots : List Slot) {ways : List Way} 
 
   -- another file's octets
   pub held_other : (c : ℕ) → IsNode nodes c → get_or held (length staged + c) no_contents ≡ file_of (octets_of nodes c)
-  held_other c other = held_at arena heads slots store now view c ∙ some_is (octets_at nodes c) other
+  held_other c other = held_at arena heads slots store now view c ∙ sym (held_is (octets_at nodes c) other)
 
   -- its block is written
   module _ (later : Blocks) (contents : Contents) (written : List ℕ) (fields : node_fields_of written ≡ with_contents (node_fields_at nodes b) contents)

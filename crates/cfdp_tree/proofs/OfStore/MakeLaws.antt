@@ -8,6 +8,7 @@ use Rattle.std.proofs.lemmas.Bool.{cases_eq}
 use Rattle.std.proofs.Math.ListN.{get_or-map}
 use Rattle.std.specs.FinMap as finite
 use Rattle.std.specs.Prelude.{IsSome, IfSome, IfNone, unwrap_or}
+use Rattle.std.proofs.lemmas.Option.{none-some}
 use Rattle.cfdp_paths.specs.Paths.{Name, Path, IsName, IsPath}
 use Rattle.cfdp_arena.specs.Arena.{Blocks, octets_at, octets_of, with_block, free_count}
 use Rattle.cfdp_actions.specs.declared.kind.Kind.{Kind}
@@ -39,7 +40,6 @@ use Rattle.cfdp_tree.proofs.OfNodes.AddLaws.{added_tree, added_path, added_shows
 use Rattle.cfdp_tree.proofs.OfIndex.OutLaws.{index_created}
 use Rattle.cfdp_tree.proofs.OfStore.AlikeLaws.{Alike, alike_relinked, node_by_contents, alike_shows}
 use Rattle.cfdp_tree.proofs.OfStore.ChangedLaws.{IsLeft, list_held, file_held, nodes_seen, nodes_store}
-use Rattle.cfdp_tree.proofs.OfNodes.NodeLaws.{none_some}
 
 plain_file : (parent : ℕ) (k : Kind) (name : Name) → contents_of_fields (kind_of_octet (plain_fields parent k name).kind) (plain_fields parent k name)
     ≡ no_contents
@@ -92,7 +92,7 @@ module _ (arena : Blocks) (heads : Heads) (slots : List Slot) {ways : List Way} 
   pub entry_none : node_at now.filestore path ≡ None → (c : ℕ) → IsEntry nodes directory name c → ⊥
   entry_none absent c entry =
       let way = path_entry nodes store.kept.tree directory (take depth path) name c exists entry ∙ path_is in
-      none_some (sym absent ∙ ap (node_at now.filestore) (sym way) ∙ (shows arena heads slots store now view).each c entry.node)
+      none-some _ (sym absent ∙ ap (node_at now.filestore) (sym way) ∙ (shows arena heads slots store now view).each c entry.node)
 
   module _ (absent : node_at now.filestore path ≡ None) (one : Blocks) (b : ℕ) (k : Kind) (free : octets_at arena b ≡ None) (within : b < length arena)
       (one_is : nodes_in one ≡ with_block nodes b (octets_of (nodes_in one) b)) (fields : node_fields_of (octets_of (nodes_in one) b)

@@ -10,6 +10,7 @@ use Rattle.std.proofs.lemmas.Bool.{cases_lt}
 use Rattle.std.specs.FinMap as finite
 use Rattle.std.specs.FinMap.{get-empty, len-empty, len-entries}
 use Rattle.std.specs.Prelude.{All}
+use Rattle.std.proofs.lemmas.Option.{none-some}
 use Rattle.cfdp_paths.specs.Paths.{Path, path_cmp}
 use Rattle.cfdp_arena.specs.Arena.{Blocks, octets_at, all_free, live_count}
 use Rattle.cfdp_actions.specs.Filestore.{Node, empty_filestore, weights, blocks, blocks_of}
@@ -32,7 +33,7 @@ use Rattle.cfdp_tree.proofs.OfRuns.ContentsLaws.{none_filled}
 use Rattle.cfdp_tree.proofs.OfStore.SlotCursors.{slot_starts}
 use Rattle.cfdp_tree.proofs.OfRuns.WayLaws.{ways_none}
 use Rattle.cfdp_tree.proofs.OfStore.ShowLaws.{tree_shows, shown_same}
-use Rattle.cfdp_tree.proofs.OfNodes.NodeLaws.{none_some, no_live}
+use Rattle.cfdp_tree.proofs.OfNodes.NodeLaws.{no_live}
 
 pub head_none : (head : ListHead) → head.first ≡ 0 → head.listed ≡ 0 → head.unlisted ≡ 0 → head ≡ no_head
 head_none head first listed unlisted = (λ k. record { first = first k; listed = listed k; unlisted = unlisted k })
@@ -164,7 +165,7 @@ module _ (n : ℕ) (some : 1 ≤ n) (few : n ≤ 65536) (heads : List ListHead) 
     }
 
   none_shown : Shows arena nodes (finite.empty {R = path_cmp})
-  none_shown = record { each = (λ b node. absurd (no_node b node)); only = (λ p node e. absurd (none_some (sym (get-empty path_cmp p) ∙ e))) }
+  none_shown = record { each = (λ b node. absurd (no_node b node)); only = (λ p node e. absurd (none-some _ (sym (get-empty path_cmp p) ∙ e))) }
 
   lists_are : map (contents_in arena) staged ≡ replicate 64 []
   lists_are = ap (map (contents_in arena)) staged_are ∙ mapped (contents_in arena) 64 no_contents

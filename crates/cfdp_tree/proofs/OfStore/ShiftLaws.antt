@@ -37,12 +37,12 @@ use Rattle.cfdp_tree.proofs.OfNodes.EntryLaws.{at_b, kept_by, same_paths, same_t
 use Rattle.cfdp_tree.proofs.OfNodes.ParentLaws.{parent_directory, parent_exists}
 use Rattle.cfdp_tree.proofs.OfNodes.RootedLaws.{tree_rooted}
 use Rattle.cfdp_tree.proofs.OfStore.MakeLaws.{path_is, name_good, entry_none}
-use Rattle.cfdp_tree.proofs.OfNodes.MoveLaws.{moved_tree, moved_path, stayed_path, true_false}
+use Rattle.cfdp_tree.proofs.OfNodes.MoveLaws.{moved_tree, moved_path, stayed_path}
 use Rattle.cfdp_tree.proofs.OfIndex.OutLaws.{index_moved}
 use Rattle.cfdp_tree.proofs.OfStore.AlikeLaws.{Alike, alike_node, alike_directory, node_by_contents, alike_shows, held_is}
 use Rattle.cfdp_tree.proofs.OfStore.ChangedLaws.{IsLeft, list_held, file_held, nodes_seen, nodes_store}
-use Rattle.cfdp_tree.proofs.OfNodes.NodeLaws.{none_some}
-use Rattle.std.proofs.lemmas.Bool.{or_parts}
+use Rattle.std.proofs.lemmas.Bool.{both_ways, false≢true, or_parts}
+use Rattle.std.proofs.lemmas.Option.{none-some}
 
 -- the depth
 
@@ -51,7 +51,7 @@ few_names n few = grind (arith, nat_tests, few)
 
 pub shallow_each : (p q : Path) (es : List (Path × Node)) (x : Path) → is_some (find path_cmp x es) ≡ true → is_too_deep p q es ≡ false →
     length (rebased p q x) ≤ 8
-shallow_each p q [] x found shallow = absurd (true_false found refl)
+shallow_each p q [] x found shallow = absurd (false≢true found)
 shallow_each p q (e ∷ es) x found shallow = by_same (same_path x e.0) refl (shallow_each p q es x)
   where
     parts : (nat_lt 8 (length (rebased p q e.0)) ≡ false) × (is_too_deep p q es ≡ false)
@@ -101,7 +101,7 @@ module _ (arena : Blocks) (heads : Heads) (slots : List Slot) {ways : List Way} 
   pub directory_other : directory ≢ Some b
   directory_other e =
       let above : take depth q ≡ p = sym exists.path ∙ ap (path_at nodes) e ∙ way in
-      true_false (at_or_below_from_append q p (name ∷ []) (sym whole ∙ ap (λ x. x ++ name ∷ []) above)) apart
+      both_ways _ apart (at_or_below_from_append q p (name ∷ []) (sym whole ∙ ap (λ x. x ++ name ∷ []) above))
 
   -- it is out of its lists
   module _ (two : Blocks) (same : Alike nodes (nodes_in two)) where
@@ -248,7 +248,7 @@ module _ (arena : Blocks) (heads : Heads) (slots : List Slot) {ways : List Way} 
 
         -- a path at which something exists is not at or below the new path
         not_there : (x : Path) (here : Node) → node_at F x ≡ Some here → (below : Bool) → is_at_or_below x q ≡ below → is_at_or_below x q ≡ false
-        not_there x here e true below = absurd (none_some (sym (nothing_there F p q rooted some_q absent x below) ∙ e))
+        not_there x here e true below = absurd (none-some _ (sym (nothing_there F p q rooted some_q absent x below) ∙ e))
         not_there x here e false below = below
 
         got_stayed : (x : Path) (here : Node) → node_at F x ≡ Some here → is_at_or_below x p ≡ false → node_at G x ≡ Some here
@@ -277,7 +277,7 @@ module _ (arena : Blocks) (heads : Heads) (slots : List Slot) {ways : List Way} 
         only_stayed : (x : Path) (here : Node) → node_at G x ≡ Some here → is_at_or_below x q ≡ false → (below : Bool) → is_at_or_below x p ≡ below → (c : ℕ)
             × IsNode put c × (path_of_node put c ≡ x)
         only_stayed x here e outside true below =
-            absurd (none_some (sym (moved_apart F p q rooted some_q absent x outside ∙ ap (λ t. cond t None (node_at F x)) below) ∙ e))
+            absurd (none-some _ (sym (moved_apart F p q rooted some_q absent x outside ∙ ap (λ t. cond t None (node_at F x)) below) ∙ e))
         only_stayed x here e outside false below =
             let at = shown_two.only x here (sym (moved_apart F p q rooted some_q absent x outside ∙ ap (λ t. cond t None (node_at F x)) below) ∙ e) in
             (at.0, is_put at.0 at.1, remains at.0 at.1 (ap (λ y. is_at_or_below y p) at.2 ∙ below) ∙ at.2)

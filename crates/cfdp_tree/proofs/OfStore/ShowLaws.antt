@@ -5,6 +5,7 @@ use Rattle.std.proofs.Common.{◌≡◌, ℕ, suc, zero, ◌+◌, Bool, true, fa
 use Rattle.std.specs.Prelude.{IsSome, unwrap_or}
 use Rattle.std.specs.FinMap as finite
 use Rattle.std.specs.FinMap.{find, same_map, get-from_entries}
+use Rattle.std.proofs.lemmas.Option.{none-some}
 use Rattle.cfdp_paths.specs.Paths.{Path, path_cmp, same_path}
 use Rattle.cfdp_paths.proofs.Comparing.{same_path-Decides, path_cmp-total}
 use Rattle.cfdp_paths.proofs.InOrder.{path_antisym}
@@ -13,14 +14,13 @@ use Rattle.cfdp_actions.specs.Filestore.{Node}
 use Rattle.cfdp_tree.specs.code.Tree.{IsNode, path_of_node, IsTree}
 use Rattle.cfdp_tree.specs.code.Kept.{node_of, existing_from, Shows}
 use Rattle.cfdp_tree.proofs.OfNodes.TreeLaws.{same_node}
-use Rattle.cfdp_tree.proofs.OfNodes.NodeLaws.{none_some}
 
 module _ (arena nodes : Blocks) (F G : finite.FinMap path_cmp Node) (first : Shows arena nodes F) (second : Shows arena nodes G) where
   at_path : (q : Path) (x y : Option Node) → finite.get F q ≡ x → finite.get G q ≡ y → x ≡ y
   at_path q None None e f = refl
   at_path q None (Some node) e f =
       let there = second.only q node f in
-      absurd (none_some (sym e ∙ ap (finite.get F) (sym there.2) ∙ first.each there.0 there.1))
+      absurd (none-some _ (sym e ∙ ap (finite.get F) (sym there.2) ∙ first.each there.0 there.1))
   at_path q (Some node) y e f =
       let there = first.only q node e in
       sym e ∙ ap (finite.get F) (sym there.2) ∙ first.each there.0 there.1 ∙ sym (second.each there.0 there.1) ∙ ap (finite.get G) there.2 ∙ f
@@ -72,7 +72,7 @@ module _ (arena nodes : Blocks) (tree : IsTree nodes) where
 
   only_from : (p : Path) (node : Node) (b : ℕ) (rest : Blocks) → Follows b rest → find path_cmp p (existing_from arena nodes b rest) ≡ Some node
       → (c : ℕ) × IsNode nodes c × (path_of_node nodes c ≡ p)
-  only_from p node b [] follows e = absurd (none_some e)
+  only_from p node b [] follows e = absurd (none-some _ e)
   only_from p node b (None ∷ rest) follows e = only_from p node (suc b) rest (later b None rest follows) e
   only_from p node b (Some block ∷ rest) follows e =
       by_same (same_path p (path_of_node nodes b)) refl (only_from p node (suc b) rest (later b (Some block) rest follows))

@@ -3,11 +3,11 @@
 --     set_maps          two maps over a list that differ at one index, which is set
 --     slot_seen, slot_changes         the store that is seen then
 --     slot_store        it is a store
-use Rattle.std.proofs.Common.{◌≡◌, ◌≢◌, ℕ, zero, suc, ◌+◌, ◌<◌, List, [], ◌∷◌, ◌++◌, length, map, set, get_or, Option, Some, None, refl, sym, ap, ◌∙◌, subst, inl, inr, arith, length-set}
+use Rattle.std.proofs.Common.{◌≡◌, ◌≢◌, ℕ, zero, suc, ◌+◌, ◌<◌, List, [], ◌∷◌, ◌++◌, length, map, set, get_or, Some, None, refl, sym, ap, ◌∙◌, subst, inl, inr, arith, length-set}
 use Rattle.std.proofs.lemmas.List.{map-set, set-append_left, get_or_append_left, get_or_default, get_or-set_same, get_or-set_other, length-map, length-append}
 use Rattle.std.proofs.lemmas.Bool.{cases_eq}
 use Rattle.std.specs.FinMap as finite
-use Rattle.std.specs.Prelude.{All, IsSome, unwrap_or, true}
+use Rattle.std.specs.Prelude.{All, true}
 use Rattle.cfdp_paths.specs.Paths.{path_cmp}
 use Rattle.cfdp_arena.specs.Arena.{Blocks, octets_at, octets_of, free_count}
 use Rattle.cfdp_actions.specs.declared.kind.Kind.{Kind}
@@ -30,6 +30,7 @@ use Rattle.cfdp_tree.specs.code.Kept.{no_contents, file_of, file_in, holdings, n
 use Rattle.cfdp_tree.specs.code.Slots.{lists_staged, IsSoundSlot, IsStore}
 use Rattle.cfdp_tree.proofs.OfStore.SlotCursors.{slot_stays}
 use Rattle.cfdp_tree.proofs.OfRuns.ContentsLaws.{length-contents}
+use Rattle.cfdp_tree.proofs.OfStore.AlikeLaws.{held_is}
 use Rattle.cfdp_tree.proofs.OfStore.ShowLaws.{tree_shows, shown_same}
 use Rattle.cfdp_tree.proofs.OfStore.StoredLaws.{stored_changed, stored_others, spared as run_spared}
 use Rattle.cfdp_tree.proofs.OfStore.SeenLaws.{mapped_at, seen_staged, slot_there, slot_filled, held_at, staged_is}
@@ -94,15 +95,11 @@ module _ (arena later : Blocks) (heads : Heads) (slots : List Slot) {ways : List
   holdings_now : holdings (nodes_in later) (lists_staged now) ≡ set held i after.contents
   holdings_now = (λ k. staged_now k ++ map file_in (nodes k)) ∙ sym (set-append_left staged (map file_in (nodes_in arena)) i after.contents there)
 
-  some_is : (o : Option (List ℕ)) → IsSome o → file_in o ≡ file_of (unwrap_or o [])
-  some_is None some = cc
-  some_is (Some block) some = refl
-
   node_stays : (b : ℕ) → IsNode (nodes_in arena) b → node_of later (octets_of (nodes_in arena) b) ≡ node_of arena (octets_of (nodes_in arena) b)
   node_stays b node =
       let block = octets_of (nodes_in arena) b in
       let at : get_or held (length staged + b) no_contents ≡ file_of block = held_at arena heads slots store (store_of arena staged) refl b
-      ∙ some_is (octets_at (nodes_in arena) b) node in
+      ∙ sym (held_is (octets_at (nodes_in arena) b) node) in
       let same = others (length staged + b) (λ e. omega (arith, there)) in
       node_same arena later (kind_of_octet (node_fields_of block).kind) (file_of block) (ap (contents_in later) (sym at) ∙ same ∙ ap (contents_in arena) at)
 

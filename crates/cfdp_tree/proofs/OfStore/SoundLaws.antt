@@ -28,7 +28,7 @@ use Rattle.cfdp_tree.specs.code.NodesBelow.{IsUnder, AreNodesBelow, path_and_nod
 use Rattle.cfdp_tree.proofs.OfRuns.ContentsLaws.{length-contents}
 use Rattle.cfdp_tree.proofs.OfNodes.ClimbLaws.{beginning}
 use Rattle.cfdp_tree.proofs.OfStore.SeenLaws.{shows, file_small, held_at}
-use Rattle.cfdp_tree.proofs.OfStore.FileLaws.{some_is}
+use Rattle.cfdp_tree.proofs.OfStore.AlikeLaws.{held_is}
 
 -- what an answer has, in other words
 pub items_are : {A E X : Type 0} (items : A → List X) (r : Result A E) (was now : List X) → IfOk r (λ v. items v ≡ was) → was ≡ now →
@@ -47,7 +47,7 @@ module _ (arena : Blocks) (heads : Heads) (slots : List Slot) {ways : List Way} 
   node_sound b node =
       let nodes = nodes_in arena in let block = octets_of nodes b in
       let filled : IsFilled arena (file_of block) =
-      subst (IsFilled arena) (held_at arena heads slots store now view b ∙ some_is (octets_at nodes b) node)
+      subst (IsFilled arena) (held_at arena heads slots store now view b ∙ sym (held_is (octets_at nodes b) node))
       (store.kept.stored.filled (length (lists_staged slots) + b)) in
       let octets : files.file_octets_at now.filestore (path_of_node nodes b) ≡ contents_in arena (file_of block) =
       ap octets_in ((shows arena heads slots store now view).each b node)

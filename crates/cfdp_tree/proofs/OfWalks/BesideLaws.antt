@@ -11,6 +11,8 @@ use Rattle.std.specs.List.{filter, list_any}
 use Rattle.std.specs.Prelude.{All, Contains}
 use Rattle.std.specs.FinMap as finite
 use Rattle.std.specs.FinMap.{find, get-entries}
+use Rattle.std.proofs.lemmas.Option.{none-some}
+use Rattle.std.proofs.lemmas.Bool.{both_ways}
 use Rattle.cfdp_arena.specs.Arena.{Blocks, octets_of}
 use Rattle.cfdp_paths.specs.Paths.{Path, path_cmp, same_path, is_below}
 use Rattle.cfdp_paths.proofs.Below.{is_below-Decides, append_from_at_or_below, at_or_below_from_append, length-at_or_below}
@@ -31,7 +33,6 @@ use Rattle.cfdp_tree.proofs.OfNodes.BelowLaws.{has_some, has_none, entry_below}
 use Rattle.cfdp_tree.proofs.OfWalks.DeepestLaws.{deepest_le, longest_le, longest_ge}
 use Rattle.cfdp_tree.proofs.OfWalks.NodesBelowLaws.{Contains-flat_map, All-flat_map, walk_own, walk_all}
 use Rattle.cfdp_tree.proofs.OfWalks.WalkLaws.{few_names}
-use Rattle.cfdp_tree.proofs.OfNodes.MoveLaws.{true_false}
 
 -- what passes a test is among those that pass
 passes : {X : Type 0} (test : X → Bool) (xs : List X) (x : X) → Contains xs x → test x ≡ true → Contains (filter test xs) x
@@ -65,7 +66,7 @@ beside_below p others q e = by_test (is_below q p) refl
   where
     by_test : (b : Bool) → is_below q p ≡ b → is_below q p ≡ true
     by_test true is = is
-    by_test false is = absurd (true_false e (ap (λ b. b && not (list_any (same_path (take (suc (length p)) q)) others)) is))
+    by_test false is = absurd (both_ways _ (ap (λ b. b && not (list_any (same_path (take (suc (length p)) q)) others)) is) e)
 
 one_more : (n : ℕ) → n + 1 ≡ suc n
 one_more n = omega arith
@@ -94,8 +95,8 @@ module _ (nodes : Blocks) (tree : IsTree nodes) (arena : Blocks) (F : Filestore)
             by_case : (b : Bool) (o : Option Node) → is_beside others p q ≡ b → node_at F q ≡ o →
                 is_some (cond (is_beside others p q) (node_at F q) None) ≡ true → ⊥
             by_case true (Some node) beside is found = nothing q node is beside
-            by_case true None beside is found = true_false found (λ k. is_some (cond (beside k) (is k) None))
-            by_case false o beside is found = true_false found (ap (λ b. is_some (cond b (node_at F q) None)) beside)
+            by_case true None beside is found = both_ways _ (λ k. is_some (cond (beside k) (is k) None)) found
+            by_case false o beside is found = both_ways _ (ap (λ b. is_some (cond b (node_at F q) None)) beside) found
 
   -- where a node has it
   module _ (b : ℕ) (node : IsNode nodes b) (way : path_of_node nodes b ≡ p) where
@@ -148,14 +149,11 @@ module _ (nodes : Blocks) (tree : IsTree nodes) (arena : Blocks) (F : Filestore)
         )
 
     module _ (orders : Orders) (ordered : IsInOrders nodes orders None) where
-      none_is : {x : ℕ} → None ≡ Some x → ⊥
-      none_is e = cc
-
       abbrev own : List ℕ
       own = in_order orders (Some b)
 
       listed : (e : ℕ) → IsNode nodes e → home nodes e ≡ Some b → Contains (in_order orders (Some b)) e
-      listed e entry there = subst (λ x. Contains (in_order orders x) e) there (ordered.all e entry none_is)
+      listed e entry there = subst (λ x. Contains (in_order orders x) e) there (ordered.all e entry (none-some e))
 
       itself : (e : ℕ) → IsNode nodes e → IsUnder nodes (path_of_node nodes e) e
       itself e entry = record {
@@ -181,7 +179,7 @@ module _ (nodes : Blocks) (tree : IsTree nodes) (arena : Blocks) (F : Filestore)
           by_any false is = is ∙ sym (has_none F (is_beside others p) (λ q other at beside.
               (let found = entry_of q other at beside in
               let has = listed found.0 found.2 found.3 in
-              true_false (list_any_at (is_entry_beside p others nodes) own has.0 found.0 has.1 (ap (is_entry_beside p others nodes) has.2 ∙ found.6)) is)))
+              both_ways _ is (list_any_at (is_entry_beside p others nodes) own has.0 found.0 has.1 (ap (is_entry_beside p others nodes) has.2 ∙ found.6)))))
 
       abbrev all : List ℕ
       all = walks_at orders (length p + 1) (entries_beside p others nodes (in_order orders (Some b)))
@@ -220,8 +218,8 @@ module _ (nodes : Blocks) (tree : IsTree nodes) (arena : Blocks) (F : Filestore)
             where
               short : (n m : ℕ) → n ≤ 8 → m ≡ length p + 1 → n < m + (9 - (length p + 1))
               short n m few is = omega (arith, few, is)
-          by_case true None beside is found = absurd (true_false found (λ k. is_some (cond (beside k) (is k) None)))
-          by_case false o beside is found = absurd (true_false found (ap (λ b. is_some (cond b (node_at F q) None)) beside))
+          by_case true None beside is found = absurd (both_ways _ (λ k. is_some (cond (beside k) (is k) None)) found)
+          by_case false o beside is found = absurd (both_ways _ (ap (λ b. is_some (cond b (node_at F q) None)) beside) found)
 
       pub longest_is : most_names_in nodes (walks_at orders (length p + 1) (entries_beside p others nodes (in_order orders (Some b))))
           ≡ deepest_beside F p others

@@ -7,6 +7,7 @@ use Rattle.std.proofs.Math.Nat.{le-max_left, le-max_right}
 use Rattle.std.proofs.lemmas.List.Elements.{All-head, All-tail}
 use Rattle.std.specs.Prelude.{All}
 use Rattle.std.specs.FinMap.{find}
+use Rattle.std.proofs.lemmas.Bool.{false≢true}
 use Rattle.cfdp_paths.specs.Paths.{Path, path_cmp, same_path, is_at_or_below}
 use Rattle.cfdp_paths.proofs.Comparing.{same_path-Decides}
 use Rattle.cfdp_arena.specs.Arena.{Blocks}
@@ -64,14 +65,8 @@ module _ (nodes : Blocks) where
             let at = shows.only q node e in
             let has = nodes_below.all at.0 (record { node = at.1; below = ap (λ x. is_at_or_below x p) at.2 ∙ is }) in
             omega (arith, longest_ge list has.0 at.0 has.1, ap (λ b. length (path_of_node nodes b)) has.2, ap length at.2)
-        by_case true None is e some = absurd (none_true (sym (λ k. is_some (cond (is k) (e k) None)) ∙ some))
-          where
-            none_true : false ≡ true → ⊥
-            none_true e = cc
-        by_case false o is e some = absurd (none_true (sym (ap (λ b. is_some (cond b (node_at F q) None)) is) ∙ some))
-          where
-            none_true : false ≡ true → ⊥
-            none_true e = cc
+        by_case true None is e some = absurd (false≢true (sym (λ k. is_some (cond (is k) (e k) None)) ∙ some))
+        by_case false o is e some = absurd (false≢true (sym (ap (λ b. is_some (cond b (node_at F q) None)) is) ∙ some))
 
     pub deepest_is : most_names_in nodes list ≡ deepest_of (tree_at F p)
     deepest_is = omega (

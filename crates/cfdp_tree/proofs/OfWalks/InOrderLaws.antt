@@ -26,8 +26,8 @@ use Rattle.cfdp_tree.specs.code.Tree.{path_of_node, IsTree}
 use Rattle.cfdp_tree.specs.code.Kept.{Shows}
 use Rattle.cfdp_tree.specs.code.NodesBelow.{IsUnder, AreNodesBelow, path_and_node, by_path, shown_node}
 use Rattle.cfdp_tree.proofs.OfNodes.TreeLaws.{same_node}
-use Rattle.cfdp_tree.proofs.OfNodes.NodeLaws.{none_some}
-use Rattle.std.proofs.lemmas.Bool.{and_from, and_parts}
+use Rattle.std.proofs.lemmas.Bool.{and_from, and_parts, both_ways}
+use Rattle.std.proofs.lemmas.Option.{none-some, same_Some}
 use Rattle.cfdp_actions.proofs.Order.{same_path-symm, get_kept}
 
 -- ---- in order
@@ -57,15 +57,12 @@ module _ {X : Type 0} where
 
   -- an entry that is found is one of them
   pub found_in : (es : List (Path × X)) (q : Path) (x : X) → find path_cmp q es ≡ Some x → Contains es (q, x)
-  found_in [] q x e = absurd (none_some e)
+  found_in [] q x e = absurd (none-some x e)
   found_in (e ∷ es) q x is = by_same (same_path q e.0) refl (found_in es q x)
     where
-      some_same : {y : X} → Some y ≡ Some x → y ≡ x
-      some_same e = cc
-
       by_same : (b : Bool) → same_path q e.0 ≡ b → (find path_cmp q es ≡ Some x → Contains es (q, x)) → Contains (e ∷ es) (q, x)
       by_same true same rest =
-          let value = some_same (sym (ap (λ b. cond b (Some e.1) (find path_cmp q es)) same) ∙ is) in
+          let value = same_Some _ _ (sym (ap (λ b. cond b (Some e.1) (find path_cmp q es)) same) ∙ is) in
           (0, omega arith, (λ k. ((sym ((same_path-Decides q e.0).0 same)) k, value k)))
       by_same false same rest =
           let at = rest (sym (ap (λ b. cond b (Some e.1) (find path_cmp q es)) same) ∙ is) in
@@ -155,10 +152,7 @@ module _ (nodes : Blocks) (tree : IsTree nodes) (p : Path) (list : List ℕ) (no
               get_or-map (shown_node arena nodes) found has.0 entry (shown_node arena nodes entry) has.1
                   ∙ ap (shown_node arena nodes) has.2,
             ) in
-            absurd (not_both (ap (λ x. is_some (find path_cmp x (map (shown_node arena nodes) found))) (sym at.2) ∙ inside) (ap is_some none))
-          where
-            not_both : {b : Bool} → b ≡ true → b ≡ false → ⊥
-            not_both first second = cc
+            absurd (both_ways _ (ap is_some none) (ap (λ x. is_some (find path_cmp x (map (shown_node arena nodes) found))) (sym at.2) ∙ inside))
 
         by_found : (o : Option Node) → find path_cmp q (map (shown_node arena nodes) found) ≡ o → find path_cmp q (map (shown_node arena nodes) found)
             ≡ cond (is_at_or_below q p) (node_at F q) None

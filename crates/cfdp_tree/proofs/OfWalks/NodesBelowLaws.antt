@@ -14,6 +14,7 @@ use Rattle.std.specs.List.{flat_map}
 use Rattle.std.specs.Ordering.{ordering_then}
 use Rattle.std.specs.Prelude.{All, AllPairs, Contains}
 use Rattle.std.specs.declared.cmp.Ordering.TheVariants.{Less}
+use Rattle.std.proofs.lemmas.Option.{none-some, same_Some}
 use Rattle.cfdp_arena.specs.Arena.{Blocks}
 use Rattle.cfdp_paths.specs.Paths.{Path, path_cmp, is_at_or_below}
 use Rattle.cfdp_paths.proofs.Below.{append_from_at_or_below, at_or_below_from_append, at_or_below-itself, at_or_below-trans, length-at_or_below}
@@ -68,12 +69,6 @@ module _ {X : Type 0} (R : X → X → Type 0) where
       (λ k d within. All-flat_map f (R (get_or (f y) k d)) ys (λ i e inside. across 0 (suc i) e (omega arith) (omega arith) k d within))
 
 module _ (nodes : Blocks) (tree : IsTree nodes) (orders : Orders) (ordered : IsInOrders nodes orders None) where
-  some_same : {x y : ℕ} → Some x ≡ Some y → x ≡ y
-  some_same e = cc
-
-  none_some : {x : ℕ} → None ≡ Some x → ⊥
-  none_some e = cc
-
   -- the path of an entry of a directory or the root
   member_path : (directory : Option ℕ) (e : ℕ) → IsNode nodes e → home nodes e ≡ directory → path_of_node nodes e ≡ path_at nodes directory ++ name_at nodes e
       ∷ []
@@ -175,7 +170,7 @@ module _ (nodes : Blocks) (tree : IsTree nodes) (orders : Orders) (ordered : IsI
       (λ k. path_cmp (sym (append-nil p) k) (whole k)) ∙ path_cmp-append p [] q ∙ some_names p q (omega (arith, deep.longer, ap length whole))
 
   entries_has : (b e : ℕ) → IsNode nodes e → home nodes e ≡ Some b → Contains (in_order orders (Some b)) e
-  entries_has b e node there = subst (λ x. Contains (in_order orders x) e) there (ordered.all e node none_some)
+  entries_has b e node there = subst (λ x. Contains (in_order orders x) e) there (ordered.all e node (none-some e))
 
   -- what is walked over from a node
   pub walk_own : (n b : ℕ) → IsNode nodes b → All (IsUnder nodes (path_of_node nodes b)) (walk orders n b)
@@ -192,7 +187,7 @@ module _ (nodes : Blocks) (tree : IsTree nodes) (orders : Orders) (ordered : IsI
   walk_all zero b c node under short = absurd (omega (arith, short, length-at_or_below (path_of_node nodes c) (path_of_node nodes b) under.below))
   walk_all (suc n) b c node under short = elim (cases_lt (length (path_of_node nodes b)) (length (path_of_node nodes c))) [
     | inl longer ↦ has_later b (walks orders n (in_order orders (Some b))) c
-        (walks_all n (walk_all n) (Some b) (λ d is. subst (IsNode nodes) (some_same is) node) (in_order orders (Some b)) (entries_has b) c
+        (walks_all n (walk_all n) (Some b) (λ d is. subst (IsNode nodes) (same_Some _ _ is) node) (in_order orders (Some b)) (entries_has b) c
         (record { under = under; longer = longer }) short)
     | inr past ↦ (let whole = append_from_at_or_below (path_of_node nodes c) (path_of_node nodes b) under.below in
         let front = ap (take (length (path_of_node nodes b))) whole ∙ take_at (path_of_node nodes b)
@@ -230,8 +225,8 @@ module _ (nodes : Blocks) (tree : IsTree nodes) (orders : Orders) (ordered : IsI
   nodes_from None depth node long = record {
     own = All-weaker (IsDeeper nodes []) (IsUnder nodes []) (λ c deep. deep.under) (walks orders (8 - depth) (in_order orders None))
         (walks_own (8 - depth) (walk_own (8 - depth)) None (in_order orders None) (ordered.own None));
-    all = (λ c under. walks_all (8 - depth) (walk_all (8 - depth)) None (λ d e. absurd (none_some e)) (in_order orders None)
-        (λ e node there. subst (λ x. Contains (in_order orders x) e) there (ordered.all e node none_some)) c
+    all = (λ c under. walks_all (8 - depth) (walk_all (8 - depth)) None (λ d e. absurd (none-some d e)) (in_order orders None)
+        (λ e node there. subst (λ x. Contains (in_order orders x) e) there (ordered.all e node (none-some e))) c
         (record { under = under; longer = named c under.node }) (omega (arith, long, few_names nodes c)));
     once = once (walks orders (8 - depth) (in_order orders None)) (walks_rising (8 - depth) (walk_own (8 - depth)) (walk_rising (8 - depth)) None);
   }
@@ -241,7 +236,4 @@ module _ (nodes : Blocks) (tree : IsTree nodes) (orders : Orders) (ordered : IsI
 
 -- what holds of a node holds of whatever is that node
 pub some_node : (P : ℕ → Type 0) (b : ℕ) → P b → (d : ℕ) → Some b ≡ Some d → P d
-some_node P b has d e = subst P (same e) has
-  where
-    same : Some b ≡ Some d → b ≡ d
-    same e = cc
+some_node P b has d e = subst P (same_Some b d e) has

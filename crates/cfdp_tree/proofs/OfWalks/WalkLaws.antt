@@ -13,7 +13,7 @@
 use Rattle.std.proofs.Common.{◌≡◌, ℕ, zero, suc, ◌+◌, ◌≤◌, max, ◌-◌, ◌*◌, ◌<◌, List, [], ◌∷◌, ◌++◌, length, length-append, get_or, Bool, true, false, inl, inr, Option, Some, None, refl, sym, ap, ◌∙◌, subst, arith}
 use Rattle.std.proofs.Math.Nat.{zero-max}
 use Rattle.std.proofs.lemmas.Grind.{flat_map-append}
-use Rattle.std.proofs.lemmas.Bool.{cases_eq}
+use Rattle.std.proofs.lemmas.Bool.{both_ways, cases_eq}
 use Rattle.std.proofs.lemmas.List.{append_assoc, get_or_default, length-map}
 use Rattle.std.proofs.lemmas.List.Elements.{All-weaker}
 use Rattle.std.specs.Option.{option_map_or}
@@ -200,12 +200,9 @@ no_walk orders n order none = ap (walks orders n) (no_nodes orders.links.items o
 -- the same by what a walk reads
 pub filled : (empty : Bool) (h : ℕ) → empty ≡ false → (h ≡ 0 → empty ≡ true) → 0 < h
 filled empty h full none = elim (cases_eq h 0) [
-  | inl e ↦ absurd (differ (sym full ∙ none e))
+  | inl e ↦ absurd (both_ways empty full (none e))
   | inr some ↦ omega (arith, some)
 ]
-  where
-    differ : false ≡ true → ⊥
-    differ e = cc
 
 pub read_parts : (arena : Blocks) → IsTree (nodes_in arena) → (orders : Orders) → IsInOrders (nodes_in arena) orders None → length arena ≤ 65536 →
     (order : Order) (depth : ℕ) → IsOrder orders.links.items order → 0 < order.height

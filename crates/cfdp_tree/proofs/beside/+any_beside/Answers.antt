@@ -1,6 +1,7 @@
-use Rattle.std.proofs.Common.{◌≡◌, ◌||◌, ◌+◌, true, false, length, refl, sym, ap, ◌∙◌, subst, arith}
+use Rattle.std.proofs.Common.{◌||◌, ◌+◌, length, refl, sym, ap, ◌∙◌, subst, arith}
 use Rattle.std.specs.List.{list_any}
 use Rattle.std.specs.Prelude.{AllPairs}
+use Rattle.std.proofs.lemmas.Bool.{true≢false}
 use Rattle.cfdp_order.specs.declared.links.Order.{Order}
 use Rattle.cfdp_order.specs.Orders.{links_at, nodes, left_of, right_of, IsOrder}
 use Rattle.cfdp_order.proofs.TreeLaws.{no_nodes, opened_at}
@@ -14,9 +15,6 @@ use Rattle.cfdp_tree.proofs.OfWalks.OtherLaws.{any_parts, any_part, same_before,
 use Rattle.cfdp_tree.proofs.OfWalks.WalkLaws.{filled, read_around, top_inside}
 use Rattle.cfdp_tree.proofs.beside.+any_beside.Goals as goal
 use Rattle.cfdp_tree.proofs.beside.+any_beside.Goals.{then-any_beside, else-any_beside}
-
-differ : true ≡ false → ⊥
-differ e = cc
 
 pub returns-then-is_empty : goal.returns-then-is_empty
 returns-then-is_empty t c =
@@ -159,7 +157,7 @@ returns-else-leaves t c =
     let top = ap (λ d. is_entry_beside d parts.at.paths.now now root) c.around-parts.ensures.same_directory ∙ c.around-parts.ensures.at in
     let whole = any_parts test (nodes links (left_of around)) root (nodes links (right_of around)) (nodes links c.args.order) p.listed in
     elim c.if-any_beside.branch [
-      | then-any_beside w ↦ absurd (differ (sym w.if-any_beside.true ∙ sym w.value-is ∙ c.if-leaves.false))
+      | then-any_beside w ↦ absurd (true≢false (sym w.if-any_beside.true ∙ sym w.value-is ∙ c.if-leaves.false))
       | else-any_beside w ↦ last
           ∙ sym (whole ∙ (λ k. (sym first ∙ w.if-any_beside.false) k
           || ((sym (w.leaves.ensures ∙ top) ∙ sym w.value-is ∙ c.if-leaves.false) k || list_any test (nodes links (right_of around)))))

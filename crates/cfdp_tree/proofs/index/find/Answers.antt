@@ -1,12 +1,14 @@
 use Rattle.std.proofs.Common.{◌≡◌, ◌+◌, ◌-◌, suc, None, length, sym, ap, ◌∙◌, subst, arith, inl, inr}
 use Rattle.std.proofs.lemmas.List.Elements.{Contains-append_cases}
 use Rattle.std.specs.Prelude.{All, Contains}
+use Rattle.std.proofs.lemmas.Option.{none-some}
+use Rattle.std.proofs.lemmas.Bool.{both_ways}
 use Rattle.cfdp_tree.specs.code.NodeFields.{node_fields_of}
 use Rattle.cfdp_tree.specs.code.Nodes.{nodes_in}
 use Rattle.cfdp_tree.specs.code.Tree.{IsNode, IsEntry, node_fields_at}
 use Rattle.cfdp_tree.specs.code.Index.{index_chain, list_of, bucket_of, HasHead, IsHead}
 use Rattle.cfdp_tree.proofs.OfNodes.TreeLaws.{node_live, node_octets}
-use Rattle.cfdp_tree.proofs.OfIndex.IndexLaws.{chain_more, chain_some, own_first, rest_has, no_entry}
+use Rattle.cfdp_tree.proofs.OfIndex.IndexLaws.{chain_more, chain_some, own_first, rest_has}
 use Rattle.cfdp_tree.proofs.OfIndex.HeadLaws.{head_here}
 use Rattle.cfdp_tree.proofs.index.find.Goals as goal
 use Rattle.cfdp_arena.proofs.GivenChains.{rest_all}
@@ -59,7 +61,7 @@ loop-step-preserved c =
       own = subst (λ b. All (IsNode nodes) (index_chain nodes m b)) next_is (rest_all (IsNode nodes) l.node (index_chain nodes m next) listed);
       left = (λ b entry has. subst (λ n. Contains (index_chain nodes m n) b) next_is
           (rest_has l.node (index_chain nodes m next) b (subst (λ xs. Contains xs b) list (l.invariant.left b entry has))
-          (λ e. no_entry (c.is_entry.ensures.1 (subst (IsEntry nodes c.args.directory c.args.name.now) (sym e) entry)) c.if-is_entry.false)));
+          (λ e. both_ways _ c.if-is_entry.false (c.is_entry.ensures.1 (subst (IsEntry nodes c.args.directory c.args.name.now) (sym e) entry)))));
     }
 
 pub returns-then-head-eq0-clause-none : goal.returns-then-head-eq0-clause-none
@@ -71,7 +73,7 @@ returns-then-head-eq0-clause-none c b entry =
     let has = is.all b record {
       node = entry.node;
       bucket = (λ k. bucket_of (entry.there k) (entry.named k) (length heads)) ∙ sym c.bucket_of-bucket.ensures.bucket;
-      inside = (λ e. cc);
+      inside = none-some _;
     } in
     elim (Contains-append_cases (list_of nodes head) is.rest b has) [
       | inl listed ↦ (

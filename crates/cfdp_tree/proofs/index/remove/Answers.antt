@@ -2,6 +2,7 @@ use Rattle.std.proofs.Common.{◌≡◌, ◌<◌, ℕ, None, length, sym, ap, �
 use Rattle.std.proofs.lemmas.List.{length-map}
 use Rattle.std.proofs.lemmas.List.Elements.{All-contains, Contains-append_cases}
 use Rattle.std.specs.Prelude.{All, Contains, slice_index_or}
+use Rattle.std.proofs.lemmas.Option.{none-some}
 use Rattle.cfdp_tree.specs.declared.index.ListHead.{ListHead}
 use Rattle.cfdp_tree.specs.code.Nodes.{only_node, nodes_in}
 use Rattle.cfdp_tree.specs.code.Tree.{home, name_at}
@@ -42,7 +43,7 @@ take_out-requires-clause-there c missing =
     let has = is.all b record {
       node = entry.node;
       bucket = (λ i. bucket_of (entry.there i) (entry.named i) (length heads)) ∙ sym c.bucket_of-bucket.ensures.bucket;
-      inside = (λ e. cc);
+      inside = none-some _;
     } in
     elim (Contains-append_cases (list_of nodes head) is.rest b has) [
       | inl listed ↦ absurd (missing listed)

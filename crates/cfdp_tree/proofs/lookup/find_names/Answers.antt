@@ -1,6 +1,7 @@
 use Rattle.std.proofs.Common.{◌≡◌, ◌+◌, ◌≤◌, ℕ, [], ◌∷◌, ◌++◌, length, take, Option, Some, None, refl, sym, ap, ◌∙◌, subst, arith}
 use Rattle.std.proofs.lemmas.List.{take_more}
 use Rattle.std.specs.Prelude.{IfNone, IfSome}
+use Rattle.std.proofs.lemmas.Option.{none-some, same_Some}
 use Rattle.cfdp_arena.specs.Arena.{Blocks}
 use Rattle.cfdp_paths.specs.Paths.{Name, Path}
 use Rattle.cfdp_tree.specs.code.Nodes.{nodes_in}
@@ -28,7 +29,7 @@ pub loop-name-init : goal.loop-name-init
 loop-name-init c = (
   0,
   ahead-start c.args.names c.into_iter-name-iterator.result c.into_iter-name-iterator.ensures.into_iter_gives,
-  record { node = (λ d e. cc); path = refl },
+  record { node = (λ d e. absurd (none-some d e)); path = refl },
 )
 
 pub find-requires-clause-short : goal.find-requires-clause-short
@@ -57,14 +58,11 @@ loop-name-preserved c =
       i + 1,
       next.2,
       record {
-        node = (λ d same. subst (IsNode nodes) (some_same same) entry.node);
+        node = (λ d same. subst (IsNode nodes) (same_Some _ _ same) entry.node);
         path = path_entry nodes c.requires.tree reached (take i path) c.in-Some.name.now c.in_ok-node.node at.2 entry
             ∙ ap (λ name. take i path ++ name ∷ []) next.0 ∙ sym (take_more path i [] next.1);
       },
     )
-  where
-    some_same : {x y : ℕ} → Some x ≡ Some y → x ≡ y
-    some_same e = cc
 
 pub returns-clause-none : goal.returns-clause-none
 returns-clause-none c =

@@ -2,6 +2,7 @@ use Rattle.std.proofs.Common.{◌≡◌, ◌++◌, ℕ, false, [], ◌∷◌, le
 use Rattle.std.proofs.lemmas.List.Elements.{All-head, All-tail}
 use Rattle.std.proofs.lemmas.Option.{IfSome_then}
 use Rattle.std.specs.Prelude.{All, IfSome, IfNone}
+use Rattle.std.proofs.lemmas.Option.{same_Some}
 use Rattle.cfdp_arena.specs.Arena.{Blocks}
 use Rattle.cfdp_paths.specs.Paths.{Name, Path, IsName}
 use Rattle.cfdp_tree.specs.code.Nodes.{nodes_in}
@@ -15,7 +16,6 @@ use Rattle.cfdp_tree.proofs.OfOrders.OrderedLaws.{listed_in}
 use Rattle.cfdp_tree.proofs.OfOrders.NextLaws.{least_first, none_first, apart_last, apart_name, following_name, none_below, first_below, NoneBelow}
 use Rattle.cfdp_tree.proofs.next.+next_below.Goals as goal
 use Rattle.cfdp_tree.proofs.next.+next_below.Goals.{in-Some-find+else-is_some, in_default-find}
-use Rattle.cfdp_tree.proofs.OfIndex.InsertLaws.{some_same}
 
 no_result : {A : Type 0} (r : Option A) {P : Type 0} → is_some r ≡ false → IfNone r P → P
 no_result None absent p = p
@@ -64,7 +64,7 @@ next_below-below-requires t c =
         (
           c.requires.ordered,
           (
-            λ x e. subst (IsNode nodes) (some_same e) node,
+            λ x e. subst (IsNode nodes) (same_Some _ _ e) node,
             (names_good c.args.names c.next.new.self c.in-Some.name.now c.in-Some.ensures.steps c.requires.names).1,
           ),
         ),

@@ -1,4 +1,5 @@
-use Rattle.std.proofs.Common.{◌≡◌, true, false, [], refl, sym, ap, ◌∙◌, slice_index_or}
+use Rattle.std.proofs.Common.{[], refl, ap, ◌∙◌, slice_index_or}
+use Rattle.std.proofs.lemmas.Bool.{both_ways}
 use Rattle.cfdp_paths.specs.Paths.{same_name}
 use Rattle.cfdp_paths.proofs.Comparing.{same_name-compared}
 use Rattle.cfdp_tree.proofs.OfWalks.OtherLaws.{entry_is, entry_other}
@@ -14,7 +15,4 @@ returns-then-is_child_of c =
 pub returns-else-is_child_of : goal.returns-else-is_child_of
 returns-else-is_child_of c =
     c.if-is_child_of.false
-    ∙ entry_other c.args.self.now.directory.now c.args.name.now c.args.path.now (λ above. differ (sym c.if-is_child_of.false ∙ c.is_child_of.ensures.1 above))
-  where
-    differ : false ≡ true → ⊥
-    differ e = cc
+    ∙ entry_other c.args.self.now.directory.now c.args.name.now c.args.path.now (λ above. both_ways _ c.if-is_child_of.false (c.is_child_of.ensures.1 above))

@@ -2,6 +2,7 @@ use Rattle.std.proofs.Common.{◌≡◌, ◌≤◌, ℕ, List, ◌++◌, true, f
 use Rattle.std.specs.List.{slice_get}
 use Rattle.std.specs.Prelude.{All, Contains, IfNone}
 use Rattle.std.proofs.lemmas.Bool.{both_ways}
+use Rattle.std.proofs.lemmas.Option.{none-some}
 use Rattle.cfdp_arena.specs.Arena.{Blocks}
 use Rattle.cfdp_paths.specs.Paths.{Name}
 use Rattle.cfdp_order.specs.Orders as trees
@@ -37,12 +38,9 @@ module _ (nodes : Blocks) (orders : Orders) (directory : Option ℕ) (ordered : 
   found_is : r ≡ slice_get parts.1 0
   found_is = ends parts.0 parts.1 (is ∙ parts.2) parts.3
 
-  none_some : {x : ℕ} → None ≡ Some x → ⊥
-  none_some e = cc
-
   absent : All (λ e. name_at nodes e ≡ name → ⊥) own → (e : ℕ) → IsEntry nodes directory name e → ⊥
   absent all e entry = at_times (λ e. name_at nodes e ≡ name → ⊥) own e all
-      (contains_times own e (subst (λ p. Contains (in_order orders p) e) entry.there (ordered.all e entry.node none_some))) entry.named
+      (contains_times own e (subst (λ p. Contains (in_order orders p) e) entry.there (ordered.all e entry.node (none-some e)))) entry.named
 
   none_entry : r ≡ None → (e : ℕ) → IsEntry nodes directory name e → ⊥
   none_entry none = absent (none_from nodes own (ordered.rising directory) name parts.0 parts.1 parts.2 parts.3 (sym found_is ∙ none))

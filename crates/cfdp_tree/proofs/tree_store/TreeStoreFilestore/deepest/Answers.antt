@@ -9,16 +9,14 @@ use Rattle.cfdp_tree.specs.code.Orders.{in_order}
 use Rattle.cfdp_tree.specs.code.Walk.{walks, walk_from, most_names_in, AreAtDepth}
 use Rattle.cfdp_tree.specs.code.NodesBelow.{AreNodesBelow}
 use Rattle.cfdp_tree.proofs.OfStore.SeenLaws.{shows, seen_none}
+use Rattle.cfdp_tree.proofs.OfNodes.NodeLaws.{no_live}
 use Rattle.cfdp_tree.proofs.OfWalks.WalkLaws.{directory_deep, one_deeper}
 use Rattle.cfdp_tree.proofs.OfWalks.DeepestLaws.{deepest_is}
 use Rattle.cfdp_tree.proofs.OfWalks.NodesBelowLaws.{nodes_from, some_node}
 use Rattle.cfdp_tree.proofs.tree_store.TreeStoreFilestore.deepest.Goals as goal
 
 there : (found : Option ℕ) (P : Type 0) (A : Type 0) (o : Option A) → IfNone found P → (P → o ≡ None) → IsSome o → IsSome found
-there None P A o none absent some = absurd (no_some (absent none) some)
-  where
-    no_some : o ≡ None → IsSome o → ⊥
-    no_some e some = cc
+there None P A o none absent some = absurd (no_live o (absent none) some)
 there (Some b) P A o none absent some = refl
 
 pub unwrap-node-requires : goal.unwrap-node-requires

@@ -1,5 +1,5 @@
 use Rattle.std.proofs.Common.{◌≡◌, ◌<◌, ℕ, Bool, true, false, not, sym, ap, ◌∙◌, inl, inr, arith}
-use Rattle.std.proofs.lemmas.Bool.{cases_eq}
+use Rattle.std.proofs.lemmas.Bool.{cases_eq, false≢true}
 use Rattle.std.specs.Prelude.{◌↔◌, IsTrue}
 use Rattle.cfdp_order.specs.declared.links.Order.{Order}
 use Rattle.cfdp_tree.specs.code.Nodes.{nodes_in}
@@ -11,12 +11,9 @@ use Rattle.cfdp_tree.proofs.tree_store.TreeStoreFilestore.has_entries.Goals as g
 described : (empty : Bool) (h k : ℕ) (some : Bool) → IsTrue empty ↔ (h ≡ 0) → h ≡ k → (0 < k → some ≡ true) → (k ≡ 0 → some ≡ false) → not empty ≡ some
 described true h k some test same filled none = sym (none (sym same ∙ test.0 (λ i. true)))
 described false h k some test same filled none = elim (cases_eq h 0) [
-  | inl e ↦ absurd (differ (test.1 e))
+  | inl e ↦ absurd (false≢true (test.1 e))
   | inr other ↦ sym (filled (omega (arith, other, same)))
 ]
-  where
-    differ : false ≡ true → ⊥
-    differ e = cc
 
 pub returns-in-Some : goal.returns-in-Some
 returns-in-Some c =
