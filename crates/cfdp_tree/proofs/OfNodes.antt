@@ -1,4 +1,5 @@
 -- The nodes of the tree: their blocks, their ways to the root, and what a change of one does.
+pub mod OneBlockLaws
 pub mod NodeLaws
 pub mod NodeFieldLaws
 pub mod TreeLaws

@@ -2,11 +2,11 @@
 --     index_created, index_moved, index_deleted     a node is made, is put elsewhere, goes
 --     index_kept                                    neither nodes nor links of the index change
 --     nodes_long                                    there are as many blocks
-use Rattle.std.proofs.Common.{◌≡◌, ◌≢◌, ℕ, suc, zero, ◌+◌, ◌<◌, List, [], ◌∷◌, length, get_or, Option, Some, None, refl, sym, ap, ◌∙◌, subst, arith}
+use Rattle.std.proofs.Common.{◌≡◌, ◌≢◌, ℕ, suc, zero, ◌+◌, ◌<◌, List, ◌∷◌, length, get_or, Option, Some, None, refl, sym, ap, ◌∙◌, subst, arith}
 use Rattle.std.proofs.lemmas.List.{get_or-set_same, get_or-set_other, length-map}
-use Rattle.std.specs.Prelude.{IsSome, unwrap_or}
+use Rattle.std.specs.Prelude.{IsSome}
 use Rattle.std.proofs.lemmas.Option.{none-some, same_Some}
-use Rattle.cfdp_arena.specs.Arena.{Blocks, octets_at, octets_of, with_block, without_block, live_count}
+use Rattle.cfdp_arena.specs.Arena.{Blocks, octets_at, with_block, without_block, live_count}
 use Rattle.cfdp_arena.proofs.Chains.{live_within}
 use Rattle.cfdp_tree.specs.declared.index.ListHead.{ListHead}
 use Rattle.cfdp_tree.specs.code.NodeFields.{node_fields_of, node_name}
@@ -15,22 +15,20 @@ use Rattle.cfdp_tree.specs.code.Tree.{IsNode, node_fields_at, name_at, home_in, 
 use Rattle.cfdp_tree.specs.code.Index.{Heads, bucket_of, index_chain, no_head, list_of, count_out, HasHead, IsHead, IsIndex}
 use Rattle.cfdp_tree.proofs.OfIndex.IndexLaws.{kept_chain}
 use Rattle.cfdp_tree.proofs.OfIndex.HeadLaws.{head_kept}
-use Rattle.cfdp_arena.proofs.Laws.{live_count-written, live_count-given, live_count-taken, live_count-same}
+use Rattle.cfdp_arena.proofs.Laws.{octets_at-with_other, live_count-written, live_count-given, live_count-taken, live_count-same}
 use Rattle.cfdp_order.proofs.SplitLaws.{All_front}
+use Rattle.cfdp_tree.proofs.OfNodes.OneBlockLaws.{octets_other}
 use Rattle.cfdp_tree.proofs.OfNodes.NodeLaws.{no_live}
 
 module _ (old new : Blocks) (b : ℕ) (heads : Heads) (was now : Option ℕ) (others : (c : ℕ) → c ≢ b → octets_at new c ≡ octets_at old c)
     (was_out : IsNode old b → was ≡ Some b) (now_out : IsNode new b → now ≡ Some b) (was_no_other : (c : ℕ) → c ≢ b → was ≢ Some c) (no_other : (c : ℕ) → c
     ≢ b → now ≢ Some c)
     (counts : live_count new + count_out was ≡ live_count old + count_out now) (index : IsIndex old heads was) where
-  octets_other : (c : ℕ) → c ≢ b → octets_of new c ≡ octets_of old c
-  octets_other c other = ap (λ entry. unwrap_or entry []) (others c other)
-
   same_bucket : (c : ℕ) → c ≢ b → bucket_of (home new c) (name_at new c) (length heads) ≡ bucket_of (home old c) (name_at old c) (length heads)
-  same_bucket c other = ap (λ block. bucket_of (home_in c block) (node_name block) (length heads)) (octets_other c other)
+  same_bucket c other = ap (λ block. bucket_of (home_in c block) (node_name block) (length heads)) (octets_other old new b others c other)
 
   links_other : (c : ℕ) → b ≢ c → (node_fields_at new c).same_head ≡ (node_fields_at old c).same_head
-  links_other c other = ap (λ block. (node_fields_of block).same_head) (octets_other c (λ e. other (sym e)))
+  links_other c other = ap (λ block. (node_fields_of block).same_head) (octets_other old new b others c (λ e. other (sym e)))
 
   head_other : (k c : ℕ) → HasHead old was (length heads) k c → c ≢ b
   head_other k c has e = has.inside (was_out (subst (IsNode old) e has.node) ∙ ap Some (sym e))
@@ -62,14 +60,14 @@ module _ (old new : Blocks) (b : ℕ) (heads : Heads) (was now : Option ℕ) (ot
 pub index_created : (old : Blocks) (heads : Heads) (b : ℕ) (block : List ℕ) → b < length old → octets_at old b ≡ None → IsIndex old heads None →
     IsIndex (with_block old b block) heads (Some b)
 index_created old heads b block within free index =
-    index_out old (with_block old b block) b heads None (Some b) (λ c other. get_or-set_other old b c (Some block) None other)
+    index_out old (with_block old b block) b heads None (Some b) (octets_at-with_other old b block)
     (λ node. absurd (no_live _ free node)) (λ node. refl) (λ c other. none-some c) (λ c other e. other (sym (same_Some _ _ e)))
     (omega (arith, live_count-taken old b block within free)) index
 
 pub index_moved : (old : Blocks) (heads : Heads) (b : ℕ) (block : List ℕ) → IsNode old b → IsIndex old heads (Some b) →
     IsIndex (with_block old b block) heads (Some b)
 index_moved old heads b block node index =
-    index_out old (with_block old b block) b heads (Some b) (Some b) (λ c other. get_or-set_other old b c (Some block) None other)
+    index_out old (with_block old b block) b heads (Some b) (Some b) (octets_at-with_other old b block)
     (λ node. refl) (λ node. refl) (λ c other e. other (sym (same_Some _ _ e))) (λ c other e. other (sym (same_Some _ _ e)))
     (omega (arith, live_count-written old b block node)) index
 

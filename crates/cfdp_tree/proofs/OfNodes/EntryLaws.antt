@@ -1,17 +1,19 @@
 -- Nodes that are where they were.
 --     kept_climb, kept_ends      the way to a node whose directories have stayed
 --     same_paths, same_tree      all nodes have stayed
---     at_b, kept_by, still_named     the block of one of them is written
+--     at_b, kept_by              the block of one of them is written
 --     same_entries               the block of one of them is written
 use Rattle.std.proofs.Common.{◌≡◌, ℕ, suc, zero, List, [], ◌∷◌, ◌++◌, Option, Some, None, is_some, refl, sym, ap, ◌∙◌, subst, inl, inr}
 use Rattle.std.proofs.lemmas.List.{get_or-set_same, get_or-set_other}
 use Rattle.std.proofs.lemmas.Bool.{cases_eq}
 use Rattle.std.specs.Option.{option_map_or}
-use Rattle.std.specs.Prelude.{IsSome, unwrap_or}
-use Rattle.cfdp_arena.specs.Arena.{Blocks, octets_at, octets_of, with_block}
+use Rattle.std.specs.Prelude.{unwrap_or}
+use Rattle.cfdp_arena.specs.Arena.{Blocks, octets_at, with_block}
 use Rattle.cfdp_arena.proofs.Chains.{live_within}
+use Rattle.cfdp_arena.proofs.Laws.{octets_at-with_other}
 use Rattle.cfdp_tree.specs.code.NodeFields.{node_fields_of, node_name, kind_of_octet}
 use Rattle.cfdp_tree.specs.code.Tree.{IsNode, node_fields_at, name_at, home_in, home, climb, most_names, path_of_node, Ends, IsNamed, IsTree, SameEntries}
+use Rattle.cfdp_tree.proofs.OfNodes.OneBlockLaws.{octets_of-with_same, still_named}
 
 -- P is of the nodes that stayed, and of their directories
 module _ (old new : Blocks) (P : ℕ → Type 0) (closed : (b d : ℕ) → P b → home old b ≡ Some d → P d)
@@ -63,14 +65,6 @@ module _ (old : Blocks) (b : ℕ) (block : List ℕ) (node : IsNode old b) where
     | inr other ↦ ap (word c) (get_or-set_other old b c (Some block) None other)
   ]
 
-  -- each node's name is still one
-  pub still_named : IsTree old → IsNamed block → (c : ℕ) → IsNode (with_block old b block) c → IsNamed (octets_of (with_block old b block) c)
-  still_named tree named c other = elim (cases_eq c b) [
-    | inl e ↦ subst IsNamed (sym (ap (octets_of (with_block old b block)) e ∙ ap (λ entry. unwrap_or entry []) at_b)) named
-    | inr apart ↦ (let stays = get_or-set_other old b c (Some block) None apart in
-        subst IsNamed (sym (ap (λ entry. unwrap_or entry []) stays)) (tree.named c (subst IsSome stays other)))
-  ]
-
   pub same_entries : IsTree old → IsNamed block → home_in b block ≡ home old b → node_name block ≡ name_at old b
       → kind_of_octet (node_fields_of block).kind ≡ kind_of_octet (node_fields_at old b).kind → SameEntries old (with_block old b block)
   same_entries tree named there name kind = record {
@@ -78,5 +72,6 @@ module _ (old : Blocks) (b : ℕ) (block : List ℕ) (node : IsNode old b) where
     homes = kept_by (λ c entry. home_in c (unwrap_or entry [])) there;
     names = kept_by (λ c entry. node_name (unwrap_or entry [])) name;
     kinds = kept_by (λ c entry. kind_of_octet (node_fields_of (unwrap_or entry [])).kind) kind;
-    named = still_named tree named;
+    named = still_named old (with_block old b block) b (octets_at-with_other old b block) tree
+        (λ _. subst IsNamed (sym (octets_of-with_same old b block (live_within old b node))) named);
   }

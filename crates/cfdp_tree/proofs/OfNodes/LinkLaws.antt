@@ -9,6 +9,8 @@ use Rattle.std.proofs.Common.{◌≡◌, ◌≢◌, ◌≤◌, ℕ, List, [], So
 use Rattle.std.proofs.lemmas.List.{get_or-set_other}
 use Rattle.std.specs.Prelude.{◌==◌, unwrap_or, if◌then◌else◌}
 use Rattle.cfdp_arena.specs.Arena.{Blocks, octets_at, octets_of, with_block}
+use Rattle.cfdp_arena.proofs.Chains.{live_within}
+use Rattle.cfdp_arena.proofs.Laws.{octets_at-with_other}
 use Rattle.cfdp_tree.specs.code.NodeFields.{NodeFields, node_fields_of, node_name, kind_of_octet}
 use Rattle.cfdp_tree.specs.code.Tree.{IsNode, node_fields_at, name_at, IsNamed, IsTree, unlinked, Relinked, SameEntries}
 use Rattle.cfdp_paths.specs.Paths.{IsName}
@@ -16,7 +18,8 @@ use Rattle.cfdp_tree.specs.code.Block.{block_header}
 use Rattle.cfdp_tree.specs.code.Nodes.{nodes_in}
 use Rattle.cfdp_tree.proofs.OfNodes.TreeLaws.{node_octets}
 use Rattle.cfdp_tree.proofs.OfNodes.WriteLaws.{written_noted}
-use Rattle.cfdp_tree.proofs.OfNodes.EntryLaws.{at_b, kept_by, still_named}
+use Rattle.cfdp_tree.proofs.OfNodes.OneBlockLaws.{octets_of-with_same, still_named}
+use Rattle.cfdp_tree.proofs.OfNodes.EntryLaws.{at_b, kept_by}
 
 module _ (old new : List ℕ) (link : ℕ) (fields : node_fields_of new ≡ record (node_fields_of old) { same_head = link }) (rest : drop 32 new ≡ drop 32 old) where
   pub relinked_name : node_name new ≡ node_name old
@@ -51,7 +54,9 @@ module _ (arena : Blocks) (b : ℕ) (shown new : List ℕ) (link : ℕ) (node : 
         nodes = kept_by nodes b new node (λ c entry. is_some entry) (sym node);
         all_fields = kept_by nodes b new node (λ c entry. unlinked (node_fields_of (unwrap_or entry []))) (ap unlinked link_fields);
         names = kept_by nodes b new node (λ c entry. node_name (unwrap_or entry [])) link_name;
-        named = still_named nodes b new node tree (relinked_named shown new link fields rest whole (subst IsNamed (sym there) (tree.named b node)));
+        named = still_named nodes (with_block nodes b new) b (octets_at-with_other nodes b new) tree (λ _. subst IsNamed
+            (sym (octets_of-with_same nodes b new (live_within nodes b node)))
+            (relinked_named shown new link fields rest whole (subst IsNamed (sym there) (tree.named b node))));
       }
 
 -- the link in a node's block, and in another one

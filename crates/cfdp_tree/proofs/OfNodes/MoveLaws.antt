@@ -3,7 +3,7 @@
 --     moved_path        what was below the old path is below the new one
 --     stayed_path       the others are where they were
 use Rattle.std.proofs.Common.{◌≡◌, ◌≢◌, ℕ, zero, suc, ◌+◌, ◌-◌, ◌≤◌, Bool, true, false, List, [], ◌∷◌, ◌++◌, length, length-append, take, drop, append_assoc, Option, Some, None, is_some, refl, sym, ap, ◌∙◌, subst, inl, inr, arith}
-use Rattle.std.proofs.lemmas.List.{get_or-set_other, take_at, drop_all, length-drop, append-nil}
+use Rattle.std.proofs.lemmas.List.{take_at, drop_all, length-drop, append-nil}
 use Rattle.std.proofs.lemmas.Bool.{both_ways, cases_eq}
 use Rattle.std.specs.Option.{option_map_or}
 use Rattle.std.specs.Prelude.{unwrap_or}
@@ -11,11 +11,14 @@ use Rattle.std.proofs.lemmas.Option.{same_Some}
 use Rattle.cfdp_paths.specs.Paths.{Name, Path, parent, is_at_or_below, rebased}
 use Rattle.cfdp_paths.proofs.Below.{at_or_below-itself, at_or_below-trans, at_or_below-append, length-at_or_below, is_below-Decides, below_parent, parent-take}
 use Rattle.cfdp_arena.specs.Arena.{Blocks, octets_at, octets_of, with_block}
+use Rattle.cfdp_arena.proofs.Chains.{live_within}
+use Rattle.cfdp_arena.proofs.Laws.{octets_at-with_other}
 use Rattle.cfdp_tree.specs.code.NodeFields.{node_fields_of, node_name, kind_of_octet}
 use Rattle.cfdp_tree.specs.code.Tree.{IsNode, IsDirectory, node_fields_at, name_at, home_in, home, climb, most_names, path_of_node, Ends, IsEntry, IsNamed, IsTree}
 use Rattle.cfdp_tree.specs.code.Directories.{path_at}
 use Rattle.cfdp_tree.proofs.OfNodes.TreeLaws.{same_node}
-use Rattle.cfdp_tree.proofs.OfNodes.EntryLaws.{kept_climb, kept_ends, at_b, kept_by}
+use Rattle.cfdp_tree.proofs.OfNodes.OneBlockLaws.{octets_of-with_same, home_other, name_other, changed_tree}
+use Rattle.cfdp_tree.proofs.OfNodes.EntryLaws.{kept_climb, kept_ends, kept_by}
 use Rattle.cfdp_tree.proofs.OfNodes.ClimbLaws.{most_is, ends_by_length, climb_same, path_by_home}
 
 -- what a path without its last name is below, where the path is
@@ -41,10 +44,10 @@ module _ (old : Blocks) (b : ℕ) (block : List ℕ) (node : IsNode old b) (tree
   new = with_block old b block
 
   octets_new : octets_of new b ≡ block
-  octets_new = ap (λ entry. unwrap_or entry []) (at_b old b block node)
+  octets_new = octets_of-with_same old b block (live_within old b node)
 
-  octets_other : (c : ℕ) → c ≢ b → octets_of new c ≡ octets_of old c
-  octets_other c other = ap (λ entry. unwrap_or entry []) (get_or-set_other old b c (Some block) None other)
+  others : (c : ℕ) → c ≢ b → octets_at new c ≡ octets_at old c
+  others = octets_at-with_other old b block
 
   somes : (c : ℕ) → is_some (octets_at new c) ≡ is_some (octets_at old c)
   somes = kept_by old b block node (λ c entry. is_some entry) (sym node)
@@ -52,20 +55,11 @@ module _ (old : Blocks) (b : ℕ) (block : List ℕ) (node : IsNode old b) (tree
   kinds : (c : ℕ) → kind_of_octet (node_fields_at new c).kind ≡ kind_of_octet (node_fields_at old c).kind
   kinds = kept_by old b block node (λ c entry. kind_of_octet (node_fields_of (unwrap_or entry [])).kind) kind
 
-  home_other : (c : ℕ) → c ≢ b → home new c ≡ home old c
-  home_other c other = ap (home_in c) (octets_other c other)
-
-  name_other : (c : ℕ) → c ≢ b → name_at new c ≡ name_at old c
-  name_other c other = ap node_name (octets_other c other)
-
   home_new : home new b ≡ home_in b block
   home_new = ap (home_in b) octets_new
 
   name_new : name_at new b ≡ node_name block
   name_new = ap node_name octets_new
-
-  directory_kept : (d : ℕ) → IsDirectory old d → IsDirectory new d
-  directory_kept d was = record { node = somes d ∙ was.node; directory = kinds d ∙ was.directory }
 
   -- what is not at or below the old path
   record Stays (c : ℕ) : Type 0 where
@@ -93,10 +87,12 @@ module _ (old : Blocks) (b : ℕ) (block : List ℕ) (node : IsNode old b) (tree
   is_other c stays e = both_ways _ stays.outside (ap (λ x. is_at_or_below x p) (ap (path_of_node old) e ∙ p_is) ∙ at_or_below-itself p)
 
   climb_stays : (n c : ℕ) → Stays c → climb new n c ≡ climb old n c
-  climb_stays = kept_climb old new Stays closed (λ c stays. home_other c (is_other c stays)) (λ c stays. name_other c (is_other c stays))
+  climb_stays = kept_climb old new Stays closed
+      (λ c stays. home_other old new b others c (is_other c stays)) (λ c stays. name_other old new b others c (is_other c stays))
 
   ends_stays : (n c : ℕ) → Stays c → Ends old n c → Ends new n c
-  ends_stays = kept_ends old new Stays closed (λ c stays. home_other c (is_other c stays)) (λ c stays. name_other c (is_other c stays))
+  ends_stays = kept_ends old new Stays closed
+      (λ c stays. home_other old new b others c (is_other c stays)) (λ c stays. name_other old new b others c (is_other c stays))
 
   -- the directory to which it moves
   target : (d : ℕ) → home_in b block ≡ Some d → Stays d
@@ -132,8 +128,8 @@ module _ (old : Blocks) (b : ℕ) (block : List ℕ) (node : IsNode old b) (tree
 
   way_below : (k c d : ℕ) → IsNode old c → c ≢ b → home old c ≡ Some d → length p ≤ length (path_of_node old d) → Way k d → Way (suc k) c
   way_below k c d was other there long way = (
-    (λ e at. subst (Ends new k) (same_Some _ _ (sym there ∙ sym (home_other c other) ∙ at)) way.0),
-    (λ i. option_map_or (λ e. climb new k e) (home_other c other i) [] ++ name_other c other i ∷ [])
+    (λ e at. subst (Ends new k) (same_Some _ _ (sym there ∙ sym (home_other old new b others c other) ∙ at)) way.0),
+    (λ i. option_map_or (λ e. climb new k e) (home_other old new b others c other i) [] ++ name_other old new b others c other i ∷ [])
         ∙ ap (λ x. option_map_or (λ e. climb new k e) x [] ++ name_at old c ∷ []) there
         ∙ ap (λ x. x ++ name_at old c ∷ []) way.1
         ∙ append_assoc q (drop (length p) (path_of_node old d)) (name_at old c ∷ [])
@@ -196,12 +192,6 @@ module _ (old : Blocks) (b : ℕ) (block : List ℕ) (node : IsNode old b) (tree
   was_node : (c : ℕ) → IsNode new c → IsNode old c
   was_node c is = sym (somes c) ∙ is
 
-  homes_new : (c d : ℕ) → IsNode new c → home new c ≡ Some d → IsDirectory new d
-  homes_new c d is there = directory_kept d (elim (cases_eq c b) [
-    | inl e ↦ good d (sym home_new ∙ ap (home new) (sym e) ∙ there)
-    | inr other ↦ tree.homes c d (was_node c is) (sym (home_other c other) ∙ there)
-  ])
-
   ends_new : (c : ℕ) → IsNode new c → Ends new most_names c
   ends_new c is = by_case (is_at_or_below (path_of_node old c) p) refl
     where
@@ -209,32 +199,8 @@ module _ (old : Blocks) (b : ℕ) (block : List ℕ) (node : IsNode old b) (tree
       by_case true e = (moved_way c (was_node c is) e).0
       by_case false e = ends_stays most_names c (record { there = was_node c is; outside = e }) (tree.ends c (was_node c is))
 
-  -- under the new name there is nothing else
-  alone : (c : ℕ) → IsNode old c → c ≢ b → home new c ≡ home new b → name_at new c ≡ name_at new b → ⊥
-  alone c was other there name = fresh c (record {
-    node = was;
-    there = sym (home_other c other) ∙ there ∙ home_new;
-    named = sym (name_other c other) ∙ name ∙ name_new;
-  })
-
-  unique_new : (c d : ℕ) → IsNode new c → IsNode new d → home new c ≡ home new d → name_at new c ≡ name_at new d → c ≡ d
-  unique_new c d is also there name = elim (cases_eq c b) [
-    | inl e ↦ elim (cases_eq d b) [
-      | inl f ↦ e ∙ sym f
-      | inr other ↦ absurd (alone d (was_node d also) other (sym there ∙ ap (home new) e) (sym name ∙ ap (name_at new) e))
-    ]
-    | inr other ↦ elim (cases_eq d b) [
-      | inl f ↦ absurd (alone c (was_node c is) other (there ∙ ap (home new) f) (name ∙ ap (name_at new) f))
-      | inr else ↦ tree.unique c d (was_node c is) (was_node d also)
-          (sym (home_other c other) ∙ there ∙ home_other d else) (sym (name_other c other) ∙ name ∙ name_other d else)
-    ]
-  ]
-
-  named_new : (c : ℕ) → IsNode new c → IsNamed (octets_of new c)
-  named_new c is = elim (cases_eq c b) [
-    | inl e ↦ subst IsNamed (sym (ap (octets_of new) e ∙ octets_new)) named
-    | inr other ↦ subst IsNamed (sym (octets_other c other)) (tree.named c (was_node c is))
-  ]
-
   pub moved_tree : IsTree new
-  moved_tree = record { named = named_new; homes = homes_new; ends = ends_new; unique = unique_new }
+  moved_tree =
+      changed_tree old new b others tree (λ _. subst IsNamed (sym octets_new) named) (λ _ d there. good d (sym home_new ∙ there))
+      (λ _ c entry. fresh c (record { node = entry.node; there = entry.there ∙ home_new; named = entry.named ∙ name_new }))
+      (λ c is there was. record { node = somes b ∙ was.node; directory = kinds b ∙ was.directory }) ends_new

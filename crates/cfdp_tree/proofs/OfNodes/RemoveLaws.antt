@@ -2,11 +2,11 @@
 --     left_path          the paths of the others
 --     removed_tree       there is a tree still
 --     removed_shows      what exists then
-use Rattle.std.proofs.Common.{◌≡◌, ◌≢◌, ℕ, Bool, true, false, [], cond, Option, Some, None, refl, sym, ap, ◌∙◌, subst}
+use Rattle.std.proofs.Common.{◌≡◌, ◌≢◌, ℕ, Bool, true, false, cond, Option, Some, None, refl, sym, ap, ◌∙◌, subst}
 use Rattle.std.proofs.lemmas.List.{get_or-set_same, get_or-set_other}
 use Rattle.std.specs.FinMap as finite
 use Rattle.std.specs.FinMap.{get-remove}
-use Rattle.std.specs.Prelude.{IsSome, unwrap_or}
+use Rattle.std.specs.Prelude.{IsSome}
 use Rattle.std.proofs.lemmas.Option.{none-some}
 use Rattle.std.proofs.lemmas.Bool.{both_ways}
 use Rattle.cfdp_paths.specs.Paths.{Path, path_cmp, same_path}
@@ -14,11 +14,11 @@ use Rattle.cfdp_paths.proofs.Comparing.{same_path-Decides, path_cmp-total}
 use Rattle.cfdp_arena.specs.Arena.{Blocks, octets_at, octets_of, without_block}
 use Rattle.cfdp_arena.proofs.Chains.{live_within}
 use Rattle.cfdp_actions.specs.Filestore.{Node}
-use Rattle.cfdp_tree.specs.code.NodeFields.{node_fields_of, node_name, kind_of_octet}
-use Rattle.cfdp_tree.specs.code.Tree.{IsNode, IsDirectory, name_at, home_in, home, climb, most_names, path_of_node, IsNamed, IsTree}
+use Rattle.cfdp_tree.specs.code.Tree.{IsNode, home, climb, most_names, path_of_node, IsTree}
 use Rattle.cfdp_tree.specs.code.Kept.{node_of, Shows}
 use Rattle.cfdp_tree.proofs.OfNodes.TreeLaws.{same_node}
 use Rattle.cfdp_tree.proofs.OfNodes.EntryLaws.{kept_climb, kept_ends}
+use Rattle.cfdp_tree.proofs.OfNodes.OneBlockLaws.{octets_other, home_other, name_other, was_other, changed_tree}
 use Rattle.cfdp_tree.proofs.OfNodes.NodeLaws.{no_live}
 
 module _ (old : Blocks) (b : ℕ) (node : IsNode old b) (tree : IsTree old) (childless : (c : ℕ) → IsNode old c → home old c ≡ Some b → ⊥) where
@@ -31,9 +31,6 @@ module _ (old : Blocks) (b : ℕ) (node : IsNode old b) (tree : IsTree old) (chi
   at_other : (c : ℕ) → c ≢ b → octets_at new c ≡ octets_at old c
   at_other c other = get_or-set_other old b c None None other
 
-  octets_other : (c : ℕ) → c ≢ b → octets_of new c ≡ octets_of old c
-  octets_other c other = ap (λ entry. unwrap_or entry []) (at_other c other)
-
   is_other : (c : ℕ) → IsNode new c → c ≢ b
   is_other c left e = no_live _ at_new (subst (IsNode new) e left)
 
@@ -41,45 +38,21 @@ module _ (old : Blocks) (b : ℕ) (node : IsNode old b) (tree : IsTree old) (chi
   Left c = IsNode old c × (c ≢ b)
 
   left : (c : ℕ) → IsNode new c → Left c
-  left c stays = (subst IsSome (at_other c (is_other c stays)) stays, is_other c stays)
-
-  home_left : (c : ℕ) → Left c → home new c ≡ home old c
-  home_left c is = ap (home_in c) (octets_other c is.1)
-
-  name_left : (c : ℕ) → Left c → name_at new c ≡ name_at old c
-  name_left c is = ap node_name (octets_other c is.1)
+  left c stays = (was_other old new b at_other c stays (is_other c stays), is_other c stays)
 
   closed : (c d : ℕ) → Left c → home old c ≡ Some d → Left d
   closed c d is there = ((tree.homes c d is.0 there).node, (λ e. childless c is.0 (there ∙ ap Some e)))
 
   climb_left : (n c : ℕ) → Left c → climb new n c ≡ climb old n c
-  climb_left = kept_climb old new Left closed home_left name_left
-
-  homes_new : (c d : ℕ) → IsNode new c → home new c ≡ Some d → IsDirectory new d
-  homes_new c d stays there =
-      let is = left c stays in
-      let at = sym (home_left c is) ∙ there in
-      let was = tree.homes c d is.0 at in
-      let other = (closed c d is at).1 in
-      record {
-        node = subst IsSome (sym (at_other d other)) was.node;
-        directory = ap (λ o. kind_of_octet (node_fields_of o).kind) (octets_other d other)
-            ∙ was.directory;
-      }
-
-  unique_new : (c d : ℕ) → IsNode new c → IsNode new d → home new c ≡ home new d → name_at new c ≡ name_at new d → c ≡ d
-  unique_new c d one two there name =
-      let x = left c one in
-      let y = left d two in
-      tree.unique c d x.0 y.0 (sym (home_left c x) ∙ there ∙ home_left d y) (sym (name_left c x) ∙ name ∙ name_left d y)
+  climb_left = kept_climb old new Left closed (λ c is. home_other old new b at_other c is.1) (λ c is. name_other old new b at_other c is.1)
 
   pub removed_tree : IsTree new
-  removed_tree = record {
-    named = (λ c stays. subst IsNamed (sym (octets_other c (is_other c stays))) (tree.named c (left c stays).0));
-    homes = homes_new;
-    ends = (λ c stays. (let is = left c stays in kept_ends old new Left closed home_left name_left most_names c is (tree.ends c is.0)));
-    unique = unique_new;
-  }
+  removed_tree =
+      changed_tree old new b at_other tree (λ here. absurd (no_live _ at_new here)) (λ here d there. absurd (no_live _ at_new here))
+      (λ here c entry. no_live _ at_new here)
+      (λ c stays there was. absurd (childless c (left c stays).0 (sym (home_other old new b at_other c (is_other c stays)) ∙ there)))
+      (λ c stays. (let is = left c stays in kept_ends old new Left closed
+      (λ c is. home_other old new b at_other c is.1) (λ c is. name_other old new b at_other c is.1) most_names c is (tree.ends c is.0)))
 
   pub left_path : (c : ℕ) → IsNode old c → c ≢ b → path_of_node new c ≡ path_of_node old c
   left_path c was other = climb_left most_names c (was, other)
@@ -99,7 +72,8 @@ module _ (old : Blocks) (b : ℕ) (node : IsNode old b) (tree : IsTree old) (chi
     each_new c is true e =
         absurd (is.1 (same_node old tree c b is.0 node (sym (left_path c is.0 is.1) ∙ (same_path-Decides (path_of_node new c) (path_of_node old b)).0 e)))
     each_new c is false e =
-        ap (finite.get F) (left_path c is.0 is.1) ∙ shows.each c is.0 ∙ ap Some (sym (stays c is.0 is.1) ∙ ap (node_of later) (sym (octets_other c is.1)))
+        ap (finite.get F) (left_path c is.0 is.1) ∙ shows.each c is.0
+        ∙ ap Some (sym (stays c is.0 is.1) ∙ ap (node_of later) (sym (octets_other old new b at_other c is.1)))
 
     only_new : (q : Path) (here : Node) (same : Bool) → same_path q (path_of_node old b) ≡ same → without same (finite.get F q) ≡ Some here
         → (c : ℕ) × IsNode new c × (path_of_node new c ≡ q)

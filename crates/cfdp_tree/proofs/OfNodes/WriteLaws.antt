@@ -3,15 +3,16 @@
 --     created_octets, created_nodes                    where it is taken
 --     deleted_noted                                    where it is given back
 --     home_written                                     where a node is by what it says
-use Rattle.std.proofs.Common.{◌≡◌, ◌≢◌, ℕ, ◌<◌, List, [], Option, Some, None, length, refl, sym, ap, ◌∙◌, arith}
+use Rattle.std.proofs.Common.{◌≡◌, ◌≢◌, ℕ, ◌<◌, List, Option, Some, None, length, refl, sym, ap, ◌∙◌, arith}
 use Rattle.std.proofs.lemmas.Bool.{eq-eqb, ne_eqb}
-use Rattle.std.proofs.lemmas.List.{get_or-set_same, length-map, map-set}
+use Rattle.std.proofs.lemmas.List.{length-map, map-set}
 use Rattle.std.specs.Prelude.{◌==◌, if◌then◌else◌, unwrap_or}
 use Rattle.cfdp_arena.specs.Arena.{Blocks, octets_at, octets_of, with_block, without_block}
 use Rattle.cfdp_arena.proofs.Chains.{live_within}
 use Rattle.cfdp_tree.specs.code.Block.{BlockHeader, block_header}
 use Rattle.cfdp_tree.specs.code.Nodes.{only_node, nodes_in}
 use Rattle.cfdp_tree.specs.code.Tree.{IsNode}
+use Rattle.cfdp_tree.proofs.OfNodes.OneBlockLaws.{octets_of-with_same}
 use Rattle.cfdp_tree.proofs.OfNodes.NodeLaws.{nodes-noted}
 use Rattle.cfdp_tree.proofs.OfNodes.TreeLaws.{node_kind, node_live}
 
@@ -19,7 +20,7 @@ module _ (arena : Blocks) (b : ℕ) (new : List ℕ) (within : b < length arena)
   pub created_octets : octets_of (nodes_in (with_block arena b new)) b ≡ new
   created_octets =
       ap (λ nodes. octets_of nodes b) (nodes-noted arena b new kind)
-      ∙ ap (λ entry. unwrap_or entry []) (get_or-set_same (nodes_in arena) b (Some new) None (omega (arith, length-map arena only_node)))
+      ∙ octets_of-with_same (nodes_in arena) b new (omega (arith, length-map arena only_node))
 
   pub created_nodes : nodes_in (with_block arena b new) ≡ with_block (nodes_in arena) b (octets_of (nodes_in (with_block arena b new)) b)
   created_nodes = nodes-noted arena b new kind ∙ ap (with_block (nodes_in arena) b) (sym created_octets)

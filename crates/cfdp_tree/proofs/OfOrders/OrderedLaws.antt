@@ -83,7 +83,11 @@ module _ (nodes : Blocks) (orders : Orders) (b : ℕ) (free : octets_at nodes b 
     directories = ordered.directories;
     order = ordered.order;
     own = (λ directory. All-weaker (IsMember nodes None directory) (IsMember nodes (Some b) directory)
-        (λ c member. record { node = member.node; there = member.there; listed = λ e. no_live _ free (subst (IsNode nodes) (sym (same_Some _ _ e)) member.node) })
+        (λ c member. record {
+          node = member.node;
+          there = member.there;
+          listed = λ e. no_live _ free (subst (IsNode nodes) (sym (same_Some b c e)) member.node);
+        })
         (in_order orders directory) (ordered.own directory));
     rising = ordered.rising;
     all = (λ c node listed. ordered.all c node (none-some c));

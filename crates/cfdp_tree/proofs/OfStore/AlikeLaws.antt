@@ -3,7 +3,8 @@
 --     alike_relinked                     where links of the index change
 --     alike_shows                        the same is at each path
 --     alike_directory, node_by_contents  directories stay;  what is at a node by what it holds
---     runs_then                          runs that stay in two steps
+--     held_is                            what a node that is there holds
+--     stays_then, runs_then              a run that stays in two steps, and all runs
 use Rattle.std.proofs.Common.{◌≡◌, ℕ, List, [], Option, Some, None, is_some, refl, sym, ap, ◌∙◌}
 use Rattle.std.specs.FinMap as finite
 use Rattle.std.specs.Prelude.{IsSome, unwrap_or}
@@ -72,7 +73,7 @@ module _ (old new : Blocks) (same : Alike old new) where
     only = (λ p node e. (let at = shows.only p node e in (at.0, same.entries.nodes at.0 ∙ at.1, same_paths old new same.entries at.0 ∙ at.2)));
   }
 
-stays_then : (first second third : Blocks) (run : Run) → Stays first second run → Stays second third run → Stays first third run
+pub stays_then : (first second third : Blocks) (run : Run) → Stays first second run → Stays second third run → Stays first third run
 stays_then first second third run one two = record {
   held = two.held;
   octets = two.octets ∙ one.octets;

@@ -21,7 +21,6 @@ use Rattle.cfdp_actions.specs.Store.{Store, with_changes, is_file_kind}
 use Rattle.cfdp_actions.proofs.ChangeLaws.{blocks-becomes}
 use Rattle.cfdp_actions.proofs.Growth.{blocks_of-zero}
 use Rattle.cfdp_tree.specs.declared.contents.Contents.{Contents}
-use Rattle.cfdp_tree.specs.declared.runs.Run.{Run}
 use Rattle.cfdp_ways.specs.declared.way.Way.{Way}
 use Rattle.cfdp_tree.specs.declared.slots.Slot.{Slot}
 use Rattle.cfdp_tree.specs.code.NodeFields.{NodeFields, node_fields_of, kind_of_octet}
@@ -34,14 +33,14 @@ use Rattle.cfdp_tree.specs.code.Index.{Heads, IsIndex}
 use Rattle.cfdp_tree.specs.code.Kept.{no_contents, contents_of_fields, file_of, file_in, holdings, node_with, node_of, Shows, store_of}
 use Rattle.cfdp_tree.specs.code.Slots.{lists_staged, IsStore}
 use Rattle.cfdp_tree.proofs.OfRuns.ContentsLaws.{length-contents, none_filled, stays_contents}
-use Rattle.cfdp_tree.proofs.OfStore.SlotLaws.{node_same}
+use Rattle.cfdp_tree.proofs.OfStore.SlotLaws.{node_held}
 use Rattle.cfdp_tree.proofs.OfStore.SeenLaws.{shows, seen_none, file_small, seen_node, seen_blocks, held_at, node_is_directory}
 use Rattle.cfdp_tree.proofs.OfNodes.EntryLaws.{same_paths, same_tree}
 use Rattle.cfdp_tree.proofs.OfNodes.ClimbLaws.{path_by_home}
 use Rattle.cfdp_tree.proofs.OfNodes.BelowLaws.{entry_some}
 use Rattle.cfdp_tree.proofs.OfNodes.RemoveLaws.{removed_tree, removed_shows}
 use Rattle.cfdp_tree.proofs.OfIndex.OutLaws.{index_deleted}
-use Rattle.cfdp_tree.proofs.OfStore.AlikeLaws.{Alike, alike_relinked, alike_node, node_by_contents, alike_shows, held_is}
+use Rattle.cfdp_tree.proofs.OfStore.AlikeLaws.{Alike, alike_relinked, alike_node, alike_shows, held_is, stays_then}
 use Rattle.cfdp_tree.proofs.OfStore.ChangedLaws.{IsLeft, nodes_seen, nodes_store}
 use Rattle.cfdp_tree.proofs.OfNodes.NodeLaws.{no_live}
 
@@ -61,11 +60,6 @@ file_octets : (arena : Blocks) (k : Kind) (fields : NodeFields) → k ≡ kind.F
     × ((contents_of_fields k fields).size ≡ fields.size)
 file_octets arena kind.File fields file = (refl, refl)
 file_octets arena kind.Directory fields file = cc
-
-stays_two : (first second third : Blocks) (run : Run) → Stays first second run → RunsStay second third → Stays first third run
-stays_two first second third run one runs =
-    let two = runs run one.held in
-    record { held = two.held; octets = two.octets ∙ one.octets; sequence = (λ k within. two.sequence k within ∙ one.sequence k within) }
 
 module _ (arena : Blocks) (heads : Heads) (slots : List Slot) {ways : List Way} (store : IsStore arena ways heads slots) (now : Store)
     (view : store_of arena (lists_staged slots) ≡ now) where
@@ -189,7 +183,7 @@ module _ (arena : Blocks) (heads : Heads) (slots : List Slot) {ways : List Way} 
         spared i other =
             let x = get_or (holdings nodes staged) i no_contents in
             let apart = subst (λ (y : Contents). Apart y.run x.run) held_there (store.kept.stored.apart (length staged + b) i (λ e. other (sym e))) in
-            stays_two arena one later x.run (spares x.run (store.kept.stored.filled i).held apart).0 runs
+            (let stays = (spares x.run (store.kept.stored.filled i).held apart).0 in stays_then arena one later x.run stays (runs x.run stays.held))
 
         file_stays : (c : ℕ) → c ≢ b → Stays arena later (file_in (octets_at nodes c)).run
         file_stays c other = subst (λ (x : Contents). Stays arena later x.run) (held_at arena heads slots store now view c)
@@ -222,11 +216,8 @@ module _ (arena : Blocks) (heads : Heads) (slots : List Slot) {ways : List Way} 
 
         node_kept : (c : ℕ) → IsNode before c → c ≢ b → node_of later (octets_of before c) ≡ node_of arena (octets_of before c)
         node_kept c inside other =
-            node_by_contents later before c inside
-            ∙ node_same arena later (kind_of_octet (node_fields_of (octets_of before c)).kind) (file_in (octets_at before c))
-            (stays_contents arena later (file_in (octets_at before c)) (subst (λ (x : Contents). Stays arena later x.run) (sym (alike_two.files c))
-            (file_stays c other)))
-            ∙ sym (node_by_contents arena before c inside)
+            node_held arena later before c inside (stays_contents arena later (file_in (octets_at before c))
+            (subst (λ (x : Contents). Stays arena later x.run) (sym (alike_two.files c)) (file_stays c other)))
 
         abbrev F : finite.FinMap path_cmp Node
         F = finite.remove now.filestore.nodes path

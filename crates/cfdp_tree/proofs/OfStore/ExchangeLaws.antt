@@ -2,7 +2,7 @@
 --     exchanged         two of what the slots and the files hold are exchanged
 --     exchange_store, exchange_seen      the store then, and what it is seen as
 use Rattle.std.proofs.Common.{◌≡◌, ◌≢◌, ℕ, ◌+◌, ◌<◌, true, List, [], ◌∷◌, ◌++◌, length, map, set, get_or, Some, refl, sym, ap, ◌∙◌, subst, inl, inr, arith, length-set}
-use Rattle.std.proofs.lemmas.List.{map-set, set-append_left, set-append_right, get_or_append_left, get_or_default, get_or-set_same, get_or-set_other, length-map}
+use Rattle.std.proofs.lemmas.List.{map-set, set-append_left, set-append_right, get_or_append_left, get_or-set_same, get_or-set_other, length-map}
 use Rattle.std.proofs.lemmas.Bool.{cases_eq}
 use Rattle.std.specs.Prelude.{All}
 use Rattle.cfdp_paths.specs.Paths.{Path}
@@ -15,7 +15,7 @@ use Rattle.cfdp_actions.proofs.ChangeLaws.{blocks-becomes, blocks-stages}
 use Rattle.cfdp_tree.specs.declared.contents.Contents.{Contents}
 use Rattle.cfdp_ways.specs.declared.way.Way.{Way}
 use Rattle.cfdp_tree.specs.declared.slots.Slot.{Slot}
-use Rattle.cfdp_tree.specs.code.NodeFields.{node_fields_of, node_name, kind_of_octet}
+use Rattle.cfdp_tree.specs.code.NodeFields.{node_fields_of, node_name}
 use Rattle.cfdp_tree.specs.code.Runs.{Apart, RunsStay}
 use Rattle.cfdp_tree.specs.code.Ways.{HasWays}
 use Rattle.cfdp_tree.specs.code.Contents.{IsFilled, contents_in}
@@ -29,9 +29,9 @@ use Rattle.cfdp_tree.proofs.OfStore.SlotCursors.{slot_stays}
 use Rattle.cfdp_tree.proofs.OfRuns.WayLaws.{same_ways, ways_still}
 use Rattle.cfdp_tree.proofs.OfRuns.ContentsLaws.{stays_filled, stays_contents}
 use Rattle.cfdp_tree.proofs.OfStore.StoredLaws.{apart_back}
-use Rattle.cfdp_tree.proofs.OfStore.SeenLaws.{seen_blocks, mapped_at, slot_there, slot_filled, seen_staged, staged_is}
-use Rattle.cfdp_tree.proofs.OfStore.SlotLaws.{node_same}
-use Rattle.cfdp_tree.proofs.OfStore.FileLaws.{same_filled, same_contents, same_apart, all_maps, file_there, held_here, held_other, in_held, written_octets, written_seen, written_store}
+use Rattle.cfdp_tree.proofs.OfStore.SeenLaws.{seen_blocks, held_at, slot_at_held, slot_there, slot_filled, slot_held, seen_staged}
+use Rattle.cfdp_tree.proofs.OfStore.SlotLaws.{node_held, all_maps}
+use Rattle.cfdp_tree.proofs.OfStore.FileLaws.{same_filled, same_contents, same_apart, file_there, held_here, in_held, written_octets, written_seen, written_store}
 
 module _ (old new : Blocks) (held : List Contents) (i j : ℕ) (first : i < length held) (second : j < length held) (differ : i ≢ j) {ways : List Way}
     (stored : IsStored old ways held) (runs : RunsStay old new) (long : length new ≡ length old)
@@ -172,9 +172,6 @@ module _ (arena : Blocks) (heads : Heads) (slots : List Slot) {ways : List Way} 
   there : i < length staged
   there = omega (arith, store.kept.slots, small)
 
-  slot_held : get_or held i no_contents ≡ slot.contents
-  slot_held = get_or_append_left staged (map file_in nodes) no_contents i there ∙ staged_is arena heads slots store now view i small slot is
-
   file_held : get_or held (length staged + b) no_contents ≡ before
   file_held = held_here arena heads slots store now view b p node way file
 
@@ -196,10 +193,8 @@ module _ (arena : Blocks) (heads : Heads) (slots : List Slot) {ways : List Way} 
 
   node_stays : (c : ℕ) → IsNode nodes c → c ≢ b → node_of later (octets_of nodes c) ≡ node_of arena (octets_of nodes c)
   node_stays c was other =
-      let block = octets_of nodes c in
-      let at = held_other arena heads slots store now view b p node way file c was in
-      node_same arena later (kind_of_octet (node_fields_of block).kind) (file_of block)
-      (ap (contents_in later) (sym at) ∙ kept_at (length staged + c) ∙ ap (contents_in arena) at)
+      let at = held_at arena heads slots store now view c in
+      node_held arena later nodes c was (ap (contents_in later) (sym at) ∙ kept_at (length staged + c) ∙ ap (contents_in arena) at)
 
   staged_now : lists_staged slots_now ≡ set staged i before
   staged_now = map-set (λ (slot : Slot). slot.contents) slots i after ∙ ap (set staged i) after_is
@@ -221,7 +216,7 @@ module _ (arena : Blocks) (heads : Heads) (slots : List Slot) {ways : List Way} 
       subst (IsStored later ways) (sym holdings_now)
       (exchanged arena later held i (length staged + b) (omega (arith, within, there)) within (λ e. omega (arith, there, e)) store.kept.stored runs long
       described
-      (subst (SameOctets described) (sym slot_held) same))
+      (subst (SameOctets described) (sym (slot_held arena heads slots store now view i small slot is)) same))
 
   file_octets : file_octets_at now.filestore p ≡ contents_in arena before
   file_octets = ap octets_in (file_there arena heads slots store now view b p node way file)
@@ -261,10 +256,7 @@ module _ (arena : Blocks) (heads : Heads) (slots : List Slot) {ways : List Way} 
   stays_sound : (j : ℕ) (d : Slot) → j < length slots → IsSoundSlot later (get_or slots j d)
   stays_sound j d within =
       let s = get_or slots j d in
-      let inside : j < length staged = omega (arith, within, length-map slots (λ (slot : Slot). slot.contents)) in
-      let at : get_or held j no_contents ≡ s.contents =
-      get_or_append_left staged (map file_in nodes) no_contents j inside ∙ mapped_at (λ (slot : Slot). slot.contents) slots j s no_contents within
-      (get_or_default slots j d s within) in
+      let at = slot_at_held arena heads slots store now view j d within in
       let was_filled = subst (IsFilled arena) at (store.kept.stored.filled j) in
       let stays = runs s.contents.run was_filled.held in
       slot_stays arena later s stays (store.sound j d within)

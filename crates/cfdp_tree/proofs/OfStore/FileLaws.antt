@@ -1,27 +1,24 @@
 -- The octets of one file change.
 --     same_filled, same_contents, same_apart     octets that are in the same blocks
---     all_maps          two maps over a list that are the same at each index
 --     kind_there, file_there, held_here, file_filled, in_held     what is at the path of a file, and its octets
---     held_other        the octets of another node
 --     written_octets    the fields that were written say which octets the file has
 --     written_seen, written_store      its block is written, and the slots may be others: what is seen, and it is a store
 --     file_store, file_changes         its octets are others, and then its block says so
-use Rattle.std.proofs.Common.{◌≡◌, ◌≢◌, ℕ, suc, ◌+◌, ◌<◌, Bool, true, false, cond, List, [], ◌∷◌, ◌++◌, length, map, set, get_or, Option, Some, None, refl, sym, ap, ◌∙◌, subst, inl, inr, arith}
-use Rattle.std.proofs.lemmas.List.{map-set, set-append_right, get_or_append_left, get_or_default, get_or-set_same, get_or-set_other, length-map, length-append}
+use Rattle.std.proofs.Common.{◌≡◌, ◌≢◌, ℕ, ◌+◌, ◌<◌, true, List, [], ◌∷◌, ◌++◌, length, map, set, get_or, Some, None, refl, sym, ap, ◌∙◌, subst, inl, inr, arith}
+use Rattle.std.proofs.lemmas.List.{map-set, set-append_right, get_or_append_left, length-map, length-append}
 use Rattle.std.proofs.lemmas.Bool.{cases_eq}
 use Rattle.std.specs.FinMap as finite
-use Rattle.std.specs.FinMap.{get-insert}
-use Rattle.std.specs.Prelude.{All, unwrap_or}
-use Rattle.cfdp_paths.specs.Paths.{Path, same_path}
-use Rattle.cfdp_paths.proofs.Comparing.{same_path-Decides, path_cmp-total}
+use Rattle.std.specs.Prelude.{All}
+use Rattle.cfdp_paths.specs.Paths.{Path}
 use Rattle.cfdp_arena.specs.Arena.{Blocks, octets_at, octets_of, free_count, with_block}
 use Rattle.cfdp_arena.proofs.Chains.{live_within}
 use Rattle.cfdp_actions.specs.declared.kind.Kind.{Kind}
 use Rattle.cfdp_actions.specs.declared.kind.Kind.TheVariants as kind
-use Rattle.cfdp_actions.specs.Filestore.{Node, File, Filestore, Becomes, changed, node_at, is_file, blocks, blocks_of, weight}
+use Rattle.cfdp_actions.specs.Filestore.{File, Filestore, Becomes, changed, node_at, is_file, blocks, blocks_of, weight}
 use Rattle.cfdp_actions.specs.Store.{Store, with_changes}
 use Rattle.cfdp_actions.proofs.ChangeLaws.{blocks-becomes}
 use Rattle.cfdp_actions.proofs.RowLaws.{blocks_of-fits}
+use Rattle.cfdp_arena.proofs.Laws.{octets_at-with_other}
 use Rattle.cfdp_tree.specs.declared.runs.Run.{Run}
 use Rattle.cfdp_tree.specs.declared.contents.Contents.{Contents}
 use Rattle.cfdp_ways.specs.declared.way.Way.{Way}
@@ -39,13 +36,13 @@ use Rattle.cfdp_tree.specs.code.Files.{with_contents, SameOctets}
 use Rattle.cfdp_tree.proofs.OfStore.SlotCursors.{slot_stays}
 use Rattle.cfdp_tree.proofs.OfRuns.WayLaws.{same_ways, ways_still}
 use Rattle.cfdp_tree.proofs.OfRuns.ContentsLaws.{length-contents, none_filled, none_contents, none_sum as none_summed, stays_filled, stays_contents}
-use Rattle.cfdp_tree.proofs.OfNodes.TreeLaws.{same_node}
+use Rattle.cfdp_tree.proofs.OfNodes.OneBlockLaws.{octets_of-with_same, octets_other}
 use Rattle.cfdp_tree.proofs.OfNodes.EntryLaws.{same_paths, same_tree}
-use Rattle.cfdp_tree.proofs.OfStore.AlikeLaws.{held_is}
-use Rattle.cfdp_tree.proofs.OfStore.ShowLaws.{tree_shows, shown_same}
+use Rattle.cfdp_tree.proofs.OfStore.AlikeLaws.{held_is, stays_then}
+use Rattle.cfdp_tree.proofs.OfStore.ShowLaws.{tree_shows, shown_same, put_shows}
 use Rattle.cfdp_tree.proofs.OfStore.StoredLaws.{stored_changed, stored_others, spared as run_spared}
-use Rattle.cfdp_tree.proofs.OfStore.SeenLaws.{shows, seen_node, seen_blocks, mapped_at, held_at}
-use Rattle.cfdp_tree.proofs.OfStore.SlotLaws.{node_same}
+use Rattle.cfdp_tree.proofs.OfStore.SeenLaws.{shows, seen_node, seen_blocks, held_at, slot_at_held}
+use Rattle.cfdp_tree.proofs.OfStore.SlotLaws.{node_held, all_maps}
 use Rattle.cfdp_tree.proofs.OfStore.FileNodeLaws.{file_kind, file_entries, file_index}
 use Rattle.cfdp_tree.proofs.OfStore.FileNodeLaws as all_fields
 
@@ -79,10 +76,6 @@ module _ (a b : Contents) (same : SameOctets a b) where
 
   pub same_apart : (other : Run) → Apart b.run other → Apart a.run other
   same_apart other apart some there e = (let was : 0 < b.run.count = omega (arith, some, same.count) in apart was there (e ∙ same.first was))
-
-pub all_maps : {A B : Type 0} (f g : A → B) (xs : List A) (d : A) → ((j : ℕ) → j < length xs → f (get_or xs j d) ≡ g (get_or xs j d)) → map f xs ≡ map g xs
-all_maps f g [] d same = refl
-all_maps f g (x ∷ xs) d same = (λ k. same 0 (omega arith) k ∷ all_maps f g xs d (λ j within. same (suc j) (omega arith)) k)
 
 file_by_node : (arena : Blocks) (k : Kind) (contents : Contents) → is_file (Some (node_with arena k contents)) ≡ true → k ≡ kind.File
 file_by_node arena kind.File contents file = refl
@@ -124,9 +117,6 @@ module _ (arena : Blocks) (heads : Heads) (slots : List Slot) {ways : List Way} 
   in_held = omega (arith, length-append staged (map file_in nodes), length-map nodes file_in, live_within nodes b node)
 
   -- another file's octets
-  pub held_other : (c : ℕ) → IsNode nodes c → get_or held (length staged + c) no_contents ≡ file_of (octets_of nodes c)
-  held_other c other = held_at arena heads slots store now view c ∙ sym (held_is (octets_at nodes c) other)
-
   -- its block is written
   module _ (later : Blocks) (contents : Contents) (written : List ℕ) (fields : node_fields_of written ≡ with_contents (node_fields_at nodes b) contents)
       (name : node_name written ≡ name_at nodes b) (whole : length written ≡ 128) where
@@ -151,14 +141,6 @@ module _ (arena : Blocks) (heads : Heads) (slots : List Slot) {ways : List Way} 
       shown_written = ap (λ k. node_with later k (file_of written)) (file_kind nodes store.kept.tree b node kind_there written contents fields name whole)
           ∙ ap File here
 
-      -- what is at a path, and whether it is the file's
-      put : Bool → Option Node → Option Node
-      put same else = cond same (Some (File octets)) else
-
-      got : (q : Path) → finite.get (finite.insert now.filestore.nodes p (File octets)) q ≡ put (same_path q p) (finite.get now.filestore.nodes q)
-      unfolding put
-      got q = get-insert path_cmp-total now.filestore.nodes p (File octets) q
-
       abbrev was_shown : Shows arena nodes now.filestore.nodes
       was_shown = shows arena heads slots store now view
 
@@ -166,43 +148,19 @@ module _ (arena : Blocks) (heads : Heads) (slots : List Slot) {ways : List Way} 
       path_new = same_paths nodes new entries
 
       octets_new : octets_of new b ≡ written
-      octets_new = ap (λ entry. unwrap_or entry []) (get_or-set_same nodes b (Some written) None (live_within nodes b node))
-
-      octets_other : (c : ℕ) → c ≢ b → octets_of new c ≡ octets_of nodes c
-      octets_other c other = ap (λ entry. unwrap_or entry []) (get_or-set_other nodes b c (Some written) None other)
-
-      each_here : (c : ℕ) → c ≡ b → put (same_path (path_of_node new c) p) (finite.get now.filestore.nodes (path_of_node new c)) ≡ Some
-          (node_of later (octets_of new c))
-      unfolding put
-      each_here c e =
-          let same = (same_path-Decides (path_of_node new c) p).1 (path_new c ∙ ap (path_of_node nodes) e ∙ way) in
-          ap (λ yes. cond yes (Some (File octets)) (finite.get now.filestore.nodes (path_of_node new c))) same
-          ∙ ap Some (sym (ap (λ x. node_of later (octets_of new x)) e ∙ ap (node_of later) octets_new ∙ shown_written))
-
-      each_other : (c : ℕ) → IsNode nodes c → c ≢ b → (same : Bool) → same_path (path_of_node new c) p ≡ same
-          → put same (finite.get now.filestore.nodes (path_of_node new c)) ≡ Some (node_of later (octets_of new c))
-      unfolding put
-      each_other c was other true is =
-          absurd (other (same_node nodes store.kept.tree c b was node (sym (path_new c) ∙ (same_path-Decides (path_of_node new c) p).0 is ∙ sym way)))
-      each_other c was other false is =
-          ap (finite.get now.filestore.nodes) (path_new c) ∙ was_shown.each c was
-          ∙ ap Some (sym (stays c was other) ∙ ap (node_of later) (sym (octets_other c other)))
-
-      each_new : (c : ℕ) → IsNode new c → finite.get (finite.insert now.filestore.nodes p (File octets)) (path_of_node new c)
-          ≡ Some (node_of later (octets_of new c))
-      each_new c is = got (path_of_node new c) ∙ elim (cases_eq c b) [
-        | inl e ↦ each_here c e
-        | inr other ↦ each_other c (sym (entries.nodes c) ∙ is) other (same_path (path_of_node new c) p) refl
-      ]
-
-      only_new : (q : Path) (found : Node) (same : Bool) → same_path q p ≡ same → put same (finite.get now.filestore.nodes q) ≡ Some found → (c : ℕ)
-          × IsNode new c × (path_of_node new c ≡ q)
-      unfolding put
-      only_new q found true is e = (b, entries.nodes b ∙ node, path_new b ∙ way ∙ sym ((same_path-Decides q p).0 is))
-      only_new q found false is e = (let there = was_shown.only q found e in (there.0, entries.nodes there.0 ∙ there.1, path_new there.0 ∙ there.2))
+      octets_new = octets_of-with_same nodes b written (live_within nodes b node)
 
       shows_new : Shows later new (finite.insert now.filestore.nodes p (File octets))
-      shows_new = record { each = each_new; only = (λ q found e. only_new q found (same_path q p) refl (sym (got q) ∙ e)) }
+      shows_new =
+          put_shows arena later nodes new tree_new b (entries.nodes b ∙ node) p (path_new b ∙ way) (File octets)
+          (ap (node_of later) octets_new ∙ shown_written) now.filestore.nodes was_shown
+          (λ c is other. sym (entries.nodes c) ∙ is)
+          (λ c was other. (
+            entries.nodes c ∙ was,
+            path_new c,
+            ap (node_of later) (octets_other nodes new b (octets_at-with_other nodes b written) c other) ∙ stays c was other,
+          ))
+          (λ c was apart same. apart (ap (path_of_node nodes) same ∙ way))
 
       -- and the slots are others
       module _ (nodes_now : nodes_in later ≡ new) (long : length later ≡ length arena) (slots_now : List Slot) (lists : List (List ℕ))
@@ -277,10 +235,7 @@ module _ (arena : Blocks) (heads : Heads) (slots : List Slot) {ways : List Way} 
     spares_described : Spares arena later before.run described.run
     spares_described other is apart =
         let s = spares other is apart in
-        let t = runs other s.0.held in (
-          record { held = t.held; octets = t.octets ∙ s.0.octets; sequence = (λ k within. t.sequence k within ∙ s.0.sequence k within) },
-          same_apart described after same other s.1,
-        )
+        (stays_then arena middle later other s.0 (runs other s.0.held), same_apart described after same other s.1)
 
     spares_held : Spares arena later (get_or held (length staged + b) no_contents).run described.run
     spares_held = subst (λ (x : Contents). Spares arena later x.run described.run) (sym held_here) spares_described
@@ -290,10 +245,9 @@ module _ (arena : Blocks) (heads : Heads) (slots : List Slot) {ways : List Way} 
 
     node_stays : (c : ℕ) → IsNode nodes c → c ≢ b → node_of later (octets_of nodes c) ≡ node_of arena (octets_of nodes c)
     node_stays c was other =
-        let block = octets_of nodes c in
-        let at = held_other c was in
-        node_same arena later (kind_of_octet (node_fields_of block).kind) (file_of block)
-        (ap (contents_in later) (sym at) ∙ others (length staged + c) (λ e. other (omega (arith, e))) ∙ ap (contents_in arena) at)
+        let at = held_at arena heads slots store now view c in
+        node_held arena later nodes c was (ap (contents_in later) (sym at)
+        ∙ others (length staged + c) (λ e. other (omega (arith, e))) ∙ ap (contents_in arena) at)
 
     holdings_now : holdings (with_block nodes b written) staged ≡ set held (length staged + b) described
     holdings_now =
@@ -329,8 +283,7 @@ module _ (arena : Blocks) (heads : Heads) (slots : List Slot) {ways : List Way} 
     stays_sound j d within =
         let s = get_or slots j d in
         let inside : j < length staged = omega (arith, within, length-map slots (λ (slot : Slot). slot.contents)) in
-        let at : get_or held j no_contents ≡ s.contents = slot_at j inside ∙ mapped_at (λ (slot : Slot). slot.contents) slots j s no_contents within
-        (get_or_default slots j d s within) in
+        let at = slot_at_held arena heads slots store now view j d within in
         let stays = subst (λ (x : Contents). Stays arena later x.run) at
         (run_spared arena later held (length staged + b) in_held described store.kept.stored spares_held filled_described j
         (λ e. omega (arith, inside, e))).0 in

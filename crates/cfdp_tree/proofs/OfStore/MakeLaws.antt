@@ -31,14 +31,14 @@ use Rattle.cfdp_tree.specs.code.Kept.{no_contents, contents_of_fields, file_of, 
 use Rattle.cfdp_tree.specs.code.Slots.{lists_staged, IsStore}
 use Rattle.cfdp_tree.specs.code.Changes.{empty_node}
 use Rattle.cfdp_tree.proofs.OfRuns.ContentsLaws.{stays_contents}
-use Rattle.cfdp_tree.proofs.OfStore.SlotLaws.{node_same}
+use Rattle.cfdp_tree.proofs.OfStore.SlotLaws.{node_held}
 use Rattle.cfdp_tree.proofs.OfStore.SeenLaws.{shows, seen_blocks}
 use Rattle.cfdp_tree.proofs.OfNodes.EntryLaws.{same_tree}
 use Rattle.cfdp_tree.proofs.OfNodes.ClimbLaws.{path_entry}
 use Rattle.cfdp_tree.proofs.OfNodes.ParentLaws.{parent_directory, parent_exists}
 use Rattle.cfdp_tree.proofs.OfNodes.AddLaws.{added_tree, added_path, added_shows}
 use Rattle.cfdp_tree.proofs.OfIndex.OutLaws.{index_created}
-use Rattle.cfdp_tree.proofs.OfStore.AlikeLaws.{Alike, alike_relinked, node_by_contents, alike_shows}
+use Rattle.cfdp_tree.proofs.OfStore.AlikeLaws.{Alike, alike_relinked, alike_shows}
 use Rattle.cfdp_tree.proofs.OfStore.ChangedLaws.{IsLeft, list_held, file_held, nodes_seen, nodes_store}
 
 plain_file : (parent : ℕ) (k : Kind) (name : Name) → contents_of_fields (kind_of_octet (plain_fields parent k name).kind) (plain_fields parent k name)
@@ -172,10 +172,8 @@ module _ (arena : Blocks) (heads : Heads) (slots : List Slot) {ways : List Way} 
 
       node_kept : (c : ℕ) → IsNode nodes c → node_of later (octets_of nodes c) ≡ node_of arena (octets_of nodes c)
       node_kept c node =
-          node_by_contents later nodes c node
-          ∙ node_same arena later (kind_of_octet (node_fields_of (octets_of nodes c)).kind) (file_in (octets_at nodes c))
+          node_held arena later nodes c node
           (stays_contents arena later (file_in (octets_at nodes c)) (runs (file_in (octets_at nodes c)).run (file_held arena heads slots store c)))
-          ∙ sym (node_by_contents arena nodes c node)
 
       path_new : path_of_node made b ≡ path
       path_new =

@@ -3,12 +3,13 @@
 --     seen_node, seen_block, seen_none, seen_there       what is at a path is what is at its node
 --     seen_blocks, few_blocks, file_small, staged_small    the blocks in use, and the octets of a file and of a staged list
 --     seen_file, file_ways          a file's octets are in its contents, and the ways of their blocks lead back
+--     held_at, slot_held, slot_at_held   what a node holds, and what a slot does
 --     seen_staged, slot_ways        so do those that are staged
 --     seen_parent                   the parent of a path is the beginning of it
 --     node_kind, node_is_directory  a node by its kind
 use Rattle.std.proofs.Common.{◌≡◌, ℕ, zero, suc, ◌+◌, ◌-◌, ◌<◌, ◌≤◌, true, not, ◌&&◌, List, [], ◌∷◌, length, map, take, get_or, Option, Some, None, refl, sym, ap, ◌∙◌, subst, arith}
 use Rattle.std.proofs.Math.ListN.{get_or-map}
-use Rattle.std.proofs.lemmas.List.{get_or-append_right, get_or_append_left, length-map, length-take-le}
+use Rattle.std.proofs.lemmas.List.{get_or-append_right, get_or_append_left, get_or_default, length-map, length-take-le}
 use Rattle.std.specs.FinMap as finite
 use Rattle.std.specs.FinMap.{get-entries}
 use Rattle.std.specs.Prelude.{IfNone, IsSome}
@@ -157,8 +158,10 @@ module _ (arena : Blocks) (heads : Heads) (slots : List Slot) {ways : List Way} 
     slot_there = omega (arith, store.kept.slots, length-map slots (λ (slot : Slot). slot.contents))
 
     module _ (slot : Slot) (is : slot ≡ get_or slots i slot) where
-      pub staged_is : get_or (lists_staged slots) i no_contents ≡ slot.contents
-      staged_is = mapped_at (λ (slot : Slot). slot.contents) slots i slot no_contents slot_there is
+      pub slot_held : get_or (holdings (nodes_in arena) (lists_staged slots)) i no_contents ≡ slot.contents
+      slot_held =
+          get_or_append_left (lists_staged slots) (map file_in (nodes_in arena)) no_contents i (omega (arith, store.kept.slots))
+          ∙ mapped_at (λ (slot : Slot). slot.contents) slots i slot no_contents slot_there is
 
       pub seen_staged : files.staged_in now.filestore i ≡ contents_in arena slot.contents
       seen_staged =
@@ -167,14 +170,10 @@ module _ (arena : Blocks) (heads : Heads) (slots : List Slot) {ways : List Way} 
           (sym (mapped_at (λ (slot : Slot). slot.contents) slots i slot slot.contents slot_there is))
 
       pub slot_filled : IsFilled arena slot.contents
-      slot_filled = subst (IsFilled arena) (get_or_append_left (lists_staged slots) (map file_in (nodes_in arena)) no_contents i
-          (omega (arith, store.kept.slots))
-          ∙ staged_is) (store.kept.stored.filled i)
+      slot_filled = subst (IsFilled arena) slot_held (store.kept.stored.filled i)
 
       pub slot_ways : HasWays arena ways slot.contents.run
-      slot_ways = subst (λ (x : Contents). HasWays arena ways x.run)
-          (get_or_append_left (lists_staged slots) (map file_in (nodes_in arena)) no_contents i (omega (arith, store.kept.slots)) ∙ staged_is)
-          (store.kept.stored.led i)
+      slot_ways = subst (λ (x : Contents). HasWays arena ways x.run) slot_held (store.kept.stored.led i)
 
       pub staged_size : length (files.staged_in now.filestore i) ≡ slot.contents.size
       staged_size = ap (λ (xs : List ℕ). length xs) seen_staged ∙ length-contents arena slot.contents slot_filled
@@ -190,6 +189,12 @@ module _ (arena : Blocks) (heads : Heads) (slots : List Slot) {ways : List Way} 
 
       pub slot_sound : IsSoundSlot arena slot
       slot_sound = subst (IsSoundSlot arena) (sym is) (store.sound i slot slot_there)
+
+  -- what each slot holds
+  pub slot_at_held : (j : ℕ) (d : Slot) → j < length slots → get_or (holdings (nodes_in arena) (lists_staged slots)) j no_contents ≡ (get_or slots j d).contents
+  slot_at_held j d within =
+      slot_held j (omega (arith, within, store.kept.slots, length-map slots (λ (slot : Slot). slot.contents))) (get_or slots j d)
+      (get_or_default slots j d (get_or slots j d) within)
 
   pub seen_slots : length now.filestore.staged ≡ 64
   seen_slots = sym (ap (λ (s : Store). length s.filestore.staged) view) ∙ length-map (lists_staged slots) (contents_in arena) ∙ store.kept.slots

@@ -1,11 +1,13 @@
 -- The map from paths to what is there that the nodes of a tree make.
 --     shown_same      there is one such map
 --     tree_shows      the nodes with their paths are one
-use Rattle.std.proofs.Common.{◌≡◌, ℕ, suc, zero, ◌+◌, Bool, true, false, List, [], ◌∷◌, cond, Option, Some, None, refl, sym, ap, ◌∙◌, subst, arith}
+--     put_shows       the one with something more, or with something else at a path
+use Rattle.std.proofs.Common.{◌≡◌, ◌≢◌, ℕ, suc, zero, ◌+◌, Bool, true, false, List, [], ◌∷◌, cond, Option, Some, None, refl, sym, ap, ◌∙◌, subst, inl, inr, arith}
 use Rattle.std.specs.Prelude.{IsSome, unwrap_or}
 use Rattle.std.specs.FinMap as finite
-use Rattle.std.specs.FinMap.{find, same_map, get-from_entries}
+use Rattle.std.specs.FinMap.{find, same_map, get-from_entries, get-insert}
 use Rattle.std.proofs.lemmas.Option.{none-some}
+use Rattle.std.proofs.lemmas.Bool.{both_ways, cases_eq}
 use Rattle.cfdp_paths.specs.Paths.{Path, path_cmp, same_path}
 use Rattle.cfdp_paths.proofs.Comparing.{same_path-Decides, path_cmp-total}
 use Rattle.cfdp_paths.proofs.InOrder.{path_antisym}
@@ -94,3 +96,50 @@ module _ (arena nodes : Blocks) (tree : IsTree nodes) where
         ∙ each_from b node 0 b nodes all_follow (omega arith) node);
     only = (λ p node e. only_from p node 0 nodes all_follow (sym (get-from_entries path_cmp-total (existing_from arena nodes 0 nodes) p) ∙ e));
   }
+
+-- something at one more path, or something else at a path
+module _ (arena later old new : Blocks) (tree : IsTree new) (b : ℕ) (here : IsNode new b) (p : Path) (way : path_of_node new b ≡ p) (node : Node)
+    (described : node_of later (octets_of new b) ≡ node) (F : finite.FinMap path_cmp Node) (shows : Shows arena old F)
+    (was_node : (c : ℕ) → IsNode new c → c ≢ b → IsNode old c)
+    (stays : (c : ℕ) → IsNode old c → c ≢ b → IsNode new c × (path_of_node new c ≡ path_of_node old c)
+    × (node_of later (octets_of new c) ≡ node_of arena (octets_of old c)))
+    (apart : (c : ℕ) → IsNode old c → path_of_node old c ≢ p → c ≢ b) where
+  -- what is at a path, and whether it is that one
+  put : Bool → Option Node → Option Node
+  put same else = cond same (Some node) else
+
+  got : (q : Path) → finite.get (finite.insert F p node) q ≡ put (same_path q p) (finite.get F q)
+  unfolding put
+  got q = get-insert path_cmp-total F p node q
+
+  each_here : put (same_path (path_of_node new b) p) (finite.get F (path_of_node new b)) ≡ Some (node_of later (octets_of new b))
+  unfolding put
+  each_here =
+      ap (λ same. cond same (Some node) (finite.get F (path_of_node new b))) ((same_path-Decides (path_of_node new b) p).1 way) ∙ ap Some (sym described)
+
+  each_other : (c : ℕ) → IsNode new c → c ≢ b → (same : Bool) → same_path (path_of_node new c) p ≡ same
+      → put same (finite.get F (path_of_node new c)) ≡ Some (node_of later (octets_of new c))
+  unfolding put
+  each_other c inside other true is = absurd (other (same_node new tree c b inside here ((same_path-Decides (path_of_node new c) p).0 is ∙ sym way)))
+  each_other c inside other false is =
+      let was = was_node c inside other in
+      let kept = stays c was other in
+      ap (finite.get F) kept.1 ∙ shows.each c was ∙ ap Some (sym kept.2)
+
+  each_new : (c : ℕ) → IsNode new c → finite.get (finite.insert F p node) (path_of_node new c) ≡ Some (node_of later (octets_of new c))
+  each_new c inside = got (path_of_node new c) ∙ elim (cases_eq c b) [
+    | inl e ↦ subst (λ x. put (same_path (path_of_node new x) p) (finite.get F (path_of_node new x)) ≡ Some (node_of later (octets_of new x))) (sym e) each_here
+    | inr other ↦ each_other c inside other (same_path (path_of_node new c) p) refl
+  ]
+
+  only_new : (q : Path) (found : Node) (same : Bool) → same_path q p ≡ same → put same (finite.get F q) ≡ Some found
+      → (c : ℕ) × IsNode new c × (path_of_node new c ≡ q)
+  unfolding put
+  only_new q found true is e = (b, here, way ∙ sym ((same_path-Decides q p).0 is))
+  only_new q found false is e =
+      let there = shows.only q found e in
+      let kept = stays there.0 there.1 (apart there.0 there.1 (λ same. both_ways _ is ((same_path-Decides q p).1 (sym there.2 ∙ same)))) in
+      (there.0, kept.0, kept.1 ∙ there.2)
+
+  pub put_shows : Shows later new (finite.insert F p node)
+  put_shows = record { each = each_new; only = (λ q found e. only_new q found (same_path q p) refl (sym (got q) ∙ e)) }

@@ -1,10 +1,12 @@
 -- One slot changes.
 --     shows_later       other octets, but those that are shown are the same
+--     node_same, node_held      a node whose octets are the same
+--     all_maps          two maps over a list that are the same at each index
 --     set_maps          two maps over a list that differ at one index, which is set
 --     slot_seen, slot_changes         the store that is seen then
 --     slot_store        it is a store
 use Rattle.std.proofs.Common.{◌≡◌, ◌≢◌, ℕ, zero, suc, ◌+◌, ◌<◌, List, [], ◌∷◌, ◌++◌, length, map, set, get_or, Some, None, refl, sym, ap, ◌∙◌, subst, inl, inr, arith, length-set}
-use Rattle.std.proofs.lemmas.List.{map-set, set-append_left, get_or_append_left, get_or_default, get_or-set_same, get_or-set_other, length-map, length-append}
+use Rattle.std.proofs.lemmas.List.{map-set, set-append_left, get_or_append_left, get_or-set_same, get_or-set_other, length-map, length-append}
 use Rattle.std.proofs.lemmas.Bool.{cases_eq}
 use Rattle.std.specs.FinMap as finite
 use Rattle.std.specs.Prelude.{All, true}
@@ -19,21 +21,21 @@ use Rattle.cfdp_actions.proofs.ChangeLaws.{blocks-stages}
 use Rattle.cfdp_tree.specs.declared.contents.Contents.{Contents}
 use Rattle.cfdp_ways.specs.declared.way.Way.{Way}
 use Rattle.cfdp_tree.specs.declared.slots.Slot.{Slot}
-use Rattle.cfdp_tree.specs.code.NodeFields.{node_fields_of, kind_of_octet}
+use Rattle.cfdp_tree.specs.code.NodeFields.{kind_of_octet}
 use Rattle.cfdp_tree.specs.code.Runs.{Spares, Stays}
 use Rattle.cfdp_tree.specs.code.Ways.{HasWays, KeepsWays}
 use Rattle.cfdp_tree.specs.code.Contents.{IsFilled, contents_in}
 use Rattle.cfdp_tree.specs.code.Nodes.{nodes_in}
-use Rattle.cfdp_tree.specs.code.Tree.{IsNode, IsTree}
+use Rattle.cfdp_tree.specs.code.Tree.{IsNode, node_fields_at, IsTree}
 use Rattle.cfdp_tree.specs.code.Index.{Heads, IsIndex}
-use Rattle.cfdp_tree.specs.code.Kept.{no_contents, file_of, file_in, holdings, node_with, node_of, Shows, filestore_of, store_of, IsStored}
+use Rattle.cfdp_tree.specs.code.Kept.{no_contents, file_in, holdings, node_with, node_of, Shows, filestore_of, store_of, IsStored}
 use Rattle.cfdp_tree.specs.code.Slots.{lists_staged, IsSoundSlot, IsStore}
 use Rattle.cfdp_tree.proofs.OfStore.SlotCursors.{slot_stays}
 use Rattle.cfdp_tree.proofs.OfRuns.ContentsLaws.{length-contents}
-use Rattle.cfdp_tree.proofs.OfStore.AlikeLaws.{held_is}
+use Rattle.cfdp_tree.proofs.OfStore.AlikeLaws.{node_by_contents}
 use Rattle.cfdp_tree.proofs.OfStore.ShowLaws.{tree_shows, shown_same}
 use Rattle.cfdp_tree.proofs.OfStore.StoredLaws.{stored_changed, stored_others, spared as run_spared}
-use Rattle.cfdp_tree.proofs.OfStore.SeenLaws.{mapped_at, seen_staged, slot_there, slot_filled, held_at, staged_is}
+use Rattle.cfdp_tree.proofs.OfStore.SeenLaws.{slot_at_held, seen_staged, slot_there, slot_filled, slot_held, held_at}
 
 pub shows_later : (arena later nodes : Blocks) (F : finite.FinMap path_cmp Node)
     → ((b : ℕ) → IsNode nodes b → node_of later (octets_of nodes b) ≡ node_of arena (octets_of nodes b)) → Shows arena nodes F → Shows later nodes F
@@ -45,14 +47,20 @@ pub node_same : (arena later : Blocks) (k : Kind) (contents : Contents) → cont
 node_same arena later kind.File contents same = ap files.File same
 node_same arena later kind.Directory contents same = refl
 
+pub node_held : (arena later nodes : Blocks) (c : ℕ) → IsNode nodes c → contents_in later (file_in (octets_at nodes c)) ≡
+    contents_in arena (file_in (octets_at nodes c)) → node_of later (octets_of nodes c) ≡ node_of arena (octets_of nodes c)
+node_held arena later nodes c node same =
+    node_by_contents later nodes c node ∙ node_same arena later (kind_of_octet (node_fields_at nodes c).kind) (file_in (octets_at nodes c)) same
+    ∙ sym (node_by_contents arena nodes c node)
+
+pub all_maps : {A B : Type 0} (f g : A → B) (xs : List A) (d : A) → ((j : ℕ) → j < length xs → f (get_or xs j d) ≡ g (get_or xs j d)) → map f xs ≡ map g xs
+all_maps f g [] d same = refl
+all_maps f g (x ∷ xs) d same = (λ k. same 0 (omega arith) k ∷ all_maps f g xs d (λ j within. same (suc j) (omega arith)) k)
+
 pub set_maps : {A B : Type 0} (f g : A → B) (xs : List A) (i : ℕ) (y : B) (d : A) → ((j : ℕ) → j < length xs → j ≢ i → f (get_or xs j d) ≡ g (get_or xs j d)) →
     set (map f xs) i y ≡ set (map g xs) i y
 set_maps f g [] i y d same = refl
-set_maps {A = A} {B = B} f g (x ∷ xs) zero y d same = ap (λ ys. y ∷ ys) (all_same xs (λ j within. same (suc j) (omega arith) (λ e. omega arith)))
-  where
-    all_same : (xs : List A) → ((j : ℕ) → j < length xs → f (get_or xs j d) ≡ g (get_or xs j d)) → map f xs ≡ map g xs
-    all_same [] same = refl
-    all_same (x ∷ xs) same = (λ k. same 0 (omega arith) k ∷ all_same xs (λ j within. same (suc j) (omega arith)) k)
+set_maps f g (x ∷ xs) zero y d same = ap (λ ys. y ∷ ys) (all_maps f g xs d (λ j within. same (suc j) (omega arith) (λ e. omega arith)))
 set_maps f g (x ∷ xs) (suc i) y d same = (λ k. same 0 (omega arith) (λ e. omega arith) k ∷ set_maps f g xs i y d
     (λ j within other. same (suc j) (omega arith) (λ e. other (omega arith))) k)
 
@@ -74,8 +82,7 @@ module _ (arena later : Blocks) (heads : Heads) (slots : List Slot) {ways : List
   there = omega (arith, store.kept.slots)
 
   held_slot : get_or held i no_contents ≡ slot.contents
-  held_slot = get_or_append_left staged (map file_in (nodes_in arena)) no_contents i there
-      ∙ staged_is arena heads slots store (store_of arena staged) refl i small slot is
+  held_slot = slot_held arena heads slots store (store_of arena staged) refl i small slot is
 
   spared : Spares arena later (get_or held i no_contents).run after.contents.run
   spared = subst (λ (x : Contents). Spares arena later x.run after.contents.run) (sym held_slot) spares
@@ -97,11 +104,9 @@ module _ (arena later : Blocks) (heads : Heads) (slots : List Slot) {ways : List
 
   node_stays : (b : ℕ) → IsNode (nodes_in arena) b → node_of later (octets_of (nodes_in arena) b) ≡ node_of arena (octets_of (nodes_in arena) b)
   node_stays b node =
-      let block = octets_of (nodes_in arena) b in
-      let at : get_or held (length staged + b) no_contents ≡ file_of block = held_at arena heads slots store (store_of arena staged) refl b
-      ∙ sym (held_is (octets_at (nodes_in arena) b) node) in
-      let same = others (length staged + b) (λ e. omega (arith, there)) in
-      node_same arena later (kind_of_octet (node_fields_of block).kind) (file_of block) (ap (contents_in later) (sym at) ∙ same ∙ ap (contents_in arena) at)
+      let at = held_at arena heads slots store (store_of arena staged) refl b in
+      node_held arena later (nodes_in arena) b node (ap (contents_in later) (sym at) ∙ others (length staged + b) (λ e. omega (arith, there))
+      ∙ ap (contents_in arena) at)
 
   -- the same is at each path
   nodes_same : (filestore_of later (lists_staged now)).nodes ≡ (filestore_of arena staged).nodes
@@ -151,9 +156,7 @@ module _ (arena later : Blocks) (heads : Heads) (slots : List Slot) {ways : List
   stays_sound : (j : ℕ) → j ≢ i → (d : Slot) → j < length slots → IsSoundSlot later (get_or slots j d)
   stays_sound j other d within =
       let s = get_or slots j d in
-      let at : get_or held j no_contents ≡ s.contents =
-      get_or_append_left staged (map file_in (nodes_in arena)) no_contents j (omega (arith, length-map slots (λ (slot : Slot). slot.contents)))
-      ∙ mapped_at (λ (slot : Slot). slot.contents) slots j s no_contents within (get_or_default slots j d s within) in
+      let at = slot_at_held arena heads slots store (store_of arena staged) refl j d within in
       let stays = subst (λ (x : Contents). Stays arena later x.run) at (spared_at j other) in
       slot_stays arena later s stays (store.sound j d within)
 
