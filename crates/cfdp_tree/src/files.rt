@@ -87,22 +87,22 @@ impl FoundFile {
 }
 
 /// Says where a file's octets are, how many there are, and what their checksum is. In constant time.
-pub(crate) fn set_contents(arena: &mut Arena, node: &BlockId, contents: &Contents)
-    requires node { IsNode (nodes_in arena.old) node.now }
+pub(crate) fn set_contents(arena: &mut Arena, node: BlockId, contents: &Contents)
+    requires node { IsNode (nodes_in arena.old) node }
     requires held { IsHeld arena.old contents.now.run }
     ensures nodes { nodes_in arena.new
-        ≡ with_block (nodes_in arena.old) node.now (octets_of (nodes_in arena.new) node.now) }
-    ensures fields { node_fields_at (nodes_in arena.new) node.now ≡ with_contents
-        (node_fields_at (nodes_in arena.old) node.now) contents.now }
-    ensures name { name_at (nodes_in arena.new) node.now ≡ name_at (nodes_in arena.old) node.now }
-    ensures whole { length (octets_of (nodes_in arena.new) node.now) ≡ 128 }
+        ≡ with_block (nodes_in arena.old) node (octets_of (nodes_in arena.new) node) }
+    ensures fields { node_fields_at (nodes_in arena.new) node ≡ with_contents
+        (node_fields_at (nodes_in arena.old) node) contents.now }
+    ensures name { name_at (nodes_in arena.new) node ≡ name_at (nodes_in arena.old) node }
+    ensures whole { length (octets_of (nodes_in arena.new) node) ≡ 128 }
     ensures runs { RunsStay arena.old arena.new }
     ensures free { free_count arena.new ≡ free_count arena.old }
     ensures capacity { length arena.new ≡ length arena.old }
 {
     // Read for its contract alone: an arena has 1 to 65,536 blocks.
     let _free = arena.free();
-    let block = arena.bytes_mut(*node);
+    let block = arena.bytes_mut(node);
     set_run(block, &contents.run);
     set_size(block, contents.size);
     set_sum(block, contents.sum);

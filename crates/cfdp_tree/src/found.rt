@@ -21,7 +21,7 @@ impl TreeStore {
         ensures { result ≡ option_map found_of (node_at self.now.filestore names.entry) }
     {
         let node = find_names(&self.arena, &self.heads, &self.orders, names)?;
-        Some(found_at(&self.arena, &node))
+        Some(found_at(&self.arena, node))
     }
 
     /// Copies a file's octets from offset `at` on to the front of the buffer, as many as there are and as fit, and

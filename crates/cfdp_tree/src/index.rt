@@ -120,19 +120,19 @@ pub(crate) fn remove(
 {
     let bucket = bucket_of(heads, directory, name);
     let head = heads[bucket];
-    heads[bucket] = take_out(arena, &head, node);
+    heads[bucket] = take_out(arena, &head, *node);
 }
 
 /// A head without one of its nodes, which goes out of its list if it is in it. In constant time: the list has at most
 /// 8 nodes.
-fn take_out(arena: &mut Arena, head: &ListHead, node: &BlockId) -> ListHead
+fn take_out(arena: &mut Arena, head: &ListHead, node: BlockId) -> ListHead
     requires tree { IsTree (nodes_in arena.old) }
-    requires node { IsNode (nodes_in arena.old) node.now }
+    requires node { IsNode (nodes_in arena.old) node }
     requires nodes { All (IsNode (nodes_in arena.old)) (list_of (nodes_in arena.old) head.now) }
     requires once { AllPairs (λ b c. b ≢ c) (list_of (nodes_in arena.old) head.now) }
-    requires there { (Contains (list_of (nodes_in arena.old) head.now) node.now → ⊥) → 0 < head.now.unlisted }
+    requires there { (Contains (list_of (nodes_in arena.old) head.now) node → ⊥) → 0 < head.now.unlisted }
     requires small { head.now.first < 65536 }
-    ensures list { list_of (nodes_in arena.new) result ≡ without_node node.now (list_of (nodes_in arena.old) head.now) }
+    ensures list { list_of (nodes_in arena.new) result ≡ without_node node (list_of (nodes_in arena.old) head.now) }
     ensures others { (other : ListHead)
         → All (λ b. Contains (list_of (nodes_in arena.old) head.now) b → ⊥) (list_of (nodes_in arena.old) other)
         → list_of (nodes_in arena.new) other ≡ list_of (nodes_in arena.old) other }
@@ -144,8 +144,8 @@ fn take_out(arena: &mut Arena, head: &ListHead, node: &BlockId) -> ListHead
     ensures free { free_count arena.new ≡ free_count arena.old }
     ensures size { length arena.new ≡ length arena.old }
 {
-    let next = same_head_of(arena.bytes(*node));
-    if head.listed > 0 && head.first == *node {
+    let next = same_head_of(arena.bytes(node));
+    if head.listed > 0 && head.first == node {
         return ListHead {
             first: next,
             listed: head.listed - 1,
@@ -167,18 +167,18 @@ fn take_out(arena: &mut Arena, head: &ListHead, node: &BlockId) -> ListHead
 
 /// The node of a list that names this one as the next one. This one is not the list's first; `None` if it is not in the
 /// list.
-fn node_before(arena: &Arena, head: &ListHead, node: &BlockId) -> Option<BlockId>
+fn node_before(arena: &Arena, head: &ListHead, node: BlockId) -> Option<BlockId>
     requires nodes { All (IsNode (nodes_in arena.now)) (list_of (nodes_in arena.now) head.now) }
-    requires later { 0 < head.now.listed → head.now.first ≢ node.now }
-    ensures before { IfSome result (λ b. (node_fields_at (nodes_in arena.now) b).same_head ≡ node.now) }
+    requires later { 0 < head.now.listed → head.now.first ≢ node }
+    ensures before { IfSome result (λ b. (node_fields_at (nodes_in arena.now) b).same_head ≡ node) }
     ensures there { IfSome result (λ b. Contains (index_chain (nodes_in arena.now)
         (head.now.listed - 1) head.now.first) b) }
-    ensures none { IfNone result (Contains (list_of (nodes_in arena.now) head.now) node.now → ⊥) }
+    ensures none { IfNone result (Contains (list_of (nodes_in arena.now) head.now) node → ⊥) }
 {
     let mut before = head.first;
     for _step in 1..head.listed {
         let next = same_head_of(arena.bytes(before));
-        if next == *node {
+        if next == node {
             return Some(before);
         }
         before = next;
@@ -209,7 +209,7 @@ pub(crate) fn find(
     let head = heads[bucket];
     let mut node = head.first;
     for _step in 0..head.listed {
-        if is_entry(arena, &node, &directory, name) {
+        if is_entry(arena, node, &directory, name) {
             return Some(node);
         }
         node = same_head_of(arena.bytes(node));
@@ -221,12 +221,12 @@ pub(crate) fn find(
 }
 
 /// Whether the node is in this directory under this name.
-fn is_entry(arena: &Arena, node: &BlockId, directory: &Option<BlockId>, name: &[u8]) -> bool
+fn is_entry(arena: &Arena, node: BlockId, directory: &Option<BlockId>, name: &[u8]) -> bool
     requires tree { IsTree (nodes_in arena.now) }
-    requires node { IsNode (nodes_in arena.now) node.now }
+    requires node { IsNode (nodes_in arena.now) node }
     requires short { length name.now ≤ 96 }
-    ensures { IsTrue result ↔ IsEntry (nodes_in arena.now) directory.now name.now node.now }
+    ensures { IsTrue result ↔ IsEntry (nodes_in arena.now) directory.now name.now node }
 {
-    let block = arena.bytes(*node);
+    let block = arena.bytes(node);
     home_is(block, node, directory) && name_is(block, name)
 }

@@ -35,7 +35,7 @@ impl TreeStore {
         let index = usize::from(slot);
         let file = find_file(&self.arena, &self.heads, &self.orders, path);
         let staged = self.slots[index].contents;
-        set_contents(&mut self.arena, &file.node, &staged);
+        set_contents(&mut self.arena, file.node, &staged);
         self.slots[index].hold(file.contents);
     }
 }

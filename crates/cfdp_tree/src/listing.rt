@@ -30,7 +30,7 @@ pub(crate) fn existing_nodes(
 {
     let mut all = Vec::with_capacity(alloc, found.len())?;
     for (path, node) in found {
-        all.push(existing(arena, path, &node))?;
+        all.push(existing(arena, path, node))?;
     }
     Ok(all)
 }
@@ -44,11 +44,11 @@ pub(crate) fn only_existing(
     alloc: Global,
     arena: &Arena,
     path: &Path,
-    node: &BlockId,
+    node: BlockId,
 ) -> Result<Vec<ExistingNode>, Memory>
-    requires { IsSoundNode arena.now (path.now, node.now) }
+    requires { IsSoundNode arena.now (path.now, node) }
     ensures { IfOk result (λ all. all.items
-        ≡ existing_node (shown_node arena.now (nodes_in arena.now) (path.now, node.now)) ∷ []) }
+        ≡ existing_node (shown_node arena.now (nodes_in arena.now) (path.now, node)) ∷ []) }
 {
     let mut all = Vec::with_capacity(alloc, 1)?;
     all.push(existing(arena, path.copy(alloc)?, node))?;
@@ -71,17 +71,17 @@ pub(crate) fn entries(
 {
     let mut all = Vec::with_capacity(alloc, found.len())?;
     for (path, node) in found {
-        all.push(entry(arena, path, &node))?;
+        all.push(entry(arena, path, node))?;
     }
     Ok(all)
 }
 
 /// What is at a node.
-fn existing(arena: &Arena, path: Path, node: &BlockId) -> ExistingNode
-    requires { IsSoundNode arena.now (path, node.now) }
-    ensures { result ≡ existing_node (shown_node arena.now (nodes_in arena.now) (path, node.now)) }
+fn existing(arena: &Arena, path: Path, node: BlockId) -> ExistingNode
+    requires { IsSoundNode arena.now (path, node) }
+    ensures { result ≡ existing_node (shown_node arena.now (nodes_in arena.now) (path, node)) }
 {
-    let block = arena.bytes(*node);
+    let block = arena.bytes(node);
     match kind_of(block) {
         Kind::Directory => ExistingNode {
             path,
@@ -97,9 +97,9 @@ fn existing(arena: &Arena, path: Path, node: &BlockId) -> ExistingNode
 }
 
 /// Like `existing`, with the checksum of a file.
-fn entry(arena: &Arena, path: Path, node: &BlockId) -> Entry
-    requires { IsSoundNode arena.now (path, node.now) }
-    ensures { result ≡ listing_entry (shown_node arena.now (nodes_in arena.now) (path, node.now)) }
+fn entry(arena: &Arena, path: Path, node: BlockId) -> Entry
+    requires { IsSoundNode arena.now (path, node) }
+    ensures { result ≡ listing_entry (shown_node arena.now (nodes_in arena.now) (path, node)) }
 {
     let found = found_at(arena, node);
     Entry {
@@ -122,15 +122,15 @@ pub struct Found {
 }
 
 /// What is at a node. In constant time.
-pub(crate) fn found_at(arena: &Arena, node: &BlockId) -> Found
-    requires { IsSoundNode arena.now ([], node.now) }
-    ensures kind { result.kind ≡ kind_of (node_of arena.now (octets_of (nodes_in arena.now) node.now)) }
+pub(crate) fn found_at(arena: &Arena, node: BlockId) -> Found
+    requires { IsSoundNode arena.now ([], node) }
+    ensures kind { result.kind ≡ kind_of (node_of arena.now (octets_of (nodes_in arena.now) node)) }
     ensures size { result.size ≡ length (octets_in (Some
-        (node_of arena.now (octets_of (nodes_in arena.now) node.now)))) }
+        (node_of arena.now (octets_of (nodes_in arena.now) node)))) }
     ensures checksum { result.checksum
-        ≡ checksum (octets_in (Some (node_of arena.now (octets_of (nodes_in arena.now) node.now)))) }
+        ≡ checksum (octets_in (Some (node_of arena.now (octets_of (nodes_in arena.now) node)))) }
 {
-    let block = arena.bytes(*node);
+    let block = arena.bytes(node);
     match kind_of(block) {
         Kind::Directory => Found {
             kind: Kind::Directory,

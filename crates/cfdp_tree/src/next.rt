@@ -52,8 +52,8 @@ impl TreeStore {
         ensures length { length text.new ≡ length text.old }
     {
         let node = next_below(&self.arena, &self.orders, &None, after)?;
-        let start = write_path(&self.arena, &node, text);
-        let found = found_at(&self.arena, &node);
+        let start = write_path(&self.arena, node, text);
+        let found = found_at(&self.arena, node);
         Some(NextEntry {
             start,
             kind: found.kind,

@@ -57,13 +57,13 @@ pub(crate) fn name_in(block: &Block) -> &[u8]
 }
 
 /// Whether the node of this number is in this directory, `None` for the root.
-pub(crate) fn home_is(block: &Block, own: &BlockId, directory: &Option<BlockId>) -> bool
-    ensures { IsTrue result ↔ (home_in own.now block.now ≡ directory.now) }
+pub(crate) fn home_is(block: &Block, own: BlockId, directory: &Option<BlockId>) -> bool
+    ensures { IsTrue result ↔ (home_in own block.now ≡ directory.now) }
 {
     let parent = parent_of(block);
     match directory {
-        Some(directory) => parent != *own && parent == *directory,
-        None => parent == *own,
+        Some(directory) => parent != own && parent == *directory,
+        None => parent == own,
     }
 }
 
@@ -112,11 +112,11 @@ pub(crate) fn parent_of(block: &Block) -> BlockId
 }
 
 /// The directory in which the node of this number is, `None` for the root.
-pub(crate) fn home_of(block: &Block, own: &BlockId) -> Option<BlockId>
-    ensures { result ≡ home_in own.now block.now }
+pub(crate) fn home_of(block: &Block, own: BlockId) -> Option<BlockId>
+    ensures { result ≡ home_in own block.now }
 {
     let parent = parent_of(block);
-    if parent == *own { None } else { Some(parent) }
+    if parent == own { None } else { Some(parent) }
 }
 
 /// Puts the node into another directory. The rest of the block stays.

@@ -42,34 +42,29 @@ pub(crate) fn create_node(
 }
 
 /// Puts a node into a directory, `None` for the root, under a name of at most 96 octets. In constant time.
-pub(crate) fn rename_node(
-    arena: &mut Arena,
-    node: &BlockId,
-    directory: Option<BlockId>,
-    name: &[u8],
-)
-    requires node { IsNode (nodes_in arena.old) node.now }
+pub(crate) fn rename_node(arena: &mut Arena, node: BlockId, directory: Option<BlockId>, name: &[u8])
+    requires node { IsNode (nodes_in arena.old) node }
     requires directory { IfSome directory (λ d. IsNode (nodes_in arena.old) d) }
-    requires apart { directory ≢ Some node.now }
+    requires apart { directory ≢ Some node }
     requires short { length name.now ≤ 96 }
     ensures nodes { nodes_in arena.new
-        ≡ with_block (nodes_in arena.old) node.now (octets_of (nodes_in arena.new) node.now) }
-    ensures fields { node_fields_at (nodes_in arena.new) node.now
-        ≡ record (node_fields_at (nodes_in arena.old) node.now) {
-          parent = unwrap_or directory node.now;
+        ≡ with_block (nodes_in arena.old) node (octets_of (nodes_in arena.new) node) }
+    ensures fields { node_fields_at (nodes_in arena.new) node
+        ≡ record (node_fields_at (nodes_in arena.old) node) {
+          parent = unwrap_or directory node;
           name_length = length name.now;
         } }
-    ensures home { home (nodes_in arena.new) node.now ≡ directory }
-    ensures name { name_at (nodes_in arena.new) node.now ≡ name.now }
-    ensures whole { length (octets_of (nodes_in arena.new) node.now) ≡ 128 }
+    ensures home { home (nodes_in arena.new) node ≡ directory }
+    ensures name { name_at (nodes_in arena.new) node ≡ name.now }
+    ensures whole { length (octets_of (nodes_in arena.new) node) ≡ 128 }
     ensures runs { RunsStay arena.old arena.new }
     ensures free { free_count arena.new ≡ free_count arena.old }
     ensures capacity { length arena.new ≡ length arena.old }
 {
     // Read for its contract alone: an arena has 1 to 65,536 blocks.
     let _free = arena.free();
-    let parent = directory.unwrap_or(*node);
-    let block = arena.bytes_mut(*node);
+    let parent = directory.unwrap_or(node);
+    let block = arena.bytes_mut(node);
     set_parent(block, parent);
     set_name(block, name);
 }

@@ -59,7 +59,7 @@ fn with_paths(
     let mut text = [0; LONGEST_PATH];
     for made in 0..nodes.len() {
         let node = &nodes[nodes.len() - 1 - made];
-        found.push((path_of(alloc, arena, node, &mut text)?, *node))?;
+        found.push((path_of(alloc, arena, *node, &mut text)?, *node))?;
     }
     found.reverse();
     Ok(found)

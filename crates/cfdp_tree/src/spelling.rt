@@ -34,13 +34,13 @@ struct Spelled {
 pub(crate) fn path_of(
     alloc: Global,
     arena: &Arena,
-    node: &BlockId,
+    node: BlockId,
     text: &mut [u8],
 ) -> Result<Path, Memory>
     requires tree { IsTree (nodes_in arena.now) }
-    requires node { IsNode (nodes_in arena.now) node.now }
+    requires node { IsNode (nodes_in arena.now) node }
     requires room { 776 ≤ length text.old }
-    ensures { IfOk result (λ path. path ≡ path_of_node (nodes_in arena.now) node.now) }
+    ensures { IfOk result (λ path. path ≡ path_of_node (nodes_in arena.now) node) }
 {
     let names = write_names(arena, node, text, SEPARATOR);
     Path::from_names(alloc, &text[names.start..], names.depth)
@@ -48,13 +48,13 @@ pub(crate) fn path_of(
 
 /// Writes the names of a node's path, with slashes between them, to the end of the buffer. Returns where they begin.
 /// The octets before that stay. In time linear in the octets.
-pub(crate) fn write_path(arena: &Arena, node: &BlockId, text: &mut [u8]) -> usize
+pub(crate) fn write_path(arena: &Arena, node: BlockId, text: &mut [u8]) -> usize
     requires tree { IsTree (nodes_in arena.now) }
-    requires node { IsNode (nodes_in arena.now) node.now }
+    requires node { IsNode (nodes_in arena.now) node }
     requires room { 776 ≤ length text.old }
     ensures length { length text.new ≡ length text.old }
     ensures within { result ≤ length text.new }
-    ensures text { drop result text.new ≡ joined (path_of_node (nodes_in arena.now) node.now) }
+    ensures text { drop result text.new ≡ joined (path_of_node (nodes_in arena.now) node) }
     ensures before { take result text.new ≡ take result text.old }
 {
     write_names(arena, node, text, b'/').start
@@ -62,23 +62,23 @@ pub(crate) fn write_path(arena: &Arena, node: &BlockId, text: &mut [u8]) -> usiz
 
 /// Writes the names of a node's path, with a separator between each two of them, to the end of the buffer. The octets
 /// before that stay. In time linear in the octets.
-fn write_names(arena: &Arena, node: &BlockId, text: &mut [u8], separator: u8) -> Spelled
+fn write_names(arena: &Arena, node: BlockId, text: &mut [u8], separator: u8) -> Spelled
     requires tree { IsTree (nodes_in arena.now) }
-    requires node { IsNode (nodes_in arena.now) node.now }
+    requires node { IsNode (nodes_in arena.now) node }
     requires room { 776 ≤ length text.old }
     ensures length { length text.new ≡ length text.old }
     ensures within { result.start ≤ length text.new }
-    ensures text { drop result.start text.new ≡ join_with_byte separator (path_of_node (nodes_in arena.now) node.now) }
+    ensures text { drop result.start text.new ≡ join_with_byte separator (path_of_node (nodes_in arena.now) node) }
     ensures before { take result.start text.new ≡ take result.start text.old }
-    ensures depth { result.depth ≡ length (path_of_node (nodes_in arena.now) node.now) }
+    ensures depth { result.depth ≡ length (path_of_node (nodes_in arena.now) node) }
 {
     let mut start = text.len();
     let mut depth = 1;
-    let mut node = *node;
+    let mut node = node;
     loop {
         let block = arena.bytes(node);
         start = put_before(text, start, name_in(block));
-        match home_of(block, &node) {
+        match home_of(block, node) {
             Some(parent) => {
                 start = put_before(text, start, &[separator]);
                 depth += 1;

@@ -245,7 +245,7 @@ impl Filestore for TreeStore {
         };
         let top = &Some(node);
         if self.orders.of(top).is_empty() {
-            return only_existing(alloc, &self.arena, path, &node);
+            return only_existing(alloc, &self.arena, path, node);
         }
         let found = nodes_below(alloc, &self.arena, &self.orders, top, path.depth())?;
         existing_nodes(alloc, &self.arena, found)
@@ -265,7 +265,7 @@ impl Filestore for TreeStore {
         let node = find_path(&self.arena, &self.heads, &self.orders, path).unwrap();
         let block = self.arena.bytes(node);
         let held = held_by(block);
-        let directory = &home_of(block, &node);
+        let directory = &home_of(block, node);
         let name = path.name(path.depth() - 1);
         let blocks = held.run.count;
         self.orders.leave(&self.arena, &node, *directory, name);
@@ -277,14 +277,14 @@ impl Filestore for TreeStore {
 
     fn rename(&mut self, from: &Path, to: &Path) -> Result<u32, Memory> {
         let node = find_path(&self.arena, &self.heads, &self.orders, from).unwrap();
-        let old = &home_of(self.arena.bytes(node), &node);
+        let old = &home_of(self.arena.bytes(node), node);
         let old_name = from.name(from.depth() - 1);
         let depth = to.depth() - 1;
         let new = &lookup(&self.arena, &self.heads, &self.orders, to, depth);
         let new_name = to.name(depth);
         self.orders.leave(&self.arena, &node, *old, old_name);
         index::remove(&mut self.arena, &mut self.heads, &node, *old, old_name);
-        rename_node(&mut self.arena, &node, *new, new_name);
+        rename_node(&mut self.arena, node, *new, new_name);
         self.orders.enter(&self.arena, &node, *new, new_name);
         insert(&mut self.arena, &mut self.heads, &node, *new, new_name);
         Ok(0)
@@ -294,7 +294,7 @@ impl Filestore for TreeStore {
         let file = find_file(&self.arena, &self.heads, &self.orders, first);
         let source = find_file(&self.arena, &self.heads, &self.orders, second);
         let contents = file.append(&mut self.arena, &mut self.ways, &source);
-        set_contents(&mut self.arena, &file.node, &contents);
+        set_contents(&mut self.arena, file.node, &contents);
         Ok(contents.run.count - file.contents.run.count + source.contents.run.count)
     }
 
@@ -306,7 +306,7 @@ impl Filestore for TreeStore {
         }
         let mut contents = file.contents;
         contents.replace(&mut self.arena, &mut self.ways, &source.contents);
-        set_contents(&mut self.arena, &file.node, &contents);
+        set_contents(&mut self.arena, file.node, &contents);
         Ok(file.contents.run.count + 2 * source.contents.run.count)
     }
 

@@ -27,12 +27,12 @@ set_run-requires c =
 
 pub returns-clause-nodes : goal.returns-clause-nodes
 returns-clause-nodes c =
-    written_nodes c.args.arena.now c.args.node.now c.bytes_mut-block.result.now c.set_sum.new.block c.requires.node c.bytes_mut-block.ensures.octets
+    written_nodes c.args.arena.now c.args.node c.bytes_mut-block.result.now c.set_sum.new.block c.requires.node c.bytes_mut-block.ensures.octets
     (c.set_sum.ensures.header ∙ c.set_size.ensures.header ∙ c.set_run.ensures.header)
 
 pub returns-clause-fields : goal.returns-clause-fields
 returns-clause-fields c =
-    let arena = c.args.arena.now in let b = c.args.node.now in let shown = c.bytes_mut-block.result.now in let contents = c.args.contents.now in
+    let arena = c.args.arena.now in let b = c.args.node in let shown = c.bytes_mut-block.result.now in let contents = c.args.contents.now in
     ap node_fields_of (written_octets arena b shown c.set_sum.new.block c.requires.node c.bytes_mut-block.ensures.octets (c.set_sum.ensures.header
     ∙ c.set_size.ensures.header ∙ c.set_run.ensures.header))
     ∙ c.set_sum.ensures.fields
@@ -42,7 +42,7 @@ returns-clause-fields c =
 
 pub returns-clause-name : goal.returns-clause-name
 returns-clause-name c =
-    let arena = c.args.arena.now in let b = c.args.node.now in let shown = c.bytes_mut-block.result.now in let new = c.set_sum.new.block in let run =
+    let arena = c.args.arena.now in let b = c.args.node in let shown = c.bytes_mut-block.result.now in let new = c.set_sum.new.block in let run =
     c.args.contents.now.run in
     let long = ap (λ (r : NodeFields). r.name_length) c.set_sum.ensures.fields ∙ ap (λ (r : NodeFields). r.name_length) c.set_size.ensures.fields
     ∙ ap (λ (r : NodeFields). r.name_length) c.set_run.ensures.fields ∙ run_keeps (λ (r : NodeFields). r.name_length) (node_fields_of shown) run refl in
@@ -54,13 +54,13 @@ returns-clause-name c =
 
 pub returns-clause-whole : goal.returns-clause-whole
 returns-clause-whole c =
-    ap length (written_octets c.args.arena.now c.args.node.now c.bytes_mut-block.result.now c.set_sum.new.block c.requires.node c.bytes_mut-block.ensures.octets
+    ap length (written_octets c.args.arena.now c.args.node c.bytes_mut-block.result.now c.set_sum.new.block c.requires.node c.bytes_mut-block.ensures.octets
     (c.set_sum.ensures.header ∙ c.set_size.ensures.header ∙ c.set_run.ensures.header))
     ∙ c.set_sum.ensures.whole
 
 pub returns-clause-runs : goal.returns-clause-runs
-returns-clause-runs c = runs_stay c.args.arena.now c.args.node.now c.set_sum.new.block c.requires.node
+returns-clause-runs c = runs_stay c.args.arena.now c.args.node c.set_sum.new.block c.requires.node
 
 pub returns-clause-free : goal.returns-clause-free
 returns-clause-free c =
-    free_count-written c.args.arena.now c.args.node.now c.set_sum.new.block (node_live c.args.arena.now c.args.node.now c.requires.node)
+    free_count-written c.args.arena.now c.args.node c.set_sum.new.block (node_live c.args.arena.now c.args.node c.requires.node)

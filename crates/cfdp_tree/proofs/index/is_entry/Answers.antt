@@ -8,7 +8,7 @@ use Rattle.cfdp_tree.proofs.index.is_entry.Goals as goal
 
 pub returns-then-home_is : goal.returns-then-home_is
 returns-then-home_is c =
-    let a = c.args.arena.now in let b = c.args.node.now in let shown = c.bytes-block.result.now in
+    let a = c.args.arena.now in let b = c.args.node in let shown = c.bytes-block.result.now in
     let same : shown ≡ octets_of (nodes_in a) b = node_octets a b c.requires.node shown c.bytes-block.ensures.octets in (
       (λ named. record {
         node = c.requires.node;
@@ -20,6 +20,6 @@ returns-then-home_is c =
 
 pub returns-else-home_is : goal.returns-else-home_is
 returns-else-home_is c =
-    let a = c.args.arena.now in let b = c.args.node.now in let shown = c.bytes-block.result.now in
+    let a = c.args.arena.now in let b = c.args.node in let shown = c.bytes-block.result.now in
     let same : shown ≡ octets_of (nodes_in a) b = node_octets a b c.requires.node shown c.bytes-block.ensures.octets in
     ((λ there. cc), (λ entry. c.home_is.ensures.1 (ap (home_in b) same ∙ entry.there)))

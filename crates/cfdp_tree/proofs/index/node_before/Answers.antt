@@ -17,7 +17,7 @@ loop-step-init c =
     record {
       nodes = subst (λ n. All (IsNode nodes) (index_chain nodes n head.first)) all c.requires.nodes;
       later = (λ some. c.requires.later (omega (arith, some)));
-      left = (λ has. subst (λ n. Contains (index_chain nodes n head.first) c.args.node.now) all has);
+      left = (λ has. subst (λ n. Contains (index_chain nodes n head.first) c.args.node) all has);
       following = (λ b has. has);
     }
 
@@ -34,7 +34,7 @@ bytes-requires c =
 
 pub loop-step-preserved : goal.loop-step-preserved
 loop-step-preserved c =
-    let l = c.loop-step in let nodes = nodes_in c.args.arena.now in let b = c.args.node.now in let count = c.args.head.now.listed in
+    let l = c.loop-step in let nodes = nodes_in c.args.arena.now in let b = c.args.node in let count = c.args.head.now.listed in
     let m = count - l._step in
     let next = (node_fields_at nodes l.before).same_head in
     let more : count + 1 - l._step ≡ suc m = omega arith in
@@ -67,7 +67,7 @@ returns-then-eq-clause-before c =
     (subst (All (IsNode nodes)) (chain_more nodes (count + 1 - l._step) m l.before more) l.invariant.nodes) in
     ap (λ o. (node_fields_of o).same_head) (sym (node_octets c.args.arena.now l.before node c.bytes.result.now c.bytes.ensures.octets))
     ∙ sym c.same_head_of-next.ensures.value
-    ∙ eqb-true c.same_head_of-next.result c.args.node.now (sym c.eq.ensures ∙ c.if-eq.true)
+    ∙ eqb-true c.same_head_of-next.result c.args.node (sym c.eq.ensures ∙ c.if-eq.true)
 
 pub returns-then-eq-clause-there : goal.returns-then-eq-clause-there
 returns-then-eq-clause-there c =
@@ -81,7 +81,7 @@ pub returns-clause-none : goal.returns-clause-none
 returns-clause-none c has =
     let l = c.loop-step in let nodes = nodes_in c.args.arena.now in let count = c.args.head.now.listed in
     let there = l.invariant.left has in
-    let some = chain_some nodes (count + 1 - l._step) l.before c.args.node.now there in
+    let some = chain_some nodes (count + 1 - l._step) l.before c.args.node there in
     let over = c.loop-step-test.false in
     let one : count + 1 - l._step ≡ 1 = omega arith in
-    l.invariant.later some (chain_one nodes l.before c.args.node.now (subst (λ n. Contains (index_chain nodes n l.before) c.args.node.now) one there))
+    l.invariant.later some (chain_one nodes l.before c.args.node (subst (λ n. Contains (index_chain nodes n l.before) c.args.node) one there))

@@ -17,7 +17,7 @@ use Rattle.cfdp_tree.proofs.index.take_out.Goals as goal
 
 pub returns-then-eq-clause-list : goal.returns-then-eq-clause-list
 returns-then-eq-clause-list c =
-    let arena = c.args.arena.now in let nodes = nodes_in arena in let head = c.args.head.now in let b = c.args.node.now in
+    let arena = c.args.arena.now in let nodes = nodes_in arena in let head = c.args.head.now in let b = c.args.node in
     let some = c.if-head-gt0.true in
     let all : head.listed ≡ suc (head.listed - 1) = omega arith in
     let first : head.first ≡ b = eqb-true head.first b (sym c.eq.ensures ∙ c.if-eq.true) in
@@ -33,7 +33,7 @@ returns-then-eq-clause-list c =
 pub returns-in_default-clause-list : goal.returns-in_default-clause-list
 returns-in_default-clause-list c =
     let list = list_of (nodes_in c.args.arena.now) c.args.head.now in
-    sym (without_all c.args.node.now list (λ i d less same. c.in_default.ensures.none (subst (Contains list) (sym same) (Contains-get_or list i d less))))
+    sym (without_all c.args.node list (λ i d less same. c.in_default.ensures.none (subst (Contains list) (sym same) (Contains-get_or list i d less))))
 
 pub bytes_mut-requires : goal.bytes_mut-requires
 bytes_mut-requires c =
@@ -42,7 +42,7 @@ bytes_mut-requires c =
 
 pub returns-clause-list : goal.returns-clause-list
 returns-clause-list c =
-    let arena = c.args.arena.now in let nodes = nodes_in arena in let head = c.args.head.now in let b = c.args.node.now in
+    let arena = c.args.arena.now in let nodes = nodes_in arena in let head = c.args.head.now in let b = c.args.node in
     let p = c.in-Some.before in let before = c.in-Some.ensures in
     let new = c.set_same_head.new.block in let e = c.set_same_head.ensures in let shown = c.bytes_mut.result.now in let is = c.bytes_mut.ensures.octets in
     let link = c.same_head_of-next.result in

@@ -10,13 +10,13 @@ use Rattle.cfdp_tree.proofs.listing.existing.Goals as goal
 pub returns-in-Directory : goal.returns-in-Directory
 returns-in-Directory c =
     let arena = c.args.arena.now in let block = c.bytes-block.result.now in
-    let same = node_octets arena c.args.node.now c.requires.node block c.bytes-block.ensures.octets in
+    let same = node_octets arena c.args.node c.requires.node block c.bytes-block.ensures.octets in
     existing_directory arena block c.args.path c.in-Directory.ensures ∙ ap (λ o. existing_node (c.args.path, node_of arena o)) same
 
 pub returns-in-File : goal.returns-in-File
 returns-in-File c =
     let arena = c.args.arena.now in let block = c.bytes-block.result.now in
-    let same = node_octets arena c.args.node.now c.requires.node block c.bytes-block.ensures.octets in
+    let same = node_octets arena c.args.node c.requires.node block c.bytes-block.ensures.octets in
     (λ k. record { path = c.args.path; kind = kind.File; size = (c.from.ensures ∙ c.size_of.ensures) k })
     ∙ existing_file arena block c.args.path (subst (λ o. IsFilled arena (file_of o)) (sym same) c.requires.filled) c.in-File.ensures
     ∙ ap (λ o. existing_node (c.args.path, node_of arena o)) same

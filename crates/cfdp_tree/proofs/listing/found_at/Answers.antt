@@ -12,18 +12,18 @@ use Rattle.cfdp_tree.proofs.listing.found_at.Goals as goal
 
 -- what is at the node, as an entry of some path
 directory_stated : (c : goal.In-Directory) → record { path = []; kind = kind.Directory; size = 0; checksum = 0 }
-    ≡ listing_entry ([], node_of c.args.arena.now (octets_of (nodes_in c.args.arena.now) c.args.node.now))
+    ≡ listing_entry ([], node_of c.args.arena.now (octets_of (nodes_in c.args.arena.now) c.args.node))
 directory_stated c =
     let arena = c.args.arena.now in let block = c.bytes-block.result.now in
-    let same = node_octets arena c.args.node.now c.requires.node block c.bytes-block.ensures.octets in
+    let same = node_octets arena c.args.node c.requires.node block c.bytes-block.ensures.octets in
     entry_directory arena block [] c.in-Directory.ensures ∙ ap (λ o. listing_entry ([], node_of arena o)) same
 
 file_stated : (c : goal.After-sum_of)
     → record { path = []; kind = kind.File; size = c.from.result; checksum = c.sum_of.result }
-    ≡ listing_entry ([], node_of c.args.arena.now (octets_of (nodes_in c.args.arena.now) c.args.node.now))
+    ≡ listing_entry ([], node_of c.args.arena.now (octets_of (nodes_in c.args.arena.now) c.args.node))
 file_stated c =
     let arena = c.args.arena.now in let block = c.bytes-block.result.now in
-    let same = node_octets arena c.args.node.now c.requires.node block c.bytes-block.ensures.octets in
+    let same = node_octets arena c.args.node c.requires.node block c.bytes-block.ensures.octets in
     let filled = subst (λ o. IsFilled arena (file_of o)) (sym same) c.requires.filled in
     (λ k. record {
       path = [];

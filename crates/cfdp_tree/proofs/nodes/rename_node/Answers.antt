@@ -9,12 +9,12 @@ use Rattle.cfdp_arena.proofs.Laws.{free_count-written}
 
 pub returns-clause-nodes : goal.returns-clause-nodes
 returns-clause-nodes c =
-    written_nodes c.args.arena.now c.args.node.now c.bytes_mut-block.result.now c.set_name.new.block c.requires.node c.bytes_mut-block.ensures.octets
+    written_nodes c.args.arena.now c.args.node c.bytes_mut-block.result.now c.set_name.new.block c.requires.node c.bytes_mut-block.ensures.octets
     (c.set_name.ensures.header ∙ c.set_parent.ensures.header)
 
 pub returns-clause-fields : goal.returns-clause-fields
 returns-clause-fields c =
-    let arena = c.args.arena.now in let b = c.args.node.now in let shown = c.bytes_mut-block.result.now in let is = c.bytes_mut-block.ensures.octets in
+    let arena = c.args.arena.now in let b = c.args.node in let shown = c.bytes_mut-block.result.now in let is = c.bytes_mut-block.ensures.octets in
     let name = c.args.name.now in
     ap node_fields_of (written_octets arena b shown c.set_name.new.block c.requires.node is (c.set_name.ensures.header ∙ c.set_parent.ensures.header))
     ∙ c.set_name.ensures.fields
@@ -23,24 +23,24 @@ returns-clause-fields c =
 
 pub returns-clause-home : goal.returns-clause-home
 returns-clause-home c =
-    let b = c.args.node.now in
+    let b = c.args.node in
     ap (λ (r : NodeFields). if r.parent == b then None else Some r.parent) (returns-clause-fields c) ∙ home_written c.args.directory b c.requires.apart
 
 pub returns-clause-name : goal.returns-clause-name
 returns-clause-name c =
-    ap node_name (written_octets c.args.arena.now c.args.node.now c.bytes_mut-block.result.now c.set_name.new.block c.requires.node
+    ap node_name (written_octets c.args.arena.now c.args.node c.bytes_mut-block.result.now c.set_name.new.block c.requires.node
     c.bytes_mut-block.ensures.octets (c.set_name.ensures.header ∙ c.set_parent.ensures.header))
     ∙ c.set_name.ensures.name
 
 pub returns-clause-whole : goal.returns-clause-whole
 returns-clause-whole c =
-    ap length (written_octets c.args.arena.now c.args.node.now c.bytes_mut-block.result.now c.set_name.new.block c.requires.node
+    ap length (written_octets c.args.arena.now c.args.node c.bytes_mut-block.result.now c.set_name.new.block c.requires.node
     c.bytes_mut-block.ensures.octets (c.set_name.ensures.header ∙ c.set_parent.ensures.header))
     ∙ c.set_name.ensures.whole
 
 pub returns-clause-runs : goal.returns-clause-runs
-returns-clause-runs c = runs_stay c.args.arena.now c.args.node.now c.set_name.new.block c.requires.node
+returns-clause-runs c = runs_stay c.args.arena.now c.args.node c.set_name.new.block c.requires.node
 
 pub returns-clause-free : goal.returns-clause-free
 returns-clause-free c =
-    free_count-written c.args.arena.now c.args.node.now c.set_name.new.block (node_live c.args.arena.now c.args.node.now c.requires.node)
+    free_count-written c.args.arena.now c.args.node c.set_name.new.block (node_live c.args.arena.now c.args.node c.requires.node)

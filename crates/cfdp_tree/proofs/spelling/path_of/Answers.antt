@@ -13,8 +13,8 @@ up_to_end text start = take_all (length text - start) (drop start text) (omega (
 
 pub from_names-requires : goal.from_names-requires
 from_names-requires c =
-    let nodes = nodes_in c.args.arena.now in let path = path_of_node nodes c.args.node.now in let good =
-    path_good nodes c.requires.tree c.args.node.now c.requires.node in
+    let nodes = nodes_in c.args.arena.now in let path = path_of_node nodes c.args.node in let good =
+    path_good nodes c.requires.tree c.args.node c.requires.node in
     let text = c.write_names-names.new.text in let start = c.write_names-names.result.start in
     let same : names_of (take (length text - start) (drop start text)) ≡ path =
     ap names_of (up_to_end text start ∙ c.write_names-names.ensures.text) ∙ names_of-parted path good in
@@ -22,8 +22,8 @@ from_names-requires c =
 
 pub returns : goal.returns
 returns c =
-    let nodes = nodes_in c.args.arena.now in let path = path_of_node nodes c.args.node.now in let good =
-    path_good nodes c.requires.tree c.args.node.now c.requires.node in
+    let nodes = nodes_in c.args.arena.now in let path = path_of_node nodes c.args.node in let good =
+    path_good nodes c.requires.tree c.args.node c.requires.node in
     let text = c.write_names-names.new.text in let start = c.write_names-names.result.start in
     let same : names_of (take (length text - start) (drop start text)) ≡ path =
     ap names_of (up_to_end text start ∙ c.write_names-names.ensures.text) ∙ names_of-parted path good in

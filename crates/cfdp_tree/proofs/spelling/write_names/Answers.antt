@@ -18,10 +18,10 @@ fewer m n xs ys le same = sym (take-take m n xs le) ∙ ap (take m) same ∙ tak
 
 pub loop-parent-init : goal.loop-parent-init
 loop-parent-init c =
-    let nodes = nodes_in c.args.arena.now in let path = path_of_node nodes c.args.node.now in let text = c.args.text.now in let octet = c.args.separator in
+    let nodes = nodes_in c.args.arena.now in let path = path_of_node nodes c.args.node in let text = c.args.text.now in let octet = c.args.separator in
     record {
       node = c.requires.node;
-      room = omega (arith, few_names nodes c.args.node.now, c.requires.room);
+      room = omega (arith, few_names nodes c.args.node, c.requires.room);
       within = omega arith;
       long = λ _. length text;
       text = ap (λ t. separated_text octet path ++ t) (drop_all (length text) text (omega arith)) ∙ append-nil (separated_text octet path);
@@ -43,7 +43,7 @@ put_before-start-requires-clause-room c =
     omega (arith, c.loop-parent.invariant.room, good.some, (c.requires.tree.named b node).name.short, ap length (c.name_in.ensures ∙ ap node_name same))
 
 pub overflow_add-depth : goal.overflow_add-depth
-overflow_add-depth c = omega (arith, c.loop-parent.invariant.depth, few_names (nodes_in c.args.arena.now) c.args.node.now)
+overflow_add-depth c = omega (arith, c.loop-parent.invariant.depth, few_names (nodes_in c.args.arena.now) c.args.node)
 
 pub loop-parent-smaller : goal.loop-parent-smaller
 loop-parent-smaller c =
@@ -98,7 +98,7 @@ loop-parent-preserved c =
 pub returns-in-None-clause-text : goal.returns-in-None-clause-text
 returns-in-None-clause-text c =
     let l = c.loop-parent in let nodes = nodes_in c.args.arena.now in let b = l.node in let node = l.invariant.node in let octet = c.args.separator in
-    let whole = path_of_node nodes c.args.node.now in
+    let whole = path_of_node nodes c.args.node in
     let same = node_octets c.args.arena.now b node c.bytes-block.result.now c.bytes-block.ensures.octets in
     let name : c.name_in.result.now ≡ name_at nodes b = c.name_in.ensures ∙ ap node_name same in
     let there : home nodes b ≡ None = ap (home_in b) (sym same) ∙ sym c.in-None.ensures in
@@ -107,7 +107,7 @@ returns-in-None-clause-text c =
     let all : octet ∷ (name_at nodes b ++ drop l.start l.text) ≡ octet ∷ join_with_byte octet whole =
     sym (text_home octet [] (path_of_node nodes b) (name_at nodes b) (drop l.start l.text) way)
     ∙ l.invariant.text
-    ∙ text_whole octet whole (path_good nodes c.requires.tree c.args.node.now c.requires.node) in
+    ∙ text_whole octet whole (path_good nodes c.requires.tree c.args.node c.requires.node) in
     c.put_before-start.ensures.text ∙ ap (λ n. n ++ drop l.start l.text) name ∙ ap (λ (t : List ℕ). drop 1 t) all
 
 pub returns-in-None-clause-depth : goal.returns-in-None-clause-depth
