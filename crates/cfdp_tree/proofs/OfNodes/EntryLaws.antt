@@ -1,8 +1,7 @@
 -- Nodes that are where they were.
 --     kept_climb, kept_ends      the way to a node whose directories have stayed
 --     same_paths, same_tree      all nodes have stayed
---     at_b, kept_by              the block of one of them is written
---     same_entries               the block of one of them is written
+--     at_b, kept_by, same_entries     the block of one of them is written
 use Rattle.std.proofs.Common.{◌≡◌, ℕ, suc, zero, List, [], ◌∷◌, ◌++◌, Option, Some, None, is_some, refl, sym, ap, ◌∙◌, subst, inl, inr}
 use Rattle.std.proofs.lemmas.List.{get_or-set_same, get_or-set_other}
 use Rattle.std.proofs.lemmas.Bool.{cases_eq}

@@ -3,7 +3,7 @@
 --     nodes-kept           a block that is no node is written, taken or given back
 --     node_only, nodes-noted       a node's block is written
 --     nodes-written        the same of a block of a run whose header stays
---     no_live              what is nothing is no value, as a live block
+--     no_live              what is nothing is no value
 use Rattle.std.proofs.Common.{◌≡◌, ℕ, List, Option, Some, None, refl, sym, ap, ◌∙◌}
 use Rattle.std.proofs.Math.Seq.{map-set_same}
 use Rattle.std.proofs.lemmas.List.{map-set}

@@ -1,4 +1,4 @@
-use Rattle.std.proofs.Common.{◌≡◌, ◌≤◌, ℕ, List, ◌++◌, true, false, Option, Some, None, sym, ap, ◌∙◌, subst}
+use Rattle.std.proofs.Common.{◌≡◌, ◌≤◌, ℕ, List, ◌++◌, Option, Some, None, sym, ap, ◌∙◌, subst}
 use Rattle.std.specs.List.{slice_get}
 use Rattle.std.specs.Prelude.{All, Contains, IfNone}
 use Rattle.std.proofs.lemmas.Bool.{both_ways}
@@ -6,7 +6,7 @@ use Rattle.std.proofs.lemmas.Option.{none-some}
 use Rattle.cfdp_arena.specs.Arena.{Blocks}
 use Rattle.cfdp_paths.specs.Paths.{Name}
 use Rattle.cfdp_order.specs.Orders as trees
-use Rattle.cfdp_order.specs.Orders.{times_in, SplitsFrom}
+use Rattle.cfdp_order.specs.Orders.{SplitsFrom}
 use Rattle.cfdp_order.proofs.MemberLaws.{contains_times}
 use Rattle.cfdp_order.proofs.SortedLaws.{splits_from}
 use Rattle.cfdp_tree.specs.declared.orders.Orders.{Orders}
