@@ -69,13 +69,13 @@ pub(crate) fn bucket_of(heads: &[ListHead], directory: Option<BlockId>, name: &[
 pub(crate) fn insert(
     arena: &mut Arena,
     heads: &mut [ListHead],
-    node: &BlockId,
+    node: BlockId,
     directory: Option<BlockId>,
     name: &[u8],
 )
     requires tree { IsTree (nodes_in arena.old) }
-    requires index { IsIndex (nodes_in arena.old) heads.old (Some node.now) }
-    requires entry { IsEntry (nodes_in arena.old) directory name.now node.now }
+    requires index { IsIndex (nodes_in arena.old) heads.old (Some node) }
+    requires entry { IsEntry (nodes_in arena.old) directory name.now node }
     ensures index { IsIndex (nodes_in arena.new) heads.new None }
     ensures links { Relinked (nodes_in arena.old) (nodes_in arena.new) }
     ensures runs { RunsStay arena.old arena.new }
@@ -93,9 +93,9 @@ pub(crate) fn insert(
         };
         return;
     }
-    set_same_head(arena.bytes_mut(*node), head.first);
+    set_same_head(arena.bytes_mut(node), head.first);
     heads[bucket] = ListHead {
-        first: *node,
+        first: node,
         listed: head.listed + 1,
         ..head
     };
@@ -105,14 +105,14 @@ pub(crate) fn insert(
 pub(crate) fn remove(
     arena: &mut Arena,
     heads: &mut [ListHead],
-    node: &BlockId,
+    node: BlockId,
     directory: Option<BlockId>,
     name: &[u8],
 )
     requires tree { IsTree (nodes_in arena.old) }
     requires index { IsIndex (nodes_in arena.old) heads.old None }
-    requires entry { IsEntry (nodes_in arena.old) directory name.now node.now }
-    ensures index { IsIndex (nodes_in arena.new) heads.new (Some node.now) }
+    requires entry { IsEntry (nodes_in arena.old) directory name.now node }
+    ensures index { IsIndex (nodes_in arena.new) heads.new (Some node) }
     ensures links { Relinked (nodes_in arena.old) (nodes_in arena.new) }
     ensures runs { RunsStay arena.old arena.new }
     ensures free { free_count arena.new ≡ free_count arena.old }
@@ -120,7 +120,7 @@ pub(crate) fn remove(
 {
     let bucket = bucket_of(heads, directory, name);
     let head = heads[bucket];
-    heads[bucket] = take_out(arena, &head, *node);
+    heads[bucket] = take_out(arena, &head, node);
 }
 
 /// A head without one of its nodes, which goes out of its list if it is in it. In constant time: the list has at most

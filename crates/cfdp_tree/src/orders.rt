@@ -97,13 +97,13 @@ impl Orders {
     pub(crate) fn enter(
         &mut self,
         arena: &Arena,
-        node: &BlockId,
+        node: BlockId,
         directory: Option<BlockId>,
         name: &[u8],
     )
         requires tree { IsTree (nodes_in arena.now) }
-        requires ordered { IsInOrders (nodes_in arena.now) self.old (Some node.now) }
-        requires entry { IsEntry (nodes_in arena.now) directory name.now node.now }
+        requires ordered { IsInOrders (nodes_in arena.now) self.old (Some node) }
+        requires entry { IsEntry (nodes_in arena.now) directory name.now node }
         ensures { IsInOrders (nodes_in arena.now) self.new None }
     {
         // Read for its contract alone: an arena has 1 to 65,536 blocks.
@@ -119,14 +119,14 @@ impl Orders {
     pub(crate) fn leave(
         &mut self,
         arena: &Arena,
-        node: &BlockId,
+        node: BlockId,
         directory: Option<BlockId>,
         name: &[u8],
     )
         requires tree { IsTree (nodes_in arena.now) }
         requires ordered { IsInOrders (nodes_in arena.now) self.old None }
-        requires entry { IsEntry (nodes_in arena.now) directory name.now node.now }
-        ensures { IsInOrders (nodes_in arena.now) self.new (Some node.now) }
+        requires entry { IsEntry (nodes_in arena.now) directory name.now node }
+        ensures { IsInOrders (nodes_in arena.now) self.new (Some node) }
     {
         // Read for its contract alone: an arena has 1 to 65,536 blocks.
         let _free = arena.free();

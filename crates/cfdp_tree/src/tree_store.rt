@@ -134,8 +134,8 @@ impl TreeStore {
         let directory = &lookup(&self.arena, &self.heads, &self.orders, path, depth);
         let name = path.name(depth);
         let node = create_node(&mut self.arena, *directory, kind, name);
-        self.orders.enter(&self.arena, &node, *directory, name);
-        insert(&mut self.arena, &mut self.heads, &node, *directory, name);
+        self.orders.enter(&self.arena, node, *directory, name);
+        insert(&mut self.arena, &mut self.heads, node, *directory, name);
     }
 }
 
@@ -268,9 +268,9 @@ impl Filestore for TreeStore {
         let directory = &home_of(block, node);
         let name = path.name(path.depth() - 1);
         let blocks = held.run.count;
-        self.orders.leave(&self.arena, &node, *directory, name);
+        self.orders.leave(&self.arena, node, *directory, name);
         held.release(&mut self.arena);
-        index::remove(&mut self.arena, &mut self.heads, &node, *directory, name);
+        index::remove(&mut self.arena, &mut self.heads, node, *directory, name);
         delete_node(&mut self.arena, node);
         Ok(blocks + 1)
     }
@@ -282,11 +282,11 @@ impl Filestore for TreeStore {
         let depth = to.depth() - 1;
         let new = &lookup(&self.arena, &self.heads, &self.orders, to, depth);
         let new_name = to.name(depth);
-        self.orders.leave(&self.arena, &node, *old, old_name);
-        index::remove(&mut self.arena, &mut self.heads, &node, *old, old_name);
+        self.orders.leave(&self.arena, node, *old, old_name);
+        index::remove(&mut self.arena, &mut self.heads, node, *old, old_name);
         rename_node(&mut self.arena, node, *new, new_name);
-        self.orders.enter(&self.arena, &node, *new, new_name);
-        insert(&mut self.arena, &mut self.heads, &node, *new, new_name);
+        self.orders.enter(&self.arena, node, *new, new_name);
+        insert(&mut self.arena, &mut self.heads, node, *new, new_name);
         Ok(0)
     }
 

@@ -49,13 +49,13 @@ pub returns-then-head-eq-MOST_LISTED-clause-index : goal.returns-then-head-eq-MO
 returns-then-head-eq-MOST_LISTED-clause-index c =
     let heads = c.args.heads.now in let entry = c.requires.entry in let bucket = c.bucket_of-bucket.result in let within = c.bucket_of-bucket.ensures.within in
     let head = c.index-heads-bucket.result in
-    inserted_beside (nodes_in c.args.arena.now) heads c.args.node.now bucket within c.requires.index entry.node
+    inserted_beside (nodes_in c.args.arena.now) heads c.args.node bucket within c.requires.index entry.node
     ((λ i. bucket_of (entry.there i) (entry.named i) (length heads)) ∙ sym c.bucket_of-bucket.ensures.bucket)
     head (sym (head_here heads bucket head within c.index-heads-bucket.is))
 
 pub returns-clause-index : goal.returns-clause-index
 returns-clause-index c =
-    let arena = c.args.arena.now in let heads = c.args.heads.now in let b = c.args.node.now in let entry = c.requires.entry in let nodes = nodes_in arena in
+    let arena = c.args.arena.now in let heads = c.args.heads.now in let b = c.args.node in let entry = c.requires.entry in let nodes = nodes_in arena in
     let new = c.set_same_head.new.block in let e = c.set_same_head.ensures in let shown = c.bytes_mut.result.now in let is = c.bytes_mut.ensures.octets in
     let bucket = c.bucket_of-bucket.result in let within = c.bucket_of-bucket.ensures.within in
     let head = c.index-heads-bucket.result in
@@ -76,15 +76,15 @@ returns-clause-index c =
 
 pub returns-clause-links : goal.returns-clause-links
 returns-clause-links c =
-    let arena = c.args.arena.now in let b = c.args.node.now in let entry = c.requires.entry in
+    let arena = c.args.arena.now in let b = c.args.node in let entry = c.requires.entry in
     let new = c.set_same_head.new.block in let e = c.set_same_head.ensures in let shown = c.bytes_mut.result.now in let is = c.bytes_mut.ensures.octets in
     let first = c.index-heads-bucket.result.first in
     subst (Relinked (nodes_in arena)) (sym (link_noted arena b shown new first entry.node is e.fields e.header e.name))
     (link_links arena b shown new first entry.node is e.fields e.header e.name c.requires.tree e.whole)
 
 pub returns-clause-runs : goal.returns-clause-runs
-returns-clause-runs c = runs_stay c.args.arena.now c.args.node.now c.set_same_head.new.block c.requires.entry.node
+returns-clause-runs c = runs_stay c.args.arena.now c.args.node c.set_same_head.new.block c.requires.entry.node
 
 pub returns-clause-free : goal.returns-clause-free
 returns-clause-free c =
-    free_count-written c.args.arena.now c.args.node.now c.set_same_head.new.block (node_live c.args.arena.now c.args.node.now c.requires.entry.node)
+    free_count-written c.args.arena.now c.args.node c.set_same_head.new.block (node_live c.args.arena.now c.args.node c.requires.entry.node)

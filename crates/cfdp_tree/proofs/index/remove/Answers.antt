@@ -37,7 +37,7 @@ pub take_out-requires-clause-there : goal.take_out-requires-clause-there
 take_out-requires-clause-there c missing =
     let nodes = nodes_in c.args.arena.now in let heads = c.args.heads.now in let bucket = c.bucket_of-bucket.result in let within =
     c.bucket_of-bucket.ensures.within in
-    let entry = c.requires.entry in let b = c.args.node.now in let head = c.index-heads-bucket.result in
+    let entry = c.requires.entry in let b = c.args.node in let head = c.index-heads-bucket.result in
     let is = subst (IsHead nodes None (length heads) bucket) (head_here heads bucket head within c.index-heads-bucket.is)
     (c.requires.index.each bucket within) in
     let has = is.all b record {
@@ -60,7 +60,7 @@ pub returns-clause-index : goal.returns-clause-index
 returns-clause-index c =
     let old = c.args.arena.now in let new = c.take_out.new.arena in let nodes = nodes_in old in let later = nodes_in new in
     let heads = c.args.heads.now in let bucket = c.bucket_of-bucket.result in let within = c.bucket_of-bucket.ensures.within in
-    let entry = c.requires.entry in let b = c.args.node.now in let index = c.requires.index in let e = c.take_out.ensures in
+    let entry = c.requires.entry in let b = c.args.node in let index = c.requires.index in let e = c.take_out.ensures in
     let head = c.index-heads-bucket.result in
     let same = head_here heads bucket head within c.index-heads-bucket.is in
     let was = slice_index_or heads bucket no_head in

@@ -11,26 +11,26 @@ of-order-requires c =
     let nodes = nodes_in c.args.arena.now in
     record {
       within = directory_inside nodes c.args.self.now _ c.args.directory c.requires.ordered
-          (home_node nodes c.requires.tree c.args.directory c.args.name.now c.args.node.now c.requires.entry);
+          (home_node nodes c.requires.tree c.args.directory c.args.name.now c.args.node c.requires.entry);
     }
 
 pub insert-order-requires-clause-fresh : goal.insert-order-requires-clause-fresh
 insert-order-requires-clause-fresh c =
     (λ k. times_in (c.number.ensures.same_number k) (trees.nodes (c.deref_mut.ensures.value k) (c.of-order.ensures k)))
-    ∙ enters (nodes_in c.args.arena.now) c.requires.tree c.args.self.now c.args.directory c.args.name.now c.args.node.now c.requires.entry c.requires.ordered
+    ∙ enters (nodes_in c.args.arena.now) c.requires.tree c.args.self.now c.args.directory c.args.name.now c.args.node c.requires.entry c.requires.ordered
 
 pub set-requires : goal.set-requires
 set-requires c =
     let nodes = nodes_in c.args.arena.now in
     record {
       within = directory_inside nodes c.args.self.now _ c.args.directory c.requires.ordered
-          (home_node nodes c.requires.tree c.args.directory c.args.name.now c.args.node.now c.requires.entry);
+          (home_node nodes c.requires.tree c.args.directory c.args.name.now c.args.node c.requires.entry);
     }
 
 pub returns : goal.returns
 returns c =
     let i = c.insert-order.ensures in let value = c.deref_mut.ensures.value in let of = c.of-order.ensures in let same = c.number.ensures.same_number in
-    entered (nodes_in c.args.arena.now) c.requires.tree c.args.self.now c.args.directory c.args.name.now c.args.node.now c.requires.entry c.requires.ordered
+    entered (nodes_in c.args.arena.now) c.requires.tree c.args.self.now c.args.directory c.args.name.now c.args.node c.requires.entry c.requires.ordered
     c.insert-order.new.links c.insert-order.result i.order
     (λ before after e splits. i.inserted before after ((λ k. trees.nodes (value k) (of k)) ∙ e) splits ∙ ap (λ x. before ++ x ∷ after) same)
     (λ m. i.one_more m ∙ (λ k. times_in m (same k ∷ trees.nodes (value k) (of k))))

@@ -10,7 +10,7 @@ of-order-requires c =
     let nodes = nodes_in c.args.arena.now in
     record {
       within = directory_inside nodes c.args.self.now _ c.args.directory c.requires.ordered
-          (home_node nodes c.requires.tree c.args.directory c.args.name.now c.args.node.now c.requires.entry);
+          (home_node nodes c.requires.tree c.args.directory c.args.name.now c.args.node c.requires.entry);
     }
 
 pub set-requires : goal.set-requires
@@ -18,13 +18,13 @@ set-requires c =
     let nodes = nodes_in c.args.arena.now in
     record {
       within = directory_inside nodes c.args.self.now _ c.args.directory c.requires.ordered
-          (home_node nodes c.requires.tree c.args.directory c.args.name.now c.args.node.now c.requires.entry);
+          (home_node nodes c.requires.tree c.args.directory c.args.name.now c.args.node c.requires.entry);
     }
 
 pub returns : goal.returns
 returns c =
     let r = c.remove-order.ensures in let value = c.deref_mut.ensures.value in let of = c.of-order.ensures in let same = c.number.ensures.same_number in
-    left (nodes_in c.args.arena.now) c.requires.tree c.args.self.now c.args.directory c.args.name.now c.args.node.now c.requires.entry c.requires.ordered
+    left (nodes_in c.args.arena.now) c.requires.tree c.args.self.now c.args.directory c.args.name.now c.args.node c.requires.entry c.requires.ordered
     c.remove-order.new.links c.remove-order.result r.order
     (λ before after e splits. r.removed before after ((λ k. trees.nodes (value k) (of k)) ∙ e ∙ ap (λ x. before ++ x ∷ after) (sym same)) splits)
     (same_others _ _ _ _ _ value of r.others)
