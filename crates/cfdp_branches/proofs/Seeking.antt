@@ -2,7 +2,7 @@
 use Rattle.std.proofs.Common.{◌≡◌, refl, sym, ◌∙◌, ap, ℕ, zero, suc, ◌-◌, ◌<◌, true≢false, is_some, true, false, List, [], ◌∷◌, Some, None, option_map, length, get_or, set, take, drop, ◌++◌, cond, arith}
 use Rattle.std.specs.List.{insert, prefix_len, slice_get}
 use Rattle.std.specs.Cmp.Lexicographic.{slice_cmp}
-use Rattle.std.specs.Ordering.{is_eq, is_lt, nat_cmp, ordering_then}
+use Rattle.std.specs.Ordering.{is_eq, is_lt, nat_cmp}
 use Rattle.std.specs.declared.cmp.Ordering.{Ordering}
 use Rattle.std.specs.declared.cmp.Ordering.TheVariants.{Less, Equal, Greater}
 use Rattle.cfdp_paths.specs.Paths.{Name, Path, path_cmp, same_name}
@@ -14,20 +14,12 @@ use Rattle.std.specs.Cmp.{tied_itself}
 use Rattle.std.specs.List.Sorted.{IsPartitionedBy}
 use Rattle.cfdp_paths.specs.code.PathMaps.{rank, IsIndexOf}
 use Rattle.cfdp_paths.proofs.InOrder.{all_before, below_at, less_back, none_other, ordered-put, put-equal, put-greater, put-less, put_at, put_gap, rank-equal, rank-greater, rank-less, ranks_parted, there, value_at}
-use Rattle.cfdp_paths.proofs.Comparing.{path_cmp-total, same_name-Decides}
+use Rattle.cfdp_paths.proofs.Comparing.{path_cmp-one, path_cmp-total, same_name-Decides}
 use Rattle.cfdp_branches.specs.Branches.{Branches}
 use Rattle.cfdp_branches.specs.code.Branches.{all_below, in_branch, under_names}
 use Rattle.cfdp_branches.proofs.Finding.{find-all_below}
 use Rattle.cfdp_branches.specs.code.Twigs.{twigs_of}
 use Rattle.cfdp_branches.specs.declared.branch.Twig.{Twig}
-
-then_none : (o : Ordering) → ordering_then o Equal ≡ o
-then_none Less = refl
-then_none Equal = refl
-then_none Greater = refl
-
-pub one_name_cmp : (m n : Name) → path_cmp (m ∷ []) (n ∷ []) ≡ slice_cmp nat_cmp m n
-one_name_cmp m n = then_none _
 
 -- before an entry are those whose index is lower
 rank_at : {X : Type 0} (k : Path) (es : List (Path × X)) (i : ℕ) (d : Path × X) → is_sorted path_cmp es ≡ true → i < length es → (get_or es i d).0 ≡ k
@@ -53,7 +45,7 @@ module _ {T : Type 0} where
   pub rank-under_names : (n : Name) (ts : List (Twig T)) → prefix_len (λ t. is_lt (slice_cmp nat_cmp t.name.items n)) ts ≡ rank (n ∷ []) (under_names (twigs_of
       ts))
   rank-under_names n [] = refl
-  rank-under_names n (t ∷ ts) = rw (one_name_cmp t.name.items n, rank-under_names n ts) refl
+  rank-under_names n (t ∷ ts) = rw (path_cmp-one t.name.items n, rank-under_names n ts) refl
 
   mapped_get : (ts : List (Twig T)) (i : ℕ) (t : Twig T) → slice_get ts i ≡ Some t
       → slice_get (under_names (twigs_of ts)) i ≡ Some (t.name.items ∷ [], t.branch)
@@ -68,7 +60,7 @@ module _ {T : Type 0} where
       let long = length-under_names ts in
       sym long ∙ all_before (n ∷ []) (under_names (twigs_of ts)) (t.name.items ∷ [], t.branch) s
       (ap (λ k. slice_get (under_names (twigs_of ts)) (k - 1)) long ∙ mapped_get ts (length ts - 1) t is)
-      (ap is_lt (one_name_cmp t.name.items n) ∙ less)
+      (ap is_lt (path_cmp-one t.name.items n) ∙ less)
 
   -- the names before it are at the front
   pub names_parted : (n : Name) (ts : List (Twig T)) → is_sorted path_cmp (under_names (twigs_of ts)) ≡ true
@@ -76,7 +68,7 @@ module _ {T : Type 0} where
   names_parted n ts s i j d le less h =
       let e : Path × Branches T = (d.name.items ∷ [], d.branch) in
       let k = λ (m : ℕ) (small : m < length ts). ap (λ (x : Path × Branches T). is_lt (path_cmp x.0 (n ∷ []))) (keyed_at ts m d e small)
-      ∙ ap is_lt (one_name_cmp (get_or ts m d).name.items n) in
+      ∙ ap is_lt (path_cmp-one (get_or ts m d).name.items n) in
       sym (k i (omega arith)) ∙ ranks_parted (n ∷ []) (under_names (twigs_of ts)) s i j e le (omega (arith, length-under_names ts)) (k j less ∙ h)
 
   -- the branch at the index has the name
@@ -114,7 +106,7 @@ module _ {T : Type 0} where
       (ap (λ k. is_eq (path_cmp (get_or ks k e).0 (n ∷ []))) (sym index)
       ∙ ap (λ (x : Path × Branches T). is_eq (path_cmp x.0 (n ∷ []))) (keyed_at ts i t e within)
       ∙ ap (λ (x : Twig T). is_eq (path_cmp (x.name.items ∷ []) (n ∷ []))) (sym read)
-      ∙ ap is_eq (one_name_cmp t.name.items n) ∙ other)
+      ∙ ap is_eq (path_cmp-one t.name.items n) ∙ other)
 
   -- what is below the name of a branch
   pub below_index : (n : Name) (p : Path) (ts : List (Twig T)) (i : ℕ) (t : Twig T) → is_sorted path_cmp (under_names (twigs_of ts)) ≡ true

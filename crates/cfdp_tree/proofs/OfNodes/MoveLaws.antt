@@ -2,7 +2,6 @@
 --     moved_tree        there is a tree still
 --     moved_path        what was below the old path is below the new one
 --     stayed_path       the others are where they were
---     true_false        a truth value is not both
 use Rattle.std.proofs.Common.{◌≡◌, ◌≢◌, ℕ, zero, suc, ◌+◌, ◌-◌, ◌≤◌, Bool, true, false, List, [], ◌∷◌, ◌++◌, length, length-append, take, drop, append_assoc, Option, Some, None, is_some, refl, sym, ap, ◌∙◌, subst, inl, inr, arith}
 use Rattle.std.proofs.lemmas.List.{take_at, drop_all, length-drop, append-nil}
 use Rattle.std.proofs.lemmas.Bool.{both_ways, cases_eq}
@@ -34,10 +33,6 @@ drop_front : (k : ℕ) (xs ys : Path) → k ≤ length xs → drop k (xs ++ ys) 
 drop_front zero xs ys within = refl
 drop_front (suc k) [] ys within = absurd (omega arith)
 drop_front (suc k) (x ∷ xs) ys within = drop_front k xs ys (omega arith)
-
--- cited by cfdp_c
-pub true_false : {b : Bool} → b ≡ true → b ≡ false → ⊥
-true_false is not = both_ways _ not is
 
 module _ (old : Blocks) (b : ℕ) (block : List ℕ) (node : IsNode old b) (tree : IsTree old) (named : IsNamed block)
     (kind : kind_of_octet (node_fields_of block).kind ≡ kind_of_octet (node_fields_at old b).kind)

@@ -31,7 +31,7 @@ use Rattle.std.specs.declared.cmp.Ordering.TheVariants.{Less, Equal, Greater}
 use Rattle.cfdp_arena.specs.Arena.{Blocks}
 use Rattle.cfdp_paths.specs.Paths.{Name, Path, path_cmp, same_name, same_path, parent}
 use Rattle.cfdp_paths.proofs.Below.{parent-take, parent-push, length-child}
-use Rattle.cfdp_paths.proofs.Comparing.{path_cmp-total, same_name-Decides, same_path-Decides}
+use Rattle.cfdp_paths.proofs.Comparing.{path_cmp-one, path_cmp-total, same_name-Decides, same_path-Decides}
 use Rattle.cfdp_paths.proofs.InOrder.{equal_back}
 use Rattle.cfdp_tree.specs.declared.orders.Orders.{Orders}
 use Rattle.cfdp_tree.specs.code.Tree.{path_of_node}
@@ -78,13 +78,8 @@ entry_other p n q other = by_test (same_path (p ++ n ∷ []) q) refl_is
 -- ---- searches
 
 -- children of a directory compare as their last names
-named_then : (o : Ordering) → ordering_then o Equal ≡ o
-named_then Less = refl
-named_then Equal = refl
-named_then Greater = refl
-
 siblings : (p : Path) (m n : Name) → path_cmp (p ++ m ∷ []) (p ++ n ∷ []) ≡ slice_cmp nat_cmp m n
-siblings [] m n = named_then (slice_cmp nat_cmp m n)
+siblings [] m n = path_cmp-one m n
 siblings (x ∷ p) m n = ap (λ o. ordering_then o (path_cmp (p ++ m ∷ []) (p ++ n ∷ []))) (tied_itself nat_list_cmp_total x) ∙ siblings p m n
 
 child_cmp : (p : Path) (n : Name) (q : Path) → 1 ≤ length p → parent q ≡ p → path_cmp q (p ++ n ∷ []) ≡ slice_cmp nat_cmp (get_or q (length p) []) n
