@@ -10,6 +10,8 @@ use Rattle.std.specs.Prelude.{find, slice_get}
 use Rattle.std.specs.List.{prefix_len, AllByRecursion}
 use Rattle.std.specs.FinSet as set
 use Rattle.std.proofs.lemmas.Bool.{cases_Bool, true≢false, eqb-true, and_parts, or_left, or_right, or_parts}
+use Rattle.std.proofs.lemmas.Option.{same_Some}
+pub use Rattle.std.proofs.lemmas.Option.{same_Some as some_is}
 use Rattle.std.proofs.lemmas.List.Elements.{filter-append}
 use Rattle.cfdp_status.specs.declared.transaction.TransactionId.{TransactionId}
 use Rattle.cfdp_status.proofs.Appended.{all-append}
@@ -30,9 +32,6 @@ abbrev Grant : Type 0
 Grant = TransactionId × Footprint
 
 -- ---- names
-
-pub some_is : {X : Type 0} (a b : X) → Some a ≡ Some b → a ≡ b
-some_is a b same = cc
 
 pub same_is : (a b : TransactionId) → is_same a b ≡ true → a ≡ b
 same_is a b h =
@@ -125,7 +124,7 @@ others-without (g ∷ gs) id p =
 
 pub first_there : (hs : List Holder) (h : Holder) → Some h ≡ slice_get hs 0 → (rest : List Holder) × (hs ≡ h ∷ rest)
 first_there [] h found = absurd (cc found)
-first_there (k ∷ hs) h found = (hs, let e : h ≡ k = some_is h k found in ap (λ x. x ∷ hs) (sym e))
+first_there (k ∷ hs) h found = (hs, let e : h ≡ k = same_Some h k found in ap (λ x. x ∷ hs) (sym e))
 
 pub first_none : (hs : List Holder) → None ≡ slice_get hs 0 → hs ≡ []
 first_none [] found = refl
@@ -284,7 +283,7 @@ absent [] id g p apart found none = absurd (cc found)
 absent (k ∷ gs) id g p apart found none =
     elim (cases_Bool (is_same k.0 id)) [
       | inl same ↦
-          let mine : k ≡ g = some_is _ _ (sym (ap (λ b. cond b (Some k) (find (λ h. is_same h.0 id) gs)) same) ∙ found) in
+          let mine : k ≡ g = same_Some _ _ (sym (ap (λ b. cond b (Some k) (find (λ h. is_same h.0 id) gs)) same) ∙ found) in
           let unheld : holds gs id ≡ false = subst (λ name. holds gs name ≡ false) (same_is k.0 id same) apart.0.names in
           subst (AllByRecursion (IsNotOf id)) (sym (nobody_of k gs p (ap (leasing p) mine ∙ none))) (strangers gs id p unheld)
       | inr other ↦

@@ -7,6 +7,7 @@ use Rattle.std.specs.List.{AllByRecursion}
 use Rattle.std.specs.FinSet as set
 use Rattle.std.proofs.lemmas.Bool.{cases_Bool, true≢false, or_parts}
 use Rattle.std.proofs.lemmas.List.{append-nil}
+use Rattle.std.proofs.lemmas.Option.{same_Some}
 use Rattle.cfdp_status.specs.declared.transaction.TransactionId.{TransactionId}
 use Rattle.cfdp_paths.specs.Paths.{Path}
 use Rattle.cfdp_paths.proofs.Below.{at_or_below-itself}
@@ -15,7 +16,7 @@ use Rattle.cfdp_leases.specs.Leases.{Grants, is_same, AreApart, first_conflict}
 use Rattle.cfdp_leases.specs.code.Holders.{holders_of, holders_at, others}
 use Rattle.cfdp_leases.proofs.Conflict.{reaches_at}
 use Rattle.cfdp_leases.proofs.Apart.{none_first}
-use Rattle.cfdp_leases.proofs.Admitted.{some_is, nobody_of, all_go, same_of, all_of}
+use Rattle.cfdp_leases.proofs.Admitted.{nobody_of, all_go, same_of, all_of}
 use Rattle.cfdp_leases.proofs.Kept.{all_found}
 
 abbrev Grant : Type 0
@@ -49,7 +50,7 @@ own_only [] id g p apart found has = absurd (cc found)
 own_only (k ∷ gs) id g p apart found has =
     elim (cases_Bool (is_same k.0 id)) [
       | inl same ↦
-          let mine : k ≡ g = some_is _ _ (sym (ap (λ b. cond b (Some k) (find (λ h. is_same h.0 id) gs)) same) ∙ found) in
+          let mine : k ≡ g = same_Some _ _ (sym (ap (λ b. cond b (Some k) (find (λ h. is_same h.0 id) gs)) same) ∙ found) in
           let beside = nobody_beside k gs p (ap (λ (h : Grant). set.contains h.1.exclusive p) mine ∙ has) apart.0.paths in
           ap (λ hs. others id (holders_of k.0 k.1 p ++ hs)) beside
           ∙ ap (others id) (append-nil (holders_of k.0 k.1 p))

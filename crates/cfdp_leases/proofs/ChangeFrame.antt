@@ -14,7 +14,7 @@ use Rattle.cfdp_paths.proofs.Below.{at_or_below-append, prefixes_compare}
 use Rattle.cfdp_paths.specs.PathMaps.{is_too_deep}
 use Rattle.cfdp_actions.specs.Filestore.{Node, Directory, File, Filestore, node_at, staged_in, Change, Becomes, Stages, changed, after, has_entries, parent_is_good, tree_at}
 use Rattle.cfdp_actions.specs.Actions.{Item, Install, Perform, Request, CreateFile, DeleteFile, RenameFile, AppendFile, ReplaceFile, CreateDirectory, RemoveDirectory, DenyFile, DenyDirectory, refused, succeeds, create, delete_file, rename, vacating, arriving, append, replace, remove_directory, deny_file, deny_directory, install, table, free_row, is_barred, denied, row}
-use Rattle.cfdp_actions.proofs.Order.{get_kept}
+use Rattle.cfdp_actions.proofs.Order.{get_kept, kept_some}
 use Rattle.cfdp_status.specs.declared.action.Action.TheVariants as action
 use Rattle.cfdp_status.specs.declared.status.Status.TheVariants.{NotAllowed}
 use Rattle.cfdp_status.proofs.Appended.{all-append}
@@ -42,11 +42,7 @@ node_at-changed F (Stages slot octets) q = refl
 pub keys_pass : (F : Filestore) (test : Path → Bool) (q : Path) → exists q (finite.keys (finite.retain_keys F.nodes test)) → test q ≡ true
 keys_pass F test q h =
     let there : is_some (finite.get (finite.retain_keys F.nodes test) q) ≡ true = finite.contains_key-keys (finite.retain_keys F.nodes test) q ∙ h in
-    kept (test q) (node_at F q) (sym (ap is_some (get_kept F test q)) ∙ there)
-  where
-    kept : (b : Bool) (x : Option Node) → is_some (cond b x None) ≡ true → b ≡ true
-    kept true x h = refl
-    kept false x h = absurd (true≢false (sym h))
+    (kept_some (test q) (node_at F q) (sym (ap is_some (get_kept F test q)) ∙ there)).0
 
 all_entries : (P : Path → Type 0) (es : List (Path × Node)) → AllByRecursion P (map (λ e. e.0) es) → AllByRecursion (λ (e : Path × Node). P e.0) es
 all_entries P [] all = tt

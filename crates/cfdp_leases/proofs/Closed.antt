@@ -20,6 +20,7 @@ use Rattle.cfdp_paths.proofs.Below.{ancestors-take, parent-take}
 use Rattle.cfdp_actions.specs.Actions.{Item}
 use Rattle.cfdp_leases.specs.Footprint.{shared_in}
 use Rattle.cfdp_leases.specs.code.Footprint.{HaveAncestors, SameSet}
+use Rattle.cfdp_actions.proofs.Truths.{absorbed}
 use Rattle.cfdp_leases.proofs.Sets.{exists, exists_from_Contains, exists-append_left, exists-append_right, exists-append_cases}
 use Rattle.cfdp_leases.proofs.Conflict.{higher, list_ancestors}
 use Rattle.cfdp_leases.proofs.Ordered.{same_set_from, same_members, same_set-append}
@@ -46,11 +47,6 @@ pub closed_ok : {T : Type 0} (r : Result T AllocError) (xs ys : List Path) (n : 
     → OnOk r (HaveAncestors ys)
 closed_ok (Ok done) xs ys n closed same = closed_more xs ys n closed same
 closed_ok (Err refusal) xs ys n closed same = tt
-
-absorbed : (a b : Bool) → (b ≡ true → a ≡ true) → a ≡ (a || b)
-absorbed true b h = refl
-absorbed false true h = h refl
-absorbed false false h = refl
 
 same_set-within : (xs zs : List Path) → ((q : Path) → exists q zs → exists q xs) → SameSet xs (xs ++ zs)
 same_set-within xs zs h =

@@ -20,6 +20,7 @@ use Rattle.std.specs.Cmp.{nat_cmp_total, nat_eq_equiv, tied_itself}
 use Rattle.std.specs.FinSet as set
 use Rattle.std.specs.FinMap.{nat_cmp-IsAntisymmetric}
 use Rattle.std.specs.declared.cmp.Ordering.TheVariants.{Less}
+use Rattle.std.proofs.Math.Bool.{or-false}
 use Rattle.std.proofs.lemmas.List.{append-nil, take_more, get_or_default, get_or-take}
 use Rattle.std.proofs.lemmas.List.Elements.{filter-append}
 use Rattle.std.proofs.lemmas.List.Folds.{list_any-append}
@@ -314,11 +315,6 @@ when_more xs i x p h holders sorted within read =
 
 -- ---- a transaction's leases taken away
 
-or_nothing : (a b : Bool) → (a || b) ≡ (a || (b || false))
-or_nothing true b = refl
-or_nothing false true = refl
-or_nothing false false = refl
-
 pub same_itself : (id : TransactionId) → is_same id id ≡ true
 same_itself id = ap (λ b. b && (id.number == id.number)) (nat_eq_equiv.refl id.source) ∙ nat_eq_equiv.refl id.number
 
@@ -356,7 +352,7 @@ pub left_more : (id : TransactionId) (xs : List Path) (i : ℕ) (x p : Path) (hs
 left_more id xs i x p hs within read =
     left_either id (list_any (same_path p) (take i xs)) (same_path p x) hs
     ∙ ap (λ b. left id b hs)
-    (or_nothing (list_any (same_path p) (take i xs)) (same_path p x)
+    (ap (λ c. list_any (same_path p) (take i xs) || c) (sym (or-false (same_path p x)))
     ∙ sym (ap (list_any (same_path p)) (take_more xs i x within ∙ ap (λ y. take i xs ++ y ∷ []) (sym read))
     ∙ list_any-append (same_path p) (take i xs) (x ∷ [])))
 
@@ -375,7 +371,7 @@ pub emptied_more : (xs : List Path) (i : ℕ) (x p : Path) (hs : List Holder) �
 emptied_more xs i x p hs within read =
     emptied_either (list_any (same_path p) (take i xs)) (same_path p x) hs
     ∙ ap (λ b. emptied b hs)
-    (or_nothing (list_any (same_path p) (take i xs)) (same_path p x)
+    (ap (λ c. list_any (same_path p) (take i xs) || c) (sym (or-false (same_path p x)))
     ∙ sym (ap (list_any (same_path p)) (take_more xs i x within ∙ ap (λ y. take i xs ++ y ∷ []) (sym read))
     ∙ list_any-append (same_path p) (take i xs) (x ∷ [])))
 

@@ -8,6 +8,7 @@ use Rattle.std.specs.Prelude.{find, slice_get}
 use Rattle.std.specs.Option.{option_map}
 use Rattle.std.specs.List.{prefix_len, AllByRecursion}
 use Rattle.std.specs.FinSet as set
+use Rattle.std.proofs.Math.Bool.{or-false}
 use Rattle.std.proofs.lemmas.Bool.{or_cases, or_left, or_right}
 use Rattle.std.proofs.lemmas.List.{take_more}
 use Rattle.std.proofs.lemmas.List.Folds.{list_any-append}
@@ -58,13 +59,8 @@ find_at test (x ∷ xs) =
 any_more : (s : PathSet) (xs : List Path) (i : ℕ) (x : Path) → i < length xs → x ≡ get_or xs i x → (has_any s (take i xs) || set.contains s x)
     ≡ has_any s (take (i + 1) xs)
 any_more s xs i x within read =
-    or_nothing (has_any s (take i xs)) (set.contains s x)
+    ap (λ b. has_any s (take i xs) || b) (sym (or-false (set.contains s x)))
     ∙ sym (ap (has_any s) (take_more xs i x within ∙ ap (λ y. take i xs ++ y ∷ []) (sym read)) ∙ list_any-append (set.contains s) (take i xs) (x ∷ []))
-  where
-    or_nothing : (a b : Bool) → (a || b) ≡ (a || (b || false))
-    or_nothing true b = refl
-    or_nothing false true = refl
-    or_nothing false false = refl
 
 pub first_more : (of : Footprint → PathSet) (gs : Grants) (xs : List Path) (i : ℕ) (x : Path) → i < length xs → x ≡ get_or xs i x
     → min (prefix_len (λ g. not (has_any (of g.1) (take i xs))) gs) (prefix_len (λ g. not (set.contains (of g.1) x)) gs)

@@ -15,7 +15,7 @@ use Rattle.std.proofs.lemmas.Bool.{cases_Bool, eq-eqb, eqb-true, true≢false, o
 use Rattle.std.proofs.lemmas.List.{map-append, append-nil}
 use Rattle.std.proofs.lemmas.List.Folds.{list_any-append}
 use Rattle.std.proofs.lemmas.Grind.{flat_map-append}
-use Rattle.std.proofs.lemmas.Option.{slice_get-map}
+use Rattle.std.proofs.lemmas.Option.{same_Some, slice_get-map}
 use Rattle.cfdp_leases.specs.declared.leased_paths.LeasedPaths.{LeasedPaths}
 use Rattle.slab.specs.Slab.{Slab, get, Updates}
 use Rattle.cfdp_status.specs.declared.transaction.TransactionId.{TransactionId}
@@ -28,7 +28,7 @@ use Rattle.cfdp_leases.specs.code.Live.{AreKept, HasNoOthers, HaveFootprints, fo
 use Rattle.cfdp_leases.proofs.Apart.{all_filter, apart_push, apart_filter}
 use Rattle.cfdp_leases.proofs.Held.{holds_same, left}
 use Rattle.cfdp_leases.proofs.Views.{find-map, option_map-map}
-use Rattle.cfdp_leases.proofs.Admitted.{index_among, released, same_is, some_is}
+use Rattle.cfdp_leases.proofs.Admitted.{index_among, released, same_is}
 use Rattle.cfdp_leases.proofs.Indexes.{prefix_len-map}
 
 pub footprint_is : (s : Slab Footprint) (key : ℕ) (fp : Footprint) → get s key ≡ Some fp → footprint_at s key ≡ fp
@@ -39,7 +39,7 @@ pub all_found : {X : Type 0} (P : X → Type 0) (test : X → Bool) (xs : List X
 all_found P test [] x all found = absurd (cc found)
 all_found P test (y ∷ xs) x all found =
     elim (cases_Bool (test y)) [
-      | inl passes ↦ subst P (some_is y x (sym (ap (λ b. cond b (Some y) (find test xs)) passes) ∙ found)) all.0
+      | inl passes ↦ subst P (same_Some y x (sym (ap (λ b. cond b (Some y) (find test xs)) passes) ∙ found)) all.0
       | inr fails ↦ all_found P test xs x all.1 (sym (ap (λ b. cond b (Some y) (find test xs)) fails) ∙ found)
     ]
 
@@ -55,10 +55,6 @@ pub grants-push : (s t : Slab Footprint) (key : ℕ) (fp : Footprint) (live : Li
 grants-push s t key fp [] kept none update = refl
 grants-push s t key fp (l ∷ live) kept none update =
     λ i. (l.transaction, unwrap_or (update.others l.key (fresh s key l kept.0 none) i) (of_lists [] [])) ∷ grants-push s t key fp live kept.2 none update i
-
-others_fresh : (s : Slab Footprint) (key : ℕ) (live : List LiveGrant) → HaveFootprints s live → get s key ≡ None → AllByRecursion (λ l. l.key ≢ key) live
-others_fresh s key [] kept none = tt
-others_fresh s key (l ∷ live) kept none = (fresh s key l kept.0 none, others_fresh s key live kept.2 none)
 
 all_push : {X : Type 0} (P : X → Type 0) (xs : List X) (x : X) → AllByRecursion P xs → P x → AllByRecursion P (xs ++ x ∷ [])
 all_push P [] x all this = (this, tt)
@@ -94,7 +90,7 @@ elsewhere s id [] l kept found = tt
 elsewhere s id (m ∷ live) l kept found =
     elim (cases_Bool (is_same m.transaction id)) [
       | inl passes ↦
-          let this : m ≡ l = some_is m l (sym (ap (λ b. cond b (Some m) (find (λ n. is_same n.transaction id) live)) passes) ∙ found) in (
+          let this : m ≡ l = same_Some m l (sym (ap (λ b. cond b (Some m) (find (λ n. is_same n.transaction id) live)) passes) ∙ found) in (
             (λ fails. absurd (true≢false (sym passes ∙ fails))),
             all_but (λ n. n.key ≢ l.key) id live
                 (subst (λ k. AllByRecursion (λ n. n.key ≢ k.key) live) this kept.1),
@@ -172,7 +168,7 @@ own_key s id [] l apart found = tt
 own_key s id (m ∷ live) l apart found =
     elim (cases_Bool (is_same m.transaction id)) [
       | inl passes ↦
-          let this : m ≡ l = some_is m l (sym (ap (λ b. cond b (Some m) (find (λ n. is_same n.transaction id) live)) passes) ∙ found) in (
+          let this : m ≡ l = same_Some m l (sym (ap (λ b. cond b (Some m) (find (λ n. is_same n.transaction id) live)) passes) ∙ found) in (
             (λ _. ap (λ n. n.key) this),
             no_key s id l.key live (subst (λ i. holds (grants_of s live) i ≡ false)
                 (same_is m.transaction id passes) apart.0.names),
@@ -305,7 +301,7 @@ live_there live id key found = which (find (λ l. is_same l.transaction id) live
     which : (o : Option LiveGrant) → find (λ l. is_same l.transaction id) live ≡ o → Some key ≡ option_map (λ l. l.key) o → (l : LiveGrant)
         × (find (λ m. is_same m.transaction id) live ≡ Some l) × (l.key ≡ key)
     which None is there = absurd (cc there)
-    which (Some l) is there = (l, is, sym (some_is key l.key there))
+    which (Some l) is there = (l, is, sym (same_Some key l.key there))
 
 -- the grant of a live transaction
 pub grant_there : (s : Slab Footprint) (live : List LiveGrant) (id : TransactionId) (l : LiveGrant) (fp : Footprint) → find (λ m. is_same m.transaction id) live
@@ -346,7 +342,3 @@ kept_emptied s t live id l fp before paths kept found has update last are_held =
     (holds_same paths (λ p. []) (λ p. left id (set.contains (leased fp) p) (holders_at gs p))
     (λ p. sym (released gs id (l.transaction, fp) p kept.apart (grant_there s live id l fp found has)
     ∙ ap (λ ks. holders_at ks p) (sym none ∙ ap (grants_of t) last))) are_held)
-
-pub none_of : {A : Type 0} (xs : List A) → (length xs == 0) ≡ true → xs ≡ []
-none_of [] e = refl
-none_of (x ∷ xs) e = absurd (omega (arith, eqb-true (length (x ∷ xs)) 0 e))

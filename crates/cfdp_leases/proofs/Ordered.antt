@@ -3,7 +3,7 @@
 --     searchable                   how the paths of an ordered list compare with one path never falls
 --     sorted-insert                a path is put at its index
 --     found_there, searched        a path that is found is there;  whether one is found
-use Rattle.std.proofs.Common.{◌≡◌, ◌≢◌, length-take, refl, sym, ◌∙◌, ap, subst, ℕ, zero, suc, ◌<◌, ◌≤◌, ◌==◌, Bool, true, false, ◌||◌, inl, inr, List, [], ◌∷◌, ◌++◌, length, take, drop, get_or, arith, append_assoc, take-append-drop, ◌+◌, map, Option, Some, Result, Ok, Err}
+use Rattle.std.proofs.Common.{◌≡◌, refl, sym, ◌∙◌, ap, subst, ℕ, zero, suc, ◌<◌, ◌≤◌, ◌==◌, Bool, true, false, ◌||◌, inl, inr, List, [], ◌∷◌, ◌++◌, length, take, drop, get_or, arith, append_assoc, take-append-drop, ◌+◌, map, Option, Some, Result, Ok, Err}
 use Rattle.std.specs.Prelude.{flat_map, is_ok, OnOk}
 use Rattle.std.proofs.lemmas.Grind.{flat_map-append}
 use Rattle.std.proofs.lemmas.List.{take_more, map-append, append-nil}
@@ -14,6 +14,7 @@ use Rattle.std.specs.declared.alloc.AllocError.{AllocError}
 use Rattle.std.specs.Ordering.{ordering_index, ordering_reverse, is_eq}
 use Rattle.std.specs.declared.cmp.Ordering.{Ordering}
 use Rattle.std.specs.declared.cmp.Ordering.TheVariants.{Less, Equal, Greater}
+use Rattle.std.proofs.Math.Bool.{or-false}
 use Rattle.std.proofs.lemmas.List.Folds.{list_any-append}
 use Rattle.std.proofs.lemmas.Map.Keys.{Less-from_sorted}
 use Rattle.std.proofs.lemmas.Bool.{cases_Bool, eqb-true, eqb-false, or_left, or_right}
@@ -22,6 +23,7 @@ use Rattle.cfdp_paths.proofs.Comparing.{same_path-Decides, path_cmp-total}
 use Rattle.cfdp_paths.specs.Paths.{ancestors}
 use Rattle.cfdp_actions.specs.Actions.{Item, Perform, Request, first_in, second_in}
 use Rattle.cfdp_actions.specs.Actions as actions
+use Rattle.cfdp_actions.proofs.Truths.{absorbed}
 use Rattle.cfdp_leases.specs.Items.{install_of, items_of}
 use Rattle.cfdp_leases.specs.Footprint.{exclusive_in, read_in}
 use Rattle.cfdp_leases.specs.code.Footprint.{SameSet}
@@ -48,16 +50,12 @@ same_set-append xs ys zs h =
 pub same_set-then : (xs ys zs a b : List Path) → SameSet ys (xs ++ a) → SameSet zs (ys ++ b) → SameSet zs (xs ++ (a ++ b))
 same_set-then xs ys zs a b h k = k ∙ same_set-append ys (xs ++ a) b h ∙ ap set.from_list (append_assoc xs a b)
 
-once_more : (a b : Bool) → (b ≡ true → a ≡ true) → a ≡ (a || (b || false))
-once_more true b h = refl
-once_more false true h = h refl
-once_more false false h = refl
-
 -- a path that is there already
 pub same_set-there : (xs : List Path) (x : Path) → list_any (same_path x) xs ≡ true → SameSet xs (xs ++ x ∷ [])
 same_set-there xs x h =
     same_set_from xs (xs ++ x ∷ [])
-    (λ q. once_more (list_any (same_path q) xs) (same_path q x) (λ same. subst (λ y. list_any (same_path y) xs ≡ true) (sym ((same_path-Decides q x).0 same)) h)
+    (λ q. absorbed (list_any (same_path q) xs) (same_path q x || false) (λ same.
+    subst (λ y. list_any (same_path y) xs ≡ true) (sym ((same_path-Decides q x).0 (sym (or-false (same_path q x)) ∙ same))) h)
     ∙ sym (list_any-append (same_path q) xs (x ∷ [])))
 
 between : (a b c : Bool) → (a || (b || c)) ≡ ((a || c) || (b || false))
@@ -156,10 +154,6 @@ sorted-insert (x ∷ xs) t (suc i) sorted within low high = (
   sorted-insert xs t i sorted.1 (omega arith) (λ k d _ below. low (suc k) d (omega arith) (omega arith))
       (λ k d above below. high (suc k) d (omega arith) (omega arith)),
 )
-
--- a beginning of some names is not the root
-pub named-take : (n : ℕ) (p : Path) → 1 ≤ n → n ≤ length p → take n p ≢ []
-named-take n p some within none = absurd (omega (arith, length-take n p, ap length none))
 
 pub sorted-none : IsStrictlySortedBy path_cmp []
 unfolding IsStrictlySortedBy

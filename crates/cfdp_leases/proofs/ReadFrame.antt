@@ -1,12 +1,12 @@
 -- A row reads only what the footprint covers.
 --     covered_read, covered_parent      what `IsWithin` says of the item's names and of what is above them
 --     frame_of_reads
-use Rattle.std.proofs.Common.{◌≡◌, ◌≢◌, refl, sym, ◌∙◌, ap, ℕ, ◌+◌, ◌*◌, Bool, true, false, cond, not, ◌&&◌, List, [], ◌∷◌, ◌++◌, min, arith}
+use Rattle.std.proofs.Common.{◌≡◌, ◌≢◌, refl, sym, ◌∙◌, ap, ℕ, ◌+◌, ◌*◌, Bool, true, false, cond, not, ◌&&◌, List, [], ◌∷◌, ◌++◌, min}
 use Rattle.std.specs.Prelude.{flat_map, Option, None, is_some, if◌then◌else◌, ◌==◌}
 use Rattle.std.specs.FinMap as finite
 use Rattle.std.proofs.lemmas.Bool.{and_parts, or_left, or_right}
 use Rattle.cfdp_paths.specs.Paths.{Path, same_path, is_at_or_below, is_below, parent, ancestors}
-use Rattle.cfdp_paths.proofs.Below.{at_or_below-trans, parent_at_or_below, parent_below, is_below-Decides}
+use Rattle.cfdp_paths.proofs.Below.{at_or_below-trans, parent_at_or_below, parent_other}
 use Rattle.cfdp_actions.specs.Filestore.{Node, Directory, File, Filestore, node_at, has_entries, is_directory, is_good, is_root, parent_is_good, tree_at, weight}
 use Rattle.cfdp_actions.specs.Actions.{Item, Install, Perform, Request, CreateFile, DeleteFile, RenameFile, AppendFile, ReplaceFile, CreateDirectory, RemoveDirectory, DenyFile, DenyDirectory, create, delete_file, rename, append, replace, remove_directory, deny_file, deny_directory, install, table, free_row, is_barred, is_protected, denied, row}
 use Rattle.cfdp_status.specs.declared.action.Action.TheVariants as action
@@ -43,10 +43,6 @@ covered_parent fp item p w h some =
     all_at (λ x. is_covered fp x ≡ true) (shared_in item) (parent p) w.shared
     (exists-append_right (parent p) (read_in item) (flat_map ancestors (exclusive_in item ++ read_in item))
     (exists-flat_map ancestors (exclusive_in item ++ read_in item) p (parent p) h above))
-  where
-    parent_other : (p : Path) → p ≢ [] → p ≢ parent p
-    parent_other [] some same = some refl
-    parent_other (n ∷ p) some same = (((is_below-Decides (n ∷ p) (parent (n ∷ p))).0 (parent_below (n ∷ p) (omega arith))).1) same
 
 -- ---- what is read
 

@@ -3,11 +3,9 @@
 --     rooted_becomes           one change keeps the filestore rooted
 --     arriving_at, vacated_at  what is at a path after a directory was moved
 --     stays_rooted
-use Rattle.std.proofs.Common.{◌≡◌, ◌≢◌, refl, sym, ◌∙◌, ap, subst, ℕ, zero, suc, ◌≤◌, Bool, true, false, cond, ◌||◌, ◌⊎◌, inl, inr, List, [], ◌∷◌, ◌++◌, map, length, drop, arith}
+use Rattle.std.proofs.Common.{◌≡◌, ◌≢◌, refl, sym, ◌∙◌, ap, subst, ℕ, ◌≤◌, Bool, true, false, cond, ◌||◌, ◌⊎◌, inl, inr, List, [], ◌∷◌, ◌++◌, map, length, drop, arith}
 use Rattle.std.specs.FinMap.Entries.{below_all, is_sorted, find}
-use Rattle.std.specs.Ordering.{is_lt}
 use Rattle.std.specs.Cmp.{tied_itself}
-use Rattle.std.specs.declared.cmp.Ordering.{Ordering}
 use Rattle.cfdp_status.specs.declared.action.Action.TheVariants as action
 use Rattle.cfdp_status.specs.declared.status.Status.TheVariants.{NotAllowed}
 use Rattle.cfdp_actions.specs.Actions.{Item, Install, Perform, Request, CreateFile, DeleteFile, RenameFile, AppendFile, ReplaceFile, CreateDirectory, RemoveDirectory, DenyFile, DenyDirectory, refused, succeeds, create, delete_file, rename, vacating, arriving, append, replace, remove_directory, deny_file, deny_directory, install, table, free_row, is_barred, denied, row}
@@ -16,18 +14,18 @@ use Rattle.std.specs.Prelude.{Option, Some, None, is_some, if◌then◌else◌}
 use Rattle.std.specs.List.{list_any, AllByRecursion}
 use Rattle.std.proofs.lemmas.List.{append_cancel_left, append-nil}
 use Rattle.std.specs.FinMap as finite
-use Rattle.std.specs.declared.cmp.Ordering.TheVariants.{Less, Equal, Greater}
+use Rattle.std.specs.declared.cmp.Ordering.TheVariants.{Less, Equal}
 use Rattle.std.proofs.lemmas.Bool.{or_cases, true≢false, cases_Bool, and_parts, false_from_ne_true, not-false, eqb-true}
 use Rattle.cfdp_status.specs.declared.action.Action.{Action}
 use Rattle.cfdp_paths.specs.Paths.{Path, path_cmp, same_path, is_at_or_below, is_below, parent, rebased}
 use Rattle.cfdp_paths.proofs.Comparing.{same_path-Decides, path_cmp-total}
-use Rattle.cfdp_paths.proofs.Below.{at_or_below-trans, at_or_below-append, at_or_below-antisym, append_from_at_or_below, parent_at_or_below, parent_below, is_below-Decides, parent_of_below}
+use Rattle.cfdp_paths.proofs.Below.{at_or_below-trans, at_or_below-append, at_or_below-antisym, append_from_at_or_below, parent_at_or_below, parent_below, parent_other}
 use Rattle.cfdp_actions.specs.Filestore.{Node, Directory, File, Filestore, node_at, staged_in, Becomes, Stages, changed, after, inside, has_entries, is_directory, is_good, parent_is_good, IsRooted, tree_at}
 use Rattle.cfdp_leases.proofs.Sets.{exists}
 use Rattle.cfdp_leases.proofs.ChangeFrame.{node_at-changed, keys_pass, tree_below}
-use Rattle.cfdp_paths.proofs.InOrder.{true_from_T}
+use Rattle.cfdp_paths.proofs.InOrder.{less_by, true_from_T}
 use Rattle.cfdp_paths.specs.PathMaps.{is_too_deep}
-use Rattle.cfdp_actions.proofs.Moves.{after-append}
+use Rattle.cfdp_actions.proofs.Moves.{after-append, below_absent, moved}
 use Rattle.cfdp_actions.proofs.Prefixes.{drop_append}
 use Rattle.cfdp_actions.proofs.Order.{same_path-refl, get_kept}
 
@@ -53,10 +51,6 @@ good_from F (n ∷ x) some h = at (parent (n ∷ x)) h
     at [] h = refl
     at (m ∷ a) (inl h) = absurd (let no : ◌≢◌ {A = Path} (m ∷ a) [] = λ e. cc in no h)
     at (m ∷ a) (inr h) = h
-
-parent_other : (p : Path) → p ≢ [] → p ≢ parent p
-parent_other [] some same = some refl
-parent_other (n ∷ p) some same = ((is_below-Decides (n ∷ p) (parent (n ∷ p))).0 (parent_below (n ∷ p) (omega arith))).1 same
 
 is_some_since : (x : Option Node) → is_directory x ≡ true → is_some x ≡ true
 is_some_since None h = absurd (true≢false (sym h))
@@ -113,12 +107,7 @@ Entry = Path × Node
 less_keys : (k : Path) (es : List Entry) → below_all path_cmp k es ≡ true → AllByRecursion (λ (e : Entry). path_cmp k e.0 ≡ Less) es
 less_keys k [] h = tt
 less_keys k (e ∷ es) h =
-    let parts = and_parts _ _ h in (less (path_cmp k e.0) parts.0, less_keys k es parts.1)
-  where
-    less : (r : Ordering) → is_lt r ≡ true → r ≡ Less
-    less Less h = refl
-    less Equal h = absurd (true≢false (sym h))
-    less Greater h = absurd (true≢false (sym h))
+    let parts = and_parts _ _ h in (less_by (path_cmp k e.0) parts.0, less_keys k es parts.1)
 
 found_later : (e f : Entry) (es : List Entry) → path_cmp e.0 f.0 ≡ Less → find path_cmp f.0 es ≡ Some f.1 → find path_cmp f.0 (e ∷ es) ≡ Some f.1
 found_later e f es less found =
@@ -198,32 +187,6 @@ arriving_at Q F p q (e ∷ es) x all =
           ]
     ]
 
-length-parent : (x : Path) → x ≢ [] → suc (length (parent x)) ≡ length x
-length-parent [] some = absurd (some refl)
-length-parent (n ∷ []) some = refl
-length-parent (n ∷ m ∷ x) some = ap suc (length-parent (m ∷ x) (λ e. cc))
-
-no_names : (x : Path) → length x ≤ 0 → x ≡ []
-no_names [] e = refl
-no_names (n ∷ x) e = absurd (omega arith)
-
--- nothing is at or below a path where nothing exists
-below_absent : (F : Filestore) (q : Path) → IsRooted F → q ≢ [] → node_at F q ≡ None → (bound : ℕ) (x : Path) → length x ≤ bound → is_at_or_below x q ≡ true →
-    is_some (node_at F x) ≡ true → ⊥
-below_absent F q rooted named absent zero x within below there = (good_parts F x (rooted x there)).0 (no_names x within)
-below_absent F q rooted named absent (suc bound) x within below there =
-    let parts = good_parts F x (rooted x there) in
-    elim (cases_Bool (same_path x q)) [
-      | inl e ↦ true≢false (sym there ∙ ap (λ y. is_some (node_at F y)) ((same_path-Decides x q).0 e) ∙ ap is_some absent)
-      | inr e ↦
-          let above : is_at_or_below (parent x) q ≡ true = parent_of_below x q below (λ same. true≢false (sym ((same_path-Decides x q).1 same) ∙ e)) in
-          elim parts.1 [
-            | inl root ↦ named (at_or_below-antisym q [] refl (subst (λ y. is_at_or_below y q ≡ true) root above))
-            | inr directory ↦ below_absent F q rooted named absent bound (parent x) (omega (arith, length-parent x parts.0, within)) above
-                (is_some_since (node_at F (parent x)) directory)
-          ]
-    ]
-
 -- ---- renaming
 
 parent-append : (q r : Path) → r ≢ [] → parent (q ++ r) ≡ q ++ parent r
@@ -247,9 +210,6 @@ pub record IsMove (F : Filestore) (p q : Path) : Type 0 where
   pub absent : node_at F q ≡ None
   pub good : parent_is_good F q ≡ true
   pub apart : is_at_or_below q p ≡ false
-
-abbrev pub moved : Filestore → Path → Path → Filestore
-moved F p q = after F (vacating (tree_at F p) ++ arriving p q (tree_at F p))
 
 module _ (F : Filestore) (p q : Path) (move : IsMove F p q) where
   named_p : p ≢ []
@@ -337,7 +297,8 @@ module _ (F : Filestore) (p q : Path) (move : IsMove F p q) where
   stayed x there off =
       let parts = good_parts F x (move.rooted x there) in
       let off_p : is_at_or_below x p ≡ true → ⊥ = λ h. true≢false (sym (key_since F p x h there) ∙ off) in
-      let off_q : is_at_or_below x q ≡ true → ⊥ = λ h. below_absent F q move.rooted named_q move.absent (length x) x (omega arith) h there in
+      let off_q : is_at_or_below x q ≡ true → ⊥ = λ h.
+      true≢false (sym there ∙ ap is_some (below_absent F q move.rooted named_q move.absent (length x) x (omega arith) h)) in
       good_from (moved F p q) x parts.0
       (elim parts.1 [
         | inl root ↦ inl root
@@ -394,8 +355,12 @@ module _ (F : Filestore) (rooted : IsRooted F) where
   directory_gone p none =
       rooted_becomes F p None rooted (λ h. absurd (true≢false (sym h)))
       (λ x some above there.
-      let below : is_below x p ≡ true = subst (λ y. is_below x y ≡ true) above (parent_below x (omega (arith, length-parent x some))) in
+      let below : is_below x p ≡ true = subst (λ y. is_below x y ≡ true) above (parent_below x (named x some)) in
       absurd (true≢false (sym there ∙ ap is_some (nothing_inside p x none below))))
+    where
+      named : (x : Path) → x ≢ [] → 1 ≤ length x
+      named [] some = absurd (some refl)
+      named (n ∷ x) some = omega arith
 
   rooted_create : (action : Action) (node : Node) (p : Path) (x : Option Node) (good : Bool) → node_at F p ≡ x → parent_is_good F p ≡ good →
       IsRooted (after F (create action node p x good).changes)

@@ -1,4 +1,5 @@
 -- What the lists in a footprint and in the leases say of their views.
+--     same_test                              whether a path is one of a list, tested the other way round
 --     is_exclusive-view, is_shared-view      of a footprint made of two lists
 --     find-map, option_map-map, list_any-map      of grants made of live transactions
 use Rattle.std.proofs.Common.{◌≡◌, refl, sym, ◌∙◌, ap, Bool, true, false, cond, ◌||◌, List, [], ◌∷◌, map}
@@ -16,7 +17,8 @@ use Rattle.cfdp_leases.proofs.Sets.{any_in-from_list}
 pub is_exclusive-view : (xs ys : List Path) (fp : Footprint) (p : Path) → of_lists xs ys ≡ fp → is_exclusive fp p ≡ list_any (λ held. is_at_or_below p held) xs
 is_exclusive-view xs ys fp p view = ap (λ f. is_exclusive f p) (sym view) ∙ any_in-from_list (λ held. is_at_or_below p held) xs
 
-same_test : (p : Path) (ys : List Path) → list_any (same_path p) ys ≡ list_any (λ y. same_path y p) ys
+-- the test of a path the other way round
+pub same_test : (p : Path) (ys : List Path) → list_any (same_path p) ys ≡ list_any (λ y. same_path y p) ys
 same_test p [] = refl
 same_test p (y ∷ ys) = λ i. (eq_by_cmp_equiv path_cmp-total).symm p y i || same_test p ys i
 

@@ -2,13 +2,15 @@ use Rattle.std.proofs.Common.{rules, sym, ◌∙◌, ap, subst, not}
 use Rattle.std.specs.Prelude.{◌==◌, IsSome, None, length}
 use Rattle.std.specs.Option.{option_map}
 use Rattle.std.specs.List.{find}
+use Rattle.std.proofs.lemmas.Bool.{eqb-true}
 use Rattle.std.proofs.lemmas.Fn.{filter_same}
+use Rattle.std.proofs.lemmas.List.{nil_from_length}
 use Rattle.slab.specs.Slab.{get, Updates}
 use Rattle.cfdp_leases.specs.Leases.{is_same, without_grant}
 use Rattle.cfdp_leases.specs.code.Live.{AreKept, grants_of}
 use Rattle.cfdp_leases.specs.code.Holders.{holders_at}
 use Rattle.cfdp_leases.proofs.Alone.{own_only}
-use Rattle.cfdp_leases.proofs.Kept.{all_found, elsewhere, grant_there, grants-filter, kept_emptied, kept_released, live_there, nobody_there, none_of, occupied}
+use Rattle.cfdp_leases.proofs.Kept.{all_found, elsewhere, grant_there, grants-filter, kept_emptied, kept_released, live_there, nobody_there, occupied}
 use Rattle.cfdp_leases.proofs.leases.Leases.release.Goals as goal
 
 -- it is none of the live ones
@@ -42,7 +44,8 @@ invariant_of-self c =
     subst (λ ls. AreKept t ls c.clear.new.self) (sym left)
     (kept_emptied s t live id found.0 c.remove-footprint.result c.self.inside.paths c.clear.new.self c.self.invariant found.1
     has (subst (λ key. Updates s t key None) (sym found.2) c.remove-footprint.ensures.updates)
-    (sym left ∙ none_of _ (sym (c.is_empty-is_last.ensures ∙ ap (λ xs. length xs == 0) c.as_slice.ensures.value) ∙ c.if-is_last.true)) c.clear.ensures)
+    (sym left ∙ nil_from_length _ (eqb-true _ 0 (sym (c.is_empty-is_last.ensures ∙ ap (λ xs. length xs == 0) c.as_slice.ensures.value)
+    ∙ c.if-is_last.true))) c.clear.ensures)
 
 pub invariant_of-self-2 : goal.invariant_of-self-2
 invariant_of-self-2 c =
