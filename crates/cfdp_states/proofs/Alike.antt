@@ -43,10 +43,6 @@ pub held-changed : (slot : ℕ) (F : Filestore) (c : Change) → slot < length F
 held-changed slot F (Becomes p now) held = held
 held-changed slot F (Stages other octets) held = subst (λ n. slot < n) (sym (length-set F.staged other octets)) held
 
-pub held-after : (slot : ℕ) (F : Filestore) (cs : List Change) → slot < length F.staged → slot < length (after F cs).staged
-held-after slot F [] held = held
-held-after slot F (c ∷ cs) held = held-after slot (changed F c) cs (held-changed slot F c held)
-
 staged-changed : (slot : ℕ) (F G : Filestore) (c : Change) → slot < length F.staged → slot < length G.staged → staged_in F slot ≡ staged_in G slot →
     staged_in (changed F c) slot ≡ staged_in (changed G c) slot
 staged-changed slot F G (Becomes p now) held_F held_G same = same

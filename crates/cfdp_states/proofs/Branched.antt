@@ -6,7 +6,8 @@
 --     below_by_depth, deep_by_depth what that says of what is below it
 use Rattle.std.proofs.Common.{◌≡◌, ◌≢◌, refl, sym, ◌∙◌, ap, subst, Bool, true, false, cond, not, ◌||◌, nat_lt, Option, Some, None, is_some, IsSome, ℕ, suc, ◌+◌, ◌-◌, ◌<◌, ◌≤◌, ◌^◌, List, [], ◌∷◌, ◌++◌, length, drop, length-append, true≢false, lt-ltb, ltb-true, ◌⊎◌, inl, inr, arith}
 use Rattle.std.proofs.lemmas.Bool.{cases_lt}
-use Rattle.std.proofs.lemmas.List.{append-nil}
+use Rattle.std.proofs.lemmas.Float.{T_from_true}
+use Rattle.std.proofs.lemmas.List.{append-nil, nil_from_length}
 use Rattle.std.specs.List.{list_any}
 use Rattle.std.specs.FinMap.{empty, entries, entries-insert, get, get-empty, get-entries, get-insert, get-remove, insert, remove, len, len-entries, len-insert, find}
 use Rattle.std.specs.FinMap as finite
@@ -15,9 +16,9 @@ use Rattle.cfdp_paths.specs.Paths.{Path, path_cmp, same_path, is_at_or_below, is
 use Rattle.cfdp_paths.specs.PathMaps.{any_below, is_too_deep, moved_to, puts, rest_in, tree_in}
 use Rattle.cfdp_paths.proofs.Below.{append_from_at_or_below, at_or_below-append, at_or_below-itself, is_below-Decides, rebased-append}
 use Rattle.cfdp_paths.proofs.Comparing.{path_cmp-total, same_path-Decides}
-use Rattle.cfdp_paths.proofs.InOrder.{path_antisym, T_from_true, true_from_T}
+use Rattle.cfdp_paths.proofs.InOrder.{path_antisym, true_from_T}
 use Rattle.cfdp_paths.proofs.Moving.{length-parts}
-use Rattle.cfdp_actions.proofs.Order.{same_path-refl}
+use Rattle.cfdp_actions.proofs.Order.{kept_some, same_path-refl}
 use Rattle.cfdp_actions.proofs.Truths.{by_truth}
 use Rattle.cfdp_actions.proofs.Weights.{entries-remove}
 use Rattle.cfdp_branches.specs.Branches.{AreSameValues, IsLevels, IsReached, Branches, has_branch, value_at, value_in}
@@ -259,15 +260,11 @@ deep_by_depth m p q n d few = by_truth (nat_lt 9 (n + length q)) (is_too_deep p 
     from : is_too_deep p q (tree_in p (entries m)) ≡ true → nat_lt 9 (n + length q) ≡ true
     from any =
         let t = any-there (λ x. nat_lt 8 (length (rebased p q x))) (tree_in p (entries m)) any in
-        let parts = kept (is_at_or_below t.path p) (get m t.path) (ap is_some (sym (inside t.path)) ∙ t.there) in
+        let parts = kept_some (is_at_or_below t.path p) (get m t.path) (ap is_some (sym (inside t.path)) ∙ t.there) in
         let r = drop (length p) t.path in
         let whole : t.path ≡ p ++ r = append_from_at_or_below t.path p parts.0 in
         let deep_enough = d.within r (ap is_some (ap (get m) (sym whole)) ∙ parts.1) in
         lt-ltb _ _ (omega (arith, deep_enough, ltb-true _ _ t.passes, ap (λ x. length (rebased p q x)) whole, long r))
-      where
-        kept : (b : Bool) (o : Option Extent) → is_some (cond b o None) ≡ true → (b ≡ true) × (is_some o ≡ true)
-        kept true o s = (refl, s)
-        kept false o s = absurd (true≢false (sym s))
 
 -- ---- a move
 
@@ -312,6 +309,15 @@ moved_apart p q m x d = by_place (is_at_or_below x q) refl
         ∙ sym (itself (get m (rebased q p x)) (is_at_or_below x p))
     by_place false at = refl
 
+-- the same values are those of the map
+same_get : (ss now : Branches Extent) (m : Extents) → values_map ss ≡ m → AreSameValues now ss → (x : Path) → value_at now x ≡ get m x
+same_get ss now m is same x = same x ∙ sym (get-values ss x) ∙ ap (λ m. get m x) is
+
+-- a branch that is new has no value
+void : (r : Path) → value_at {X = Extent} (([], None) ∷ []) r ≡ None
+void [] = refl
+void (k ∷ r) = refl
+
 pub values_moved : (ss now one two bs : Branches Extent) (p q : Path) (m : Extents) → values_map ss ≡ m → IsDepthAt m q 0 → AreSameValues now ss
     → ((x : Path) → find path_cmp x one ≡ cond (is_at_or_below x p) (find path_cmp (drop (length p) x) (([], None) ∷ [])) (find path_cmp x now))
     → ((r : Path) → find path_cmp r bs ≡ find path_cmp (p ++ r) now)
@@ -320,32 +326,22 @@ pub values_moved : (ss now one two bs : Branches Extent) (p q : Path) (m : Exten
 values_moved ss now one two bs p q m is d same exchanged taken put =
     values_are two (rehomed p q m) (λ x. ap value_in (put x) ∙ by_place x (is_at_or_below x q) ∙ sym (get-rehomed p q m x ∙ moved_apart p q m x d))
   where
-    old : (x : Path) → value_at now x ≡ get m x
-    old x = same x ∙ sym (get-values ss x) ∙ ap (λ m. get m x) is
-
-    void : (r : Path) → value_at {X = Extent} (([], None) ∷ []) r ≡ None
-    void [] = refl
-    void (k ∷ r) = refl
-
     left : (x : Path) (b : Bool) → value_in (cond b (find path_cmp (drop (length p) x) (([], None) ∷ [])) (find path_cmp x now)) ≡ cond b None (get m x)
     left x true = void (drop (length p) x)
-    left x false = old x
+    left x false = same_get ss now m is same x
 
     by_place : (x : Path) (b : Bool) → value_in (cond b (find path_cmp (drop (length q) x) bs) (find path_cmp x one))
         ≡ cond b (get m (rebased q p x)) (cond (is_at_or_below x p) None (get m x))
-    by_place x true = ap value_in (taken (drop (length q) x)) ∙ old (p ++ drop (length q) x)
+    by_place x true = ap value_in (taken (drop (length q) x)) ∙ same_get ss now m is same (p ++ drop (length q) x)
     by_place x false = ap value_in (exchanged x) ∙ left x (is_at_or_below x p)
 
 pub values_stay : (ss now : Branches Extent) (p q : Path) (m : Extents) → values_map ss ≡ m → IsDepthAt m q 0 → AreSameValues now ss
     → ((r : Path) → find path_cmp (p ++ r) now ≡ None) → values_map now ≡ rehomed p q m
 values_stay ss now p q m is d same absent =
-    values_are now (rehomed p q m) (λ x. old x ∙ sym (get-rehomed p q m x ∙ moved_apart p q m x d ∙ by_place x (is_at_or_below x q) refl))
+    values_are now (rehomed p q m) (λ x. same_get ss now m is same x ∙ sym (get-rehomed p q m x ∙ moved_apart p q m x d ∙ by_place x (is_at_or_below x q) refl))
   where
-    old : (x : Path) → value_at now x ≡ get m x
-    old x = same x ∙ sym (get-values ss x) ∙ ap (λ m. get m x) is
-
     none : (r : Path) → get m (p ++ r) ≡ None
-    none r = sym (old (p ++ r)) ∙ ap value_in (absent r)
+    none r = sym (same_get ss now m is same (p ++ r)) ∙ ap value_in (absent r)
 
     left : (x : Path) (b : Bool) → is_at_or_below x p ≡ b → cond b None (get m x) ≡ get m x
     left x true at = sym (ap (get m) (append_from_at_or_below x p at) ∙ none (drop (length p) x))
@@ -359,10 +355,6 @@ values_stay ss now p q m is d same absent =
 
 pub new_map : (ss : Branches Extent) → ss ≡ ([], None) ∷ [] → values_map ss ≡ empty
 new_map ss is = values_are ss empty (λ p. ap (λ ss. value_at ss p) is ∙ void p ∙ sym (get-empty path_cmp p))
-  where
-    void : (r : Path) → value_at {X = Extent} (([], None) ∷ []) r ≡ None
-    void [] = refl
-    void (k ∷ r) = refl
 
 pub new_tallied : (ss : Branches Extent) → ss ≡ ([], None) ∷ [] → IsTallied (values_map ss) 0 0
 new_tallied ss is =
@@ -381,12 +373,8 @@ new_tallied ss is =
       bounded = omega arith;
     })
   where
-    no_more : (es : List (Path × Extent)) → length es ≡ 0 → es ≡ []
-    no_more [] h = refl
-    no_more (e ∷ es) h = absurd (omega (arith, h))
-
     none : entries (empty {X = Extent} {R = path_cmp}) ≡ []
-    none = no_more _ (sym (len-entries empty) ∙ finite.len-empty path_cmp Extent)
+    none = nil_from_length _ (sym (len-entries empty) ∙ finite.len-empty path_cmp Extent)
 
 -- ---- what the code is given
 

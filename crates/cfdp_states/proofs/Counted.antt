@@ -8,8 +8,9 @@
 --     get-rehomed, moved_map             that is what the map has
 --     moved_counted, free_counted        a move keeps them counted;  and the number, where nothing was there
 --     deep-tree                          the test of depth by the names that there are
-use Rattle.std.proofs.Common.{◌≡◌, refl, sym, ◌∙◌, ap, subst, Bool, true, false, cond, not, ◌||◌, Option, Some, None, is_some, ℕ, ◌+◌, ◌-◌, ◌*◌, ◌<◌, ◌≤◌, ◌^◌, ◌==◌, nat_lt, List, [], ◌∷◌, length, drop, length-append, length-drop, true≢false, ne_eqb, ltb-true, lt-ltb, arith}
+use Rattle.std.proofs.Common.{◌≡◌, refl, sym, ◌∙◌, ap, subst, Bool, true, false, cond, not, ◌||◌, Option, Some, None, is_some, ℕ, ◌+◌, ◌-◌, ◌*◌, ◌<◌, ◌≤◌, ◌^◌, nat_lt, List, [], ◌∷◌, length, drop, length-append, length-drop, true≢false, ltb-true, lt-ltb, arith}
 use Rattle.std.proofs.lemmas.Bool.{and_parts}
+use Rattle.std.proofs.lemmas.Float.{T_from_true}
 use Rattle.std.specs.List.{list_all, list_any}
 use Rattle.std.specs.FinMap.{empty, empty_of_len, len-entries, get, find, put, insert, remove, entries, from_sorted, entries_sorted, entries-from_sorted, entries-insert, get-from_sorted, get-entries, same_entries_map}
 use Rattle.std.specs.FinMap.Entries.{where_key, is_sorted-put, is_sorted-where_key, find-put, find-where_key}
@@ -19,11 +20,11 @@ use Rattle.cfdp_paths.proofs.Moving.{tree_all, tree_ordered}
 use Rattle.cfdp_states.specs.declared.extent.Extent.{Extent}
 use Rattle.cfdp_states.specs.Sketching.{Extents}
 use Rattle.cfdp_states.specs.code.Sketching.{extent_weight, weight_in, total_weight, total_blocks, AreSmall, IsCounted, rehomed}
-use Rattle.cfdp_actions.proofs.Order.{same_path-true, same_path-refl}
+use Rattle.cfdp_actions.proofs.Order.{kept_some, same_path-true, same_path-refl}
 use Rattle.cfdp_actions.proofs.Weights.{below_rest, sorted_rest, find_below, find_later, entries-remove, totals, weighed, totals-put, totals-without}
 use Rattle.cfdp_actions.proofs.Prefixes.{rebased-below, same_rebased}
 use Rattle.cfdp_actions.proofs.Truths.{by_truth}
-use Rattle.cfdp_paths.proofs.InOrder.{true_from_T, T_from_true, path_antisym}
+use Rattle.cfdp_paths.proofs.InOrder.{true_from_T, path_antisym}
 use Rattle.cfdp_paths.proofs.Below.{append_from_at_or_below}
 use Rattle.cfdp_paths.proofs.Comparing.{path_cmp-total}
 
@@ -133,10 +134,6 @@ kept_entries es used m h is = sym (entries-map es h.ordered) ∙ ap entries is
 
 pub kept_count : (es : Entries) (used : ℕ) (m : Extents) → IsCounted es used → from_sorted es ≡ m → total_blocks m ≡ used
 kept_count es used m h is = ap total_blocks (sym is) ∙ ap total_weight (entries-map es h.ordered) ∙ sym h.counted
-
-pub kept_weight : (k : Path) (es : Entries) (used : ℕ) (m : Extents) → IsCounted es used → from_sorted es ≡ m → weight_in (get m k)
-    ≡ weight_in (find path_cmp k es)
-kept_weight k es used m h is = ap weight_in (kept_find k es used m h is)
 
 -- ---- a move
 
@@ -272,24 +269,16 @@ free_counted p q es used h free =
     (tree_ordered p q es h.ordered) apart in
     omega (arith, sum, h.counted, total-parts p es, total-moved p q (tree_in p es))
   where
-    at : (b : Bool) (v : Option Extent) → is_some (cond b v None) ≡ true → b ≡ true
-    at true v e = refl
-    at false v e = absurd (true≢false (sym e))
-
     nothing : (b : Bool) → cond {A = Option Extent} b None None ≡ None
     nothing true = refl
     nothing false = refl
 
     apart : (x : Path) → is_some (find path_cmp x (moved_to p q (tree_in p es))) ≡ true → find path_cmp x (rest_in p es) ≡ None
     apart x there =
-        let below = at (is_at_or_below x q) (find path_cmp (rebased q p x) (tree_in p es)) (ap is_some (sym (find-moved p q (tree_in p es) (tree_all p es) x))
-        ∙ there) in
+        let moved = ap is_some (sym (find-moved p q (tree_in p es) (tree_all p es) x)) ∙ there in
+        let below = (kept_some (is_at_or_below x q) (find path_cmp (rebased q p x) (tree_in p es)) moved).0 in
         let gone : find path_cmp x es ≡ None = sym (ap (λ b. cond b (find path_cmp x es) None) below) ∙ sym (find-tree q es x) ∙ ap (find path_cmp x) free in
         find-rest p es x ∙ ap (λ v. cond (is_at_or_below x p) None v) gone ∙ nothing (is_at_or_below x p)
-
-pub none_of : (es : Entries) → (length es == 0) ≡ true → es ≡ []
-none_of [] e = refl
-none_of (e ∷ es) zero = absurd (true≢false (sym zero ∙ ne_eqb (length (e ∷ es)) 0 (λ same. omega arith)))
 
 -- ---- depth
 

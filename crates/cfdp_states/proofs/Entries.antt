@@ -4,7 +4,6 @@
 --     HasBelow, Found                    something below a path;  something at or below it whose path has n names
 --     any-found, found-any            an entry whose path passes a test
 --     deepest-there                   an entry has as many names as the deepest one
---     kept_some                       what is kept is there, and passes
 --     has_entries-found, found-has_entries      a directory with entries
 --     TooDeep, too_deep-found, found-too_deep, deeper      what would have more than 8 names
 use Rattle.std.proofs.Common.{◌≡◌, refl, sym, ◌∙◌, ap, subst, ◌⊎◌, inl, inr, Bool, true, false, cond, not, ◌||◌, ◌==◌, is_some, nat_lt, ne_eqb, Option, Some, None, ℕ, ◌<◌, ◌≤◌, List, [], ◌∷◌, length, arith, true≢false, lt-ltb, ltb-true}
@@ -15,7 +14,7 @@ use Rattle.std.specs.FinMap.Entries.{find}
 use Rattle.cfdp_paths.specs.Paths.{Path, path_cmp, same_path, is_at_or_below, is_below, rebased}
 use Rattle.cfdp_paths.proofs.Below.{at_or_below-itself, at_or_below-trans, at_or_below-antisym, prefixes_compare, is_below-Decides, length-rebased}
 use Rattle.cfdp_actions.specs.Filestore.{Node, Filestore, node_at, inside, has_entries, tree_at, deepest_of}
-use Rattle.cfdp_actions.proofs.Order.{same_path-true, same_path-refl, same_path-is}
+use Rattle.cfdp_actions.proofs.Order.{kept_some, same_path-true, same_path-refl, same_path-is}
 use Rattle.cfdp_actions.proofs.Moves.{find-tree_at}
 use Rattle.cfdp_paths.proofs.InOrder.{path_antisym}
 use Rattle.cfdp_paths.specs.PathMaps.{is_too_deep}
@@ -66,6 +65,11 @@ pub record Found (G : Filestore) (p x : Path) (n : ℕ) : Type 0 where
   pub there : is_some (node_at G path) ≡ true
   pub deep : n ≤ length path
 
+-- what is there still is with an entry more
+still_there : (b : Bool) (x : Node) (o : Option Node) → is_some o ≡ true → is_some (cond b (Some x) o) ≡ true
+still_there true x o some = refl
+still_there false x o some = some
+
 -- an entry whose path passes a test
 pub any-found : (test : Path → Bool) (es : List (Path × Node)) → list_any (λ (e : Path × Node). test e.0) es ≡ true → (x : Path) × (test x ≡ true)
     × (is_some (find path_cmp x es) ≡ true)
@@ -75,12 +79,8 @@ any-found test (e ∷ es) h =
       | inl t ↦ (e.0, t, ap (λ b. is_some (cond b (Some e.1) (find path_cmp e.0 es))) (same_path-refl e.0))
       | inr r ↦
           let found = any-found test es r in
-          (found.0, found.1, shown (same_path found.0 e.0) (find path_cmp found.0 es) found.2)
+          (found.0, found.1, still_there (same_path found.0 e.0) e.1 (find path_cmp found.0 es) found.2)
     ]
-  where
-    shown : (b : Bool) (o : Option Node) → is_some o ≡ true → is_some (cond b (Some e.1) o) ≡ true
-    shown true o s = refl
-    shown false o s = s
 
 pub found-any : {X : Type 0} (test : Path → Bool) (es : List (Path × X)) (x : Path) → test x ≡ true → is_some (find path_cmp x es) ≡ true →
     list_any (λ (e : Path × X). test e.0) es ≡ true
@@ -99,10 +99,6 @@ some_entry (e ∷ es) = ap not (ne_eqb (length (e ∷ es)) 0 (λ same. omega ari
 find-inside : (F : Filestore) (p x : Path) → find path_cmp x (entries (inside F p)) ≡ cond (is_below x p) (node_at F x) None
 find-inside F p x = sym (get-entries (inside F p) x) ∙ get-retain_keys F.nodes (λ q. is_below q p) x (λ y e. ap (λ z. is_below z p) (sym (path_antisym x y e)))
 
-pub kept_some : (b : Bool) (o : Option Node) → is_some (cond b o None) ≡ true → (b ≡ true) × (is_some o ≡ true)
-kept_some true o s = (refl, s)
-kept_some false o s = absurd (true≢false (sym s))
-
 entries-any : (F : Filestore) (p : Path) → has_entries F p ≡ list_any (λ (e : Path × Node). true) (entries (inside F p))
 entries-any F p = ap (λ n. not (n == 0)) (len-entries (inside F p)) ∙ some_entry (entries (inside F p))
 
@@ -120,16 +116,12 @@ pub deepest-there : (es : List (Path × Node)) → 0 < deepest_of es → (x : Pa
 deepest-there [] h = absurd (omega arith)
 deepest-there (e ∷ es) h = by_first (λ k. deepest-there es k) (cases_lt (length e.0) (deepest_of es))
   where
-    shown : (b : Bool) (o : Option Node) → is_some o ≡ true → is_some (cond b (Some e.1) o) ≡ true
-    shown true o s = refl
-    shown false o s = s
-
     by_first : (0 < deepest_of es → (x : Path) × (is_some (find path_cmp x es) ≡ true) × (length x ≡ deepest_of es)) → (length e.0 < deepest_of es)
         ⊎ (deepest_of es ≤ length e.0) → (x : Path) × (is_some (find path_cmp x (e ∷ es)) ≡ true) × (length x ≡ deepest_of (e ∷ es))
     by_first later (inr le) = (e.0, ap (λ b. is_some (cond b (Some e.1) (find path_cmp e.0 es))) (same_path-refl e.0), omega arith)
     by_first later (inl more) =
         let rest = later (omega arith) in
-        (rest.0, shown (same_path rest.0 e.0) (find path_cmp rest.0 es) rest.1, let e = rest.2 in omega (arith, e, more))
+        (rest.0, still_there (same_path rest.0 e.0) e.1 (find path_cmp rest.0 es) rest.1, let e = rest.2 in omega (arith, e, more))
 
 deep-any : (p q : Path) (es : List (Path × Node)) → is_too_deep p q es ≡ list_any (λ (e : Path × Node). nat_lt 8 (length (rebased p q e.0))) es
 deep-any p q [] = refl

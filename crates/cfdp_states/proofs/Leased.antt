@@ -41,7 +41,8 @@ one-alike fp slot F G (Stages other octets) same own =
     (subst (λ (s : List ℕ). blocks (changed G (Stages other octets)) + blocks_of (length s) ≡ blocks G + blocks_of (length octets)) (sym staged)
     (blocks-stages G other octets held_G))
 
-through : (a b c d e f : ℕ) → c + b ≡ d + a → e + d ≡ f + c → e + b ≡ f + a
+-- b and a blocks, then d and c, and then f and e: each time as many more of both
+pub through : (a b c d e f : ℕ) → c + b ≡ d + a → e + d ≡ f + c → e + b ≡ f + a
 through a b c d e f one two = omega arith
 
 blocks-alike : (fp : Footprint) (slot : ℕ) (F G : Filestore) (cs : List Change) → IsSame fp slot F G → AllByRecursion (IsOwn fp slot) cs → blocks (after F cs)

@@ -8,7 +8,7 @@ use Rattle.std.proofs.Common.{◌≡◌, refl, sym, ◌∙◌, subst, ◌↔◌,
 use Rattle.cfdp_paths.specs.Paths.{Path}
 use Rattle.cfdp_status.specs.declared.action.Action.{Action}
 use Rattle.cfdp_actions.specs.Filestore.{Node, Directory, File, Change, Becomes}
-use Rattle.cfdp_actions.specs.Actions.{Answer, NotInstalled, Outcome, unchanged, create, delete_file, append, replace, remove_directory, deny_file, deny_directory, install_outcome, install, is_protected}
+use Rattle.cfdp_actions.specs.Actions.{NotInstalled, Outcome, unchanged, create, delete_file, append, replace, remove_directory, deny_file, deny_directory, install_outcome, install, is_protected}
 use Rattle.cfdp_states.proofs.Installing.{install_row}
 use Rattle.cfdp_states.proofs.LikeNodes.{Like, nothing, folder, file, like-itself}
 
@@ -33,9 +33,6 @@ pub data Goes (p : Path) : List Change → List Change → Type 0 where
 pub record IsLikeOutcome (p : Path) (o r : Outcome) : Type 0 where
   pub answer : o.answer ≡ r.answer
   pub goes : Goes p o.changes r.changes
-
-none-alike : (p : Path) (answer : Answer) → IsLikeOutcome p (unchanged answer) (unchanged answer)
-none-alike p answer = record { answer = refl; goes = still }
 
 module _ (p : Path) where
   pub create-alike : (action : Action) (node : Node) {a b : Option Node} (good : Bool) → Like a b →

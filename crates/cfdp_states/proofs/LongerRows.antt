@@ -8,7 +8,7 @@ use Rattle.cfdp_status.specs.declared.action.Action.TheVariants as action
 use Rattle.cfdp_status.specs.declared.status.Status.{Status}
 use Rattle.cfdp_status.specs.declared.status.Status.TheVariants.{NotAllowed}
 use Rattle.cfdp_actions.specs.Filestore.{Node, Directory, File, Filestore, node_at, staged_in, parent_is_good, has_entries, tree_at}
-use Rattle.cfdp_actions.specs.Actions.{Request, CreateFile, DeleteFile, RenameFile, AppendFile, ReplaceFile, CreateDirectory, RemoveDirectory, DenyFile, DenyDirectory, Item, Install, Perform, Answer, Outcome, refused, succeeds, unchanged, vacating, arriving, create, delete_file, rename, append, replace, remove_directory, deny_file, deny_directory, install, table, free_row, is_barred, is_protected, denied, row}
+use Rattle.cfdp_actions.specs.Actions.{Request, CreateFile, DeleteFile, RenameFile, AppendFile, ReplaceFile, CreateDirectory, RemoveDirectory, DenyFile, DenyDirectory, Item, Install, Perform, Outcome, refused, succeeds, vacating, arriving, create, delete_file, rename, append, replace, remove_directory, deny_file, deny_directory, install, table, free_row, is_barred, is_protected, denied, row}
 use Rattle.cfdp_actions.proofs.RowLaws.{blocks_of-mono}
 use Rattle.cfdp_leases.specs.Items.{performed, content, step_bound}
 use Rattle.cfdp_states.proofs.Longer.{Longer, nothing, folder, file, longer-is_some, longer-weight, longer-itself, LongerEntries, longer-depth, LongerChanges, longer-append, longer-vacated, longer-arriving, IsLonger, longer-after, parent-longer, tree-longer, entries-longer}
@@ -16,10 +16,6 @@ use Rattle.cfdp_states.proofs.Longer.{Longer, nothing, folder, file, longer-is_s
 pub record IsLongerOutcome (slot other : ℕ) (o r : Outcome) : Type 0 where
   pub answer : o.answer ≡ r.answer
   pub changes : LongerChanges slot other o.changes r.changes
-
--- no change
-none-longer : (slot other : ℕ) (answer : Answer) → IsLongerOutcome slot other (unchanged answer) (unchanged answer)
-none-longer slot other answer = record { answer = refl; changes = tt }
 
 refused-longer : (slot other : ℕ) (status : Status) → IsLongerOutcome slot other (refused status) (refused status)
 refused-longer slot other status = record { answer = refl; changes = tt }

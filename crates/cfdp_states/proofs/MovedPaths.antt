@@ -2,12 +2,12 @@
 --     not_both                            nothing is both true and false
 --     at-moved, below-moved               what is at or below a path that moves is so after it
 --     length-moved                        the names of a path that moves
---     moved-here, moved-gone, moved-else  what is at or below q, at or below p, and elsewhere, where nothing was at q
-use Rattle.std.proofs.Common.{◌≡◌, refl, sym, ◌∙◌, ap, Bool, true, false, cond, is_some, Option, Some, None, ◌+◌, [], ◌∷◌, length, drop, ◌++◌, ◌&&◌, arith, true≢false}
+--     moved-gone, moved-else              what is at or below p, and elsewhere, but not at or below q
+use Rattle.std.proofs.Common.{◌≡◌, sym, ◌∙◌, ap, Bool, true, false, cond, is_some, None, ◌+◌, [], ◌∷◌, length, drop, ◌++◌, ◌&&◌, arith, true≢false}
 use Rattle.std.proofs.lemmas.Bool.{and_parts}
 use Rattle.cfdp_paths.specs.Paths.{Path, same_name, is_at_or_below, is_below, rebased}
 use Rattle.cfdp_paths.proofs.Below.{at_or_below-trans, is_below-Decides, length-rebased, length-at_or_below, same_name-refl}
-use Rattle.cfdp_actions.specs.Filestore.{Node, Filestore, node_at}
+use Rattle.cfdp_actions.specs.Filestore.{Filestore, node_at}
 use Rattle.cfdp_actions.proofs.Prefixes.{rebased_back}
 use Rattle.cfdp_actions.proofs.Moves.{moved}
 use Rattle.cfdp_states.proofs.Sketched.{moved_where}
@@ -45,22 +45,9 @@ below-moved p q x c h k =
 pub length-moved : (p q x : Path) → is_at_or_below x p ≡ true → length (rebased p q x) + length p ≡ length x + length q
 length-moved p q x at = omega (arith, length-rebased p q x, length-at_or_below x p at)
 
--- ---- a filestore in which nothing is at or below q
+-- ---- what is not at or below q
 
-module _ (F : Filestore) (p q : Path) (empty : (x : Path) → is_at_or_below x q ≡ true → node_at F x ≡ None) where
-  pub moved-here : (x : Path) → is_at_or_below x q ≡ true → node_at (moved F p q) x ≡ node_at F (rebased q p x)
-  moved-here x at =
-      let y = rebased q p x in
-      moved_where F p q x
-      ∙ (λ i. cond (at i) (cond (is_some (node_at F y)) (node_at F y) (cond (is_at_or_below x p) None (empty x at i)))
-      (cond (is_at_or_below x p) None (node_at F x)))
-      ∙ itself (node_at F y) (is_at_or_below x p)
-    where
-      itself : (v : Option Node) (b : Bool) → cond (is_some v) v (cond {A = Option Node} b None None) ≡ v
-      itself None true = refl
-      itself None false = refl
-      itself (Some n) b = refl
-
+module _ (F : Filestore) (p q : Path) where
   pub moved-gone : (x : Path) → is_at_or_below x q ≡ false → is_at_or_below x p ≡ true → node_at (moved F p q) x ≡ None
   moved-gone x apart at = moved_where F p q x ∙ (λ i. cond (apart i) (cond (is_some (node_at F (rebased q p x))) (node_at F (rebased q p x))
       (cond (is_at_or_below x p) None (node_at F x))) (cond (at i) None (node_at F x)))

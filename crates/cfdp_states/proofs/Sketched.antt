@@ -21,7 +21,7 @@ use Rattle.cfdp_states.specs.code.Sketching.{rehomed, is_folder, good_among, goo
 use Rattle.cfdp_actions.proofs.Order.{node_at-becomes, same_path-true}
 use Rattle.cfdp_actions.proofs.Weights.{entries-retain_keys}
 use Rattle.cfdp_actions.proofs.Prefixes.{rebased-below}
-use Rattle.cfdp_actions.proofs.Moves.{after-append, tree_at-all, tree_at-sorted, find-tree_at, node_at-vacated, node_at-arriving, node_at-arriving_apart, moved, staged-moved}
+use Rattle.cfdp_actions.proofs.Moves.{after-append, tree_at-all, tree_at-sorted, find-tree_at, node_at-vacated_tree, node_at-arriving, node_at-arriving_apart, moved, staged-moved}
 use Rattle.cfdp_states.proofs.Counted.{get-rehomed}
 use Rattle.cfdp_paths.proofs.InOrder.{path_antisym}
 use Rattle.cfdp_paths.proofs.Comparing.{path_cmp-total}
@@ -176,21 +176,9 @@ moved_where F p q x =
     ≡ cond b (cond (is_some (node_at F y)) (node_at F y) (cond (is_at_or_below x p) None (node_at F x))) (cond (is_at_or_below x p) None (node_at F x))) [
       | true ↦ λ at. node_at-arriving p q (after F (vacating es)) es (tree_at-sorted F p) (tree_at-all F p) x at
           ∙ ap (λ v. cond (is_some v) v (node_at (after F (vacating es)) x)) (find-tree_at F p y ∙ ap (λ b. cond b (node_at F y) None) (rebased-below q p x))
-          ∙ ap (λ v. cond (is_some (node_at F y)) (node_at F y) v) (vacant es)
-      | false ↦ λ at. node_at-arriving_apart p q (after F (vacating es)) es x at ∙ vacant es
+          ∙ ap (λ v. cond (is_some (node_at F y)) (node_at F y) v) (node_at-vacated_tree F p x)
+      | false ↦ λ at. node_at-arriving_apart p q (after F (vacating es)) es x at ∙ node_at-vacated_tree F p x
     ] refl
-  where
-    gone : (v : Option Node) → cond (is_some v) None v ≡ None
-    gone None = refl
-    gone (Some n) = refl
-
-    vacant : (es : List (Path × Node)) → node_at (after F (vacating (tree_at F p))) x ≡ cond (is_at_or_below x p) None (node_at F x)
-    vacant es = node_at-vacated F (tree_at F p) x
-        ∙ ap (λ v. cond (is_some v) None (node_at F x)) (find-tree_at F p x)
-        ∙ elim (is_at_or_below x p) as (λ b. cond (is_some (cond b (node_at F x) None)) None (node_at F x) ≡ cond b None (node_at F x)) [
-          | true ↦ gone (node_at F x)
-          | false ↦ refl
-        ]
 
 pub follows-moved : (m : Extents) (F : Filestore) (o : Outcome) (stated : Status) (p q : Path) → IsOutline m F → Performed stated ≡ o.answer → o.changes
     ≡ vacating (tree_at F p) ++ arriving p q (tree_at F p) → Follows (rehomed p q m) F o stated

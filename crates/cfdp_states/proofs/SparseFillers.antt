@@ -5,7 +5,7 @@
 --     fills_none, fills_one             where nothing is hidden, and where one directory is put there
 --     none_covered                      below a path that is not leased exclusively the footprint covers nothing hidden
 use Rattle.std.proofs.Common.{◌≡◌, refl, sym, ◌∙◌, ap, subst, inl, inr, Bool, true, false, cond, not, ◌||◌, ◌==◌, is_some, None, ℕ, suc, ◌+◌, ◌<◌, ◌≤◌, List, [], ◌∷◌, length, length-take, take, take_all, if◌then◌else◌, true≢false, arith}
-use Rattle.std.proofs.lemmas.Bool.{cases_Bool, or_cases, and_parts, and_from, false_from_ne_true}
+use Rattle.std.proofs.lemmas.Bool.{cases_Bool, or_cases, and_parts, and_from, false_from_ne_true, not-true}
 use Rattle.std.specs.List.{list_any}
 use Rattle.std.specs.FinMap.{entries, get-entries, get-retain_keys, len-entries, insert}
 use Rattle.std.specs.FinMap.Entries.{find}
@@ -20,11 +20,11 @@ use Rattle.cfdp_states.specs.Sketching.{Extents}
 use Rattle.cfdp_states.specs.Views.{only}
 use Rattle.cfdp_states.specs.Sparse.{Hides, Knows}
 use Rattle.cfdp_states.specs.code.Sparse.{is_shown, shows, children, IsUnseenBelow, FillsAt, unfilled, filled, HoldsLeased}
-use Rattle.cfdp_actions.proofs.Order.{same_path-true, same_path-is}
+use Rattle.cfdp_actions.proofs.Order.{kept_some, same_path-true, same_path-is}
 use Rattle.cfdp_actions.proofs.BesideLaws.{below_longer}
 use Rattle.cfdp_actions.proofs.Truths.{by_truth}
 use Rattle.cfdp_actions.proofs.RowLaws.{deepest-most}
-use Rattle.cfdp_states.proofs.Entries.{deepest-there, any-found, found-any, some_entry, kept_some, below-at, below-under}
+use Rattle.cfdp_states.proofs.Entries.{deepest-there, any-found, found-any, some_entry, below-at, below-under}
 use Rattle.cfdp_states.proofs.MovedPaths.{not_both}
 use Rattle.cfdp_states.proofs.SparseLists.{take-at_or_below, front_above, shows_above, shows-parts}
 use Rattle.cfdp_paths.proofs.InOrder.{path_antisym}
@@ -105,12 +105,8 @@ module _ (paths : List Path) (u : Path) (few : length u < 8) where
       let parts = and_parts (is_below x u) (not (list_any (same_path (take (suc (length u)) x)) (children u paths))) h in (
         parts.0,
         hidden_by_child x parts.0 (sym (children-shown (take (suc (length u)) x) (child-below x parts.0) (child-length x parts.0) paths)
-            ∙ negated (list_any (same_path (take (suc (length u)) x)) (children u paths)) parts.1),
+            ∙ not-true (list_any (same_path (take (suc (length u)) x)) (children u paths)) parts.1),
       )
-    where
-      negated : (b : Bool) → not b ≡ true → b ≡ false
-      negated true h = absurd (true≢false (sym h))
-      negated false h = refl
 
   hidden-beside : (x : Path) → is_below x u ≡ true → ((y : Path) → is_at_or_below x y ≡ true → is_below y u ≡ true → shows paths y ≡ false) →
       is_beside (children u paths) u x ≡ true

@@ -2,10 +2,9 @@
 --     take-at_or_below, front_above     the first names of a path are above those of what is below it, and above itself
 --     shows_from, shows-parts           what is above one of the paths is shown
 --     sees_nothing, sees_request, sees_install, sees_more     no item, one more, and more paths
---     origin_at, origin_gone, origin_else       where a path was
---     moved_back-next                   one more path
+--     origin_at, origin_else            where a path was
 --     knows_all_moves                   what is moved by a list
-use Rattle.std.proofs.Common.{◌≡◌, refl, sym, ◌∙◌, ap, subst, inl, inr, Bool, true, false, not, ◌||◌, nat_lt, is_some, get_or, Option, Some, None, ℕ, zero, suc, ◌+◌, ◌-◌, ◌≤◌, ◌<◌, min, List, [], ◌∷◌, ◌++◌, map, length, drop, take, take_all, arith, true≢false, lt-ltb, if◌then◌else◌}
+use Rattle.std.proofs.Common.{◌≡◌, refl, sym, ◌∙◌, ap, subst, inl, inr, Bool, true, false, not, ◌||◌, nat_lt, get_or, Option, Some, None, ℕ, zero, suc, ◌+◌, ◌-◌, ◌≤◌, ◌<◌, min, List, [], ◌∷◌, ◌++◌, map, length, drop, take, take_all, arith, true≢false, lt-ltb, if◌then◌else◌}
 use Rattle.std.proofs.lemmas.Bool.{cases_lt, cases_Bool, and_parts, and_from, or_left, or_right, or_cases}
 use Rattle.std.proofs.lemmas.List.{drop-take, drop_all, take_min}
 use Rattle.std.proofs.Math.Seq.{drop-cons, take-append-add}
@@ -13,7 +12,7 @@ use Rattle.std.specs.List.{list_any, list_all}
 use Rattle.cfdp_paths.specs.Paths.{Path, IsPath, same_name, same_path, is_at_or_below, parent, rebased}
 use Rattle.cfdp_paths.proofs.Below.{at_or_below-itself, at_or_below-trans, prefixes_compare, parent_at_or_below}
 use Rattle.cfdp_actions.specs.Filestore.{is_root}
-use Rattle.cfdp_actions.specs.Actions.{Request, CreateFile, DeleteFile, RenameFile, AppendFile, ReplaceFile, CreateDirectory, RemoveDirectory, DenyFile, DenyDirectory, Item, Install, Perform, first_in, second_in}
+use Rattle.cfdp_actions.specs.Actions.{Request, CreateFile, DeleteFile, RenameFile, AppendFile, ReplaceFile, CreateDirectory, RemoveDirectory, DenyFile, DenyDirectory, Item, Install, Perform}
 use Rattle.cfdp_actions.proofs.Prefixes.{below_root, rebased-below}
 use Rattle.cfdp_leases.specs.Items.{items_of}
 use Rattle.cfdp_leases.proofs.Sets.{exists, any_at, any_from, exists-append_left, exists-append_right}
@@ -98,9 +97,6 @@ names_seen (p ∷ names) paths test named there h =
 pub origin_at : (p q s : Path) → is_at_or_below s q ≡ true → origin p q s ≡ Some (take 8 (rebased q p s))
 origin_at p q s at = ap (λ b. if b then Some (take 8 (rebased q p s)) else if is_at_or_below s p then None else Some s) at
 
-pub origin_gone : (p q s : Path) → is_at_or_below s q ≡ false → is_at_or_below s p ≡ true → origin p q s ≡ None
-origin_gone p q s off at = λ i. if off i then Some (take 8 (rebased q p s)) else if at i then None else Some s
-
 pub origin_else : (p q s : Path) → is_at_or_below s q ≡ false → is_at_or_below s p ≡ false → origin p q s ≡ Some s
 origin_else p q s off other = λ i. if off i then Some (take 8 (rebased q p s)) else if other i then None else Some s
 
@@ -128,11 +124,6 @@ front_rebased p q s k few is =
 
 pub front_below : (s q : Path) (k : ℕ) → is_at_or_below s q ≡ true → length q ≤ k → is_at_or_below (take k s) q ≡ true
 front_below s q k at le = subst (λ z. is_at_or_below (take k s) z ≡ true) (take_all k q le) (take-at_or_below k s q at)
-
--- one more path
-pub moved_back-next : (p q s : Path) (moved rest : List Path) (o : Option Path) → origin p q s ≡ o →
-    moved ++ moved_back p q (s ∷ rest) ≡ moved ++ with_origin o (moved_back p q rest)
-moved_back-next p q s moved rest o is = ap (λ o. moved ++ with_origin o (moved_back p q rest)) is
 
 module _ (p q : Path) (paths : List Path) (test : Path → Bool) (named : is_root p ≡ false)
     (h : (x : Path) → shows (moved_back p q paths ++ p ∷ q ∷ []) x ≡ true → test x ≡ true) where
@@ -221,38 +212,6 @@ sees_install p paths items named sees test h = (
 pub path_named : (p : Path) → IsPath p → is_root p ≡ false
 path_named [] h = let some = h.some in absurd (omega (arith, some))
 path_named (n ∷ p) h = refl
-
-abbrev from_some : Option Path → Path
-from_some None = []
-from_some (Some p) = p
-
-pub named_one : (request : Request) → second_in request ≡ None → named_in (Perform request) ≡ first_in request ∷ []
-named_one (CreateFile p) e = refl
-named_one (DeleteFile p) e = refl
-named_one (RenameFile p q) e = absurd (true≢false (ap is_some e))
-named_one (AppendFile p q) e = absurd (true≢false (ap is_some e))
-named_one (ReplaceFile p q) e = absurd (true≢false (ap is_some e))
-named_one (CreateDirectory p) e = refl
-named_one (RemoveDirectory p) e = refl
-named_one (DenyFile p) e = refl
-named_one (DenyDirectory p) e = refl
-
-pub named_two : (request : Request) (r : Path) → second_in request ≡ Some r → named_in (Perform request) ≡ first_in request ∷ r ∷ []
-named_two (CreateFile p) r e = absurd (true≢false (ap is_some (sym e)))
-named_two (DeleteFile p) r e = absurd (true≢false (ap is_some (sym e)))
-named_two (RenameFile p q) r e = ap (λ o. p ∷ from_some o ∷ []) e
-named_two (AppendFile p q) r e = ap (λ o. p ∷ from_some o ∷ []) e
-named_two (ReplaceFile p q) r e = ap (λ o. p ∷ from_some o ∷ []) e
-named_two (CreateDirectory p) r e = absurd (true≢false (ap is_some (sym e)))
-named_two (RemoveDirectory p) r e = absurd (true≢false (ap is_some (sym e)))
-named_two (DenyFile p) r e = absurd (true≢false (ap is_some (sym e)))
-named_two (DenyDirectory p) r e = absurd (true≢false (ap is_some (sym e)))
-
-pub one_rooted : (p : Path) → is_root p ≡ false → list_all (λ p. not (is_root p)) (p ∷ []) ≡ true
-one_rooted p named = and_from (not (is_root p)) true (not_root p named) refl
-
-pub two_rooted : (p q : Path) → is_root p ≡ false → is_root q ≡ false → list_all (λ p. not (is_root p)) (p ∷ q ∷ []) ≡ true
-two_rooted p q named more = and_from (not (is_root p)) (list_all (λ p. not (is_root p)) (q ∷ [])) (not_root p named) (one_rooted q more)
 
 -- the requests from an index on
 pub sees_next : (requests : List Request) (paths : List Path) (n k : ℕ) (request : Request) → k ≡ n + 1 → n < length requests →

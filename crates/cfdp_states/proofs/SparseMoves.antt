@@ -12,10 +12,10 @@ use Rattle.cfdp_actions.specs.Actions.{RenameFile}
 use Rattle.cfdp_states.specs.Sparse.{passes_after, Hides, IsSparseSubstitute, Knows, AreAlike}
 use Rattle.cfdp_actions.proofs.Order.{same_path-true, same_path-is}
 use Rattle.cfdp_actions.proofs.Prefixes.{rebased-below, rebased_back}
-use Rattle.cfdp_actions.proofs.Moves.{none_unless, moved, blocks-moved_free, staged-moved}
+use Rattle.cfdp_actions.proofs.Moves.{none_unless, moved, moved_there_free, blocks-moved_free, staged-moved}
 use Rattle.cfdp_states.proofs.LikeNodes.{nothing, alike, like-none}
 use Rattle.cfdp_states.proofs.Entries.{below-at, above, found-has_entries, found-too_deep}
-use Rattle.cfdp_states.proofs.MovedPaths.{not_both, at-moved, below-moved, length-moved, moved-here, moved-gone, moved-else}
+use Rattle.cfdp_states.proofs.MovedPaths.{not_both, at-moved, below-moved, length-moved, moved-gone, moved-else}
 use Rattle.cfdp_states.proofs.SparseAlike.{knows_all, nodes_seen, entries_seen}
 
 -- a test after a rename
@@ -43,6 +43,10 @@ longer x y at short = false_from_ne_true _ (λ t.
     let le = length-at_or_below x y at in
     true≢false (sym (lt-ltb 8 (length x) (omega (arith, more, le))) ∙ short))
 
+-- what is above a path that is not at or below r is not either
+off_both : (x y r : Path) → is_at_or_below x y ≡ true → is_at_or_below x r ≡ false → is_at_or_below y r ≡ false
+off_both x y r up out = false_from_ne_true _ (λ t. true≢false (sym (at_or_below-trans x y r up t) ∙ out))
+
 -- ---- a filestore in which nothing is at or below q
 
 module _ (visible : Path → Bool) (F : Filestore) (p q : Path) (seen_p : visible p ≡ true) (apart : is_at_or_below q p ≡ false)
@@ -55,7 +59,7 @@ module _ (visible : Path → Bool) (F : Filestore) (p q : Path) (seen_p : visibl
   short_there : (x : Path) → is_at_or_below x q ≡ true → is_some (node_at (moved F p q) x) ≡ true → nat_lt 8 (length x) ≡ false
   short_there x at there =
       subst (λ z. nat_lt 8 (length z) ≡ false) (rebased_back q p x at)
-      (short_then (rebased q p x) (rebased-below q p x) (ap is_some (sym (moved-here F p q empty x at)) ∙ there))
+      (short_then (rebased q p x) (rebased-below q p x) (ap is_some (sym (moved_there_free F p q empty x at)) ∙ there))
 
   pub none_deep : (x : Path) → is_at_or_below x q ≡ true → nat_lt 8 (length x) ≡ true → node_at (moved F p q) x ≡ None
   none_deep x at deep = none_unless (node_at (moved F p q) x) (λ there. true≢false (sym deep ∙ short_there x at there))
@@ -79,7 +83,7 @@ module _ (visible : Path → Bool) (F : Filestore) (p q : Path) (seen_p : visibl
               (at-moved p q y z above_y under))
               (below-moved p q z c below_c at) in
               subst (λ w. visible w ≡ false) (rebased_back p q z under) (passes_both p q visible (rebased p q z) (rebased-below p q z) out).1;
-          there = ap is_some (sym (moved-here F p q empty x here)) ∙ r.there;
+          there = ap is_some (sym (moved_there_free F p q empty x here)) ∙ r.there;
           deep = le_refl (length y);
         },
       )
@@ -101,7 +105,7 @@ module _ (visible : Path → Bool) (F : Filestore) (p q : Path) (seen_p : visibl
             (subst (λ w. is_at_or_below w (rebased q p z) ≡ true) (rebased_back p q y under) (at-moved q p x z above_x at_z))
             (subst (λ w. is_below (rebased q p z) w ≡ true) (rebased_back p q c at) (below-moved q p z (rebased p q c) below_d top)) in
             passes_at p q visible z at_z ∙ (λ i. longer x z above_x (short_then y under r.there) i || out i);
-        there = ap is_some (moved-here F p q empty x (rebased-below p q y) ∙ ap (node_at F) (rebased_back p q y under)) ∙ r.there;
+        there = ap is_some (moved_there_free F p q empty x (rebased-below p q y) ∙ ap (node_at F) (rebased_back p q y under)) ∙ r.there;
         deep = omega (arith, le, long, r.deep);
       }
 
@@ -116,7 +120,7 @@ module _ (visible : Path → Bool) (F : Filestore) (p q : Path) (seen_p : visibl
           | inl below ↦ not_both (is_at_or_below q p) (at_or_below-trans q c p (below-at q c below) at) apart
           | inr other ↦ not_both (is_at_or_below c q) (above x c q (below-at x c r.below) here other) off
         ]
-        | inr out ↦ absurd (true≢false (sym r.there ∙ ap is_some (moved-gone F p q empty x out under)))
+        | inr out ↦ absurd (true≢false (sym r.there ∙ ap is_some (moved-gone F p q x out under)))
       ]
 
   -- nor where more than 8 names are
@@ -141,20 +145,17 @@ module _ (visible : Path → Bool) (F : Filestore) (p q : Path) (seen_p : visibl
           | inr other ↦ not_both (is_at_or_below c q) (above x c q up here other) off
         ]
         | inr out ↦ elim (cases_Bool (is_at_or_below x p)) [
-          | inl at ↦ absurd (true≢false (sym r.there ∙ ap is_some (moved-gone F p q empty x out at)))
+          | inl at ↦ absurd (true≢false (sym r.there ∙ ap is_some (moved-gone F p q x out at)))
           | inr other ↦ record {
             path = x;
             below = r.below;
             hidden = λ y above_x below_c. sym (passes_else p q visible y (off_both x y q above_x out) (off_both x y p above_x other))
                 ∙ r.hidden y above_x below_c;
-            there = ap is_some (sym (moved-else F p q empty x out other)) ∙ r.there;
+            there = ap is_some (sym (moved-else F p q x out other)) ∙ r.there;
             deep = r.deep;
           }
         ]
       ]
-    where
-      off_both : (x y r : Path) → is_at_or_below x y ≡ true → is_at_or_below x r ≡ false → is_at_or_below y r ≡ false
-      off_both x y r up out = false_from_ne_true _ (λ t. true≢false (sym (at_or_below-trans x y r up t) ∙ out))
 
   hides_to-stays : (c : Path) (n : ℕ) → is_at_or_below c q ≡ false → is_at_or_below c p ≡ false → Hides visible F c n →
       Hides (passes_after (RenameFile p q) visible) (moved F p q) c n
@@ -173,14 +174,11 @@ module _ (visible : Path → Bool) (F : Filestore) (p q : Path) (seen_p : visibl
             below = r.below;
             hidden = λ y above_x below_c. passes_else p q visible y (off_both x y q above_x out) (off_both x y p above_x other)
                 ∙ r.hidden y above_x below_c;
-            there = ap is_some (moved-else F p q empty x out other) ∙ r.there;
+            there = ap is_some (moved-else F p q x out other) ∙ r.there;
             deep = r.deep;
           }
         ]
       ]
-    where
-      off_both : (x y r : Path) → is_at_or_below x y ≡ true → is_at_or_below x r ≡ false → is_at_or_below y r ≡ false
-      off_both x y r up out = false_from_ne_true _ (λ t. true≢false (sym (at_or_below-trans x y r up t) ∙ out))
 
 -- ---- two of them
 
@@ -212,11 +210,11 @@ module _ (known visible : Path → Bool) (F G : Filestore) (h : IsSparseSubstitu
         | inl at ↦ elim (or_cases (nat_lt 8 (length x)) (visible (rebased q p x)) (sym (passes_at p q visible x at) ∙ seen)) [
           | inl deep ↦ both_alike (none_deep visible F p q seen_p apart shallow_F empty_F x at deep)
               (none_deep visible G p q seen_p apart shallow_G empty_G x at deep) (alike nothing)
-          | inr s ↦ both_alike (moved-here F p q empty_F x at) (moved-here G p q empty_G x at) (h.alike (rebased q p x) s)
+          | inr s ↦ both_alike (moved_there_free F p q empty_F x at) (moved_there_free G p q empty_G x at) (h.alike (rebased q p x) s)
         ]
         | inr off ↦ elim (cases_Bool (is_at_or_below x p)) [
-          | inl at ↦ both_alike (moved-gone F p q empty_F x off at) (moved-gone G p q empty_G x off at) (alike nothing)
-          | inr other ↦ both_alike (moved-else F p q empty_F x off other) (moved-else G p q empty_G x off other)
+          | inl at ↦ both_alike (moved-gone F p q x off at) (moved-gone G p q x off at) (alike nothing)
+          | inr other ↦ both_alike (moved-else F p q x off other) (moved-else G p q x off other)
               (h.alike x (sym (passes_else p q visible x off other) ∙ seen))
         ]
       ]

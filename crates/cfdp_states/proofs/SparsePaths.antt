@@ -10,10 +10,11 @@
 --     has_same, deepest_same            what is beside the same paths
 --     next_rest, next_shared            one more name that two paths share
 --     none_known, last_known            the first names of a path, where those of a path before it are the same
-use Rattle.std.proofs.Common.{◌≡◌, refl, sym, ◌∙◌, ap, subst, inl, inr, Bool, true, false, cond, not, ◌||◌, ◌&&◌, ◌==◌, is_some, ne_eqb, Option, Some, None, ℕ, suc, ◌+◌, ◌<◌, ◌≤◌, List, [], ◌∷◌, ◌++◌, drop, get_or, zero, slice_get, length, length-take, take, take_all, if◌then◌else◌, true≢false, append_assoc, arith}
-use Rattle.std.proofs.lemmas.Bool.{cases_Bool, or_cases, or_parts, or_left, or_right}
+use Rattle.std.proofs.Common.{◌≡◌, refl, sym, ◌∙◌, ap, subst, inl, inr, Bool, true, false, cond, not, ◌||◌, ◌&&◌, ◌==◌, is_some, ne_eqb, Option, Some, ℕ, suc, ◌+◌, ◌<◌, ◌≤◌, List, [], ◌∷◌, ◌++◌, drop, get_or, zero, slice_get, length, length-take, take, take_all, if◌then◌else◌, true≢false, append_assoc, arith}
+use Rattle.std.proofs.lemmas.Bool.{cases_Bool, or_cases, or_parts}
 use Rattle.std.proofs.lemmas.List.{append-nil, drop_all}
 use Rattle.std.proofs.lemmas.List.Folds.{list_any-append, list_any_more}
+use Rattle.std.proofs.lemmas.Map.Keys.{any_passes_from_place}
 use Rattle.std.proofs.Math.Seq.{drop-cons, take-add}
 use Rattle.std.specs.List.{list_any}
 use Rattle.std.specs.FinMap.{find, put, len, entries, retain_keys}
@@ -24,10 +25,12 @@ use Rattle.cfdp_paths.specs.PathMaps.{tree_in}
 use Rattle.cfdp_paths.proofs.Below.{at_or_below-trans}
 use Rattle.cfdp_paths.proofs.Comparing.{path_cmp-total}
 use Rattle.cfdp_actions.specs.Filestore.{Filestore, deepest_beside, deepest_of, has_beside, is_beside, is_root}
-use Rattle.cfdp_actions.proofs.Order.{same_path-true, same_path-is}
+use Rattle.cfdp_actions.proofs.Order.{same_path-true}
 use Rattle.cfdp_actions.specs.Actions.{Item}
 use Rattle.cfdp_actions.proofs.BesideLaws.{below_longer}
 use Rattle.cfdp_leases.specs.Footprint.{Footprint}
+use Rattle.cfdp_leases.proofs.Ordered.{same_members, same_set-there}
+use Rattle.cfdp_leases.proofs.Views.{same_test}
 use Rattle.cfdp_leases.proofs.Sets.{exists, exists-append_left, exists-append_right, exists-append_cases, exists_from_contains, any_at, any_from}
 use Rattle.cfdp_states.specs.code.Sparse.{AreSame, HoldsLeased, PassAbove, SeesBy, children, is_shown, moved_back, paths_in, with_origin}
 use Rattle.cfdp_states.proofs.SparseLists.{front_above, origin_else, shows_from, shows-parts, take-at_or_below}
@@ -42,16 +45,7 @@ sees_by_more a b items more sees test h = sees test (λ x seen.
 
 -- what is there already
 pub contained_same : (p : Path) (xs : List Path) → list_any (λ y. same_path y p) xs ≡ true → AreSame xs (xs ++ p ∷ [])
-contained_same p xs h x =
-    let f = any_from (λ y. same_path y p) xs h in
-    no_more (list_any (same_path x) xs) (same_path x p) (λ e. any_at (same_path x) xs f.0 f.1
-    (same_path-is x f.0 (same_path-true x p e ∙ sym (same_path-true f.0 p f.2))))
-    ∙ sym (list_any-append (same_path x) xs (p ∷ []))
-  where
-    no_more : (a b : Bool) → (b ≡ true → a ≡ true) → a ≡ (a || (b || false))
-    no_more true b h = refl
-    no_more false true h = absurd (true≢false (sym (h refl)))
-    no_more false false h = refl
+contained_same p xs h x = same_members xs (xs ++ p ∷ []) x (same_set-there xs p (same_test p xs ∙ h))
 
 -- one more of the others
 pub added_same : (later now old others : List Path) (i : ℕ) (p : Path) → i < length others → p ≡ get_or others i p →
@@ -216,18 +210,9 @@ root_above (n ∷ x) h = absurd (true≢false (sym h))
 pub none_known : (test : Path → Bool) (p : Path) → PassAbove test (take 0 p)
 none_known test p x named at = absurd (true≢false (sym (root_above x at) ∙ named))
 
-pub at_get : {X : Type 0} (test : X → Bool) (xs : List X) (k : ℕ) (x : X) → slice_get xs k ≡ Some x → test x ≡ true → list_any test xs ≡ true
-at_get test [] k x is t = absurd (true≢false (sym (ap is_some is)))
-at_get {X} test (y ∷ xs) zero x is t = or_left (test y) (list_any test xs) (ap (λ (o : Option X). passes o) is ∙ t)
-  where
-    passes : Option X → Bool
-    passes None = false
-    passes (Some z) = test z
-at_get test (y ∷ xs) (suc k) x is t = or_right (test y) (list_any test xs) (at_get test xs k x is t)
-
 pub last_known : {X : Type 0} (es : List (Path × X)) (k : ℕ) (e : Path × X) (p : Path) (n : ℕ) → slice_get es k ≡ Some e → take n e.0 ≡ take n p →
     PassAbove (λ x. is_shown (paths_in es) x) (take n p)
-last_known {X} es k e p n is same x named at = shown_entries es x ∙ at_get (λ (f : Path × X). is_at_or_below f.0 x) es k e is
+last_known {X} es k e p n is same x named at = shown_entries es x ∙ any_passes_from_place (λ (f : Path × X). is_at_or_below f.0 x) es k e is
     (at_or_below-trans e.0 (take n e.0) x (front_above n e.0) (subst (λ z. is_at_or_below z x ≡ true) (sym same) at))
 
 -- one more name that two paths share

@@ -8,6 +8,7 @@
 --     known_beginning, next_beginning, all_beginnings      the beginnings of a path, one after another
 --     next_path, all_paths                              the paths, one after another
 use Rattle.std.proofs.Common.{◌≡◌, refl, sym, ◌∙◌, ap, subst, inl, inr, Bool, true, false, cond, if◌then◌else◌, not, ◌||◌, ◌&&◌, is_some, Some, None, ℕ, zero, suc, ◌+◌, ◌<◌, ◌≤◌, List, [], ◌∷◌, length, length-take, take, take_all, get_or, true≢false, arith}
+use Rattle.std.proofs.Math.Bool.{or_assoc}
 use Rattle.std.proofs.lemmas.Bool.{cases_lt, cases_Bool, or_cases, or_left, or_right, and_parts, and_from}
 use Rattle.std.proofs.lemmas.List.Folds.{list_any_more}
 use Rattle.std.specs.List.{list_any}
@@ -25,12 +26,12 @@ use Rattle.cfdp_states.specs.Sketching.{Extents, extent_at, extent_in}
 use Rattle.cfdp_states.specs.code.Sketching.{AddsWhere}
 use Rattle.cfdp_states.specs.Views.{only}
 use Rattle.cfdp_states.specs.code.Sparse.{is_shown, shows, is_moved, IsSparseSurvey, FillsAt, unfilled, HoldsLeased, PassAbove, paths_in}
-use Rattle.cfdp_actions.proofs.Order.{same_path-true, same_path-is}
+use Rattle.cfdp_actions.proofs.Order.{kept_some, same_path-true, same_path-is}
 use Rattle.cfdp_actions.proofs.Moves.{none_unless}
 use Rattle.cfdp_actions.proofs.Truths.{by_truth}
 use Rattle.cfdp_states.proofs.Fillers.{prefix_take}
 use Rattle.cfdp_states.proofs.Surveys.{adds_none}
-use Rattle.cfdp_states.proofs.Entries.{found-has_entries, kept_some}
+use Rattle.cfdp_states.proofs.Entries.{found-has_entries}
 use Rattle.cfdp_states.proofs.SparseLists.{take-at_or_below, front_above, shows_from, shows-parts}
 use Rattle.cfdp_states.proofs.SparseSurveys.{as_sparse, stepped, take_take, same_front}
 use Rattle.cfdp_states.proofs.SparseFillers.{same_long, none_covered}
@@ -173,11 +174,7 @@ module _ (known : Path → Bool) (paths : List Path) (F : Filestore) (m : Extent
       (λ p. done p || is_at_or_below (take n s) p) F survey (λ p seen.
       ap (λ n. done (take 8 p) || is_at_or_below (take n s) (take 8 p)) is
       ∙ ap (λ b. done (take 8 p) || b) (one_more s (take 8 p) k within)
-      ∙ grouped (done (take 8 p)) (is_at_or_below (take k s) (take 8 p)) (same_path (take 8 p) (take (k + 1) s)))
-    where
-      grouped : (a b c : Bool) → (a || (b || c)) ≡ ((a || b) || c)
-      grouped true b c = refl
-      grouped false b c = refl
+      ∙ sym (or_assoc (done (take 8 p)) (is_at_or_below (take k s) (take 8 p)) (same_path (take 8 p) (take (k + 1) s))))
 
   pub all_beginnings : (done : Path → Bool) (s : Path) (k : ℕ) → length s ≤ k → IsSparseSurvey known (shows paths) m
       (λ p. done p || is_at_or_below (take k s) p) F →

@@ -1,6 +1,6 @@
 -- What a view says of the filestore that it has seen, said of one of which the items see the same.
 --     bare_by                                nothing is below a new name, where the map has nothing there
---     later_gap, later_peak                  the blocks, and the most of them, once as many more are there in both
+--     later_peak                             the most blocks, once as many more are there in both
 --     tells_sparse, tells_sparse_install     of the next request, and of an install
 use Rattle.std.proofs.Common.{◌≡◌, refl, sym, ◌∙◌, ap, subst, Bool, true, false, not, ◌&&◌, is_some, true≢false, ℕ, ◌+◌, max, length, arith}
 use Rattle.std.specs.FinMap.{get, entries}
@@ -16,6 +16,7 @@ use Rattle.cfdp_states.specs.Sparse.{TellsSparse, TellsSparseInstall, passes_aft
 use Rattle.cfdp_states.specs.Sketching.{extent_in}
 use Rattle.cfdp_states.proofs.Sketched.{entries-is}
 use Rattle.cfdp_states.proofs.Installing.{staged_more}
+use Rattle.cfdp_states.proofs.Leased.{through}
 use Rattle.cfdp_states.proofs.SparseRows.{Bare, request_sparse, bound_sparse, install_sparse, install_bound_sparse}
 
 neither : (a b : Bool) → b ≡ false → (a && not b) ≡ false → a ≡ false
@@ -37,10 +38,6 @@ bare_by v (RemoveDirectory p) h G first most taken t = tt
 bare_by v (DenyFile p) h G first most taken t = tt
 bare_by v (DenyDirectory p) h G first most taken t = tt
 
--- f and g blocks before and h and k after, which are as many more
-later_gap : (f g h k first start : ℕ) → f + first ≡ g + start → h + g ≡ k + f → h + first ≡ k + start
-later_gap f g h k first start before both = omega arith
-
 later_peak : (peak most h k first start : ℕ) → peak + first ≡ most + start → h + first ≡ k + start → max peak h + first ≡ max most k + start
 later_peak peak most h k first start before now = omega arith
 
@@ -57,7 +54,7 @@ module _ (v w : Sketch) (request : Request) (status : Status) where
         stated.0 ∙ sym on.answer,
         λ good.
             let both = on.done (ap succeeded (sym stated.0) ∙ good) in
-            let gap = later_gap (blocks F) (blocks G) (blocks H) (blocks K) c.first start c.gap both.blocks in
+            let gap = through start c.first (blocks F) (blocks G) (blocks H) (blocks K) c.gap both.blocks in
             record {
               known = λ x. passes_after request c.known x;
               visible = λ x. passes_after request c.visible x;
@@ -85,7 +82,7 @@ module _ (v w : Sketch) (p : Path) (size : ℕ) (done : Bool) where
       let staged_G : blocks (alone G x) ≡ blocks G + blocks_of (length x) = staged_more G x c.tells.staged in
       let staged_F : blocks (alone F x) ≡ blocks F + blocks_of (length x) = staged_more F x (sym c.one.staged ∙ c.tells.staged) in
       let with_file : blocks (alone F x) + c.first ≡ blocks (alone G x) + start = let e = c.gap in omega (arith, e, staged_F, staged_G) in
-      let gap = later_gap (blocks (alone F x)) (blocks (alone G x)) (blocks H) (blocks K) c.first start with_file on.both.blocks in (
+      let gap = through start c.first (blocks (alone F x)) (blocks (alone G x)) (blocks H) (blocks K) with_file on.both.blocks in (
         stated.0 ∙ sym on.answer,
         λ yes. record {
           known = c.known;

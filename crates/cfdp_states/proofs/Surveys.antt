@@ -6,6 +6,8 @@
 use Rattle.std.proofs.Common.{◌≡◌, refl, sym, ◌∙◌, ap, Bool, true, false, cond, ◌||◌, ◌&&◌, is_some, Option, Some, None, ℕ, zero, suc, ◌+◌, ◌<◌, ◌≤◌, List, [], ◌∷◌, length, take, drop, get_or, if◌then◌else◌, true≢false, arith, take-add, take_all, length-drop}
 use Rattle.std.specs.List.{list_any, between}
 use Rattle.std.specs.FinMap.{get, empty, insert, get-insert, get-empty}
+use Rattle.std.proofs.Math.Bool.{or_assoc}
+use Rattle.std.proofs.lemmas.Bool.{or_right}
 use Rattle.std.proofs.lemmas.List.{take-append-drop}
 use Rattle.std.proofs.lemmas.Slice.{between_to_end}
 use Rattle.std.proofs.lemmas.List.Folds.{list_any_more, list_any-append}
@@ -17,6 +19,7 @@ use Rattle.cfdp_states.specs.declared.extent.Extent.{Extent}
 use Rattle.cfdp_states.specs.Sketching.{extent_at, Extents}
 use Rattle.cfdp_states.specs.code.Sketching.{AddsWhere, IsSurvey}
 use Rattle.cfdp_actions.proofs.Order.{same_path-true}
+use Rattle.cfdp_actions.proofs.Truths.{absorbed}
 
 abbrev pub below_one : List Path → Path → Bool
 below_one roots p = list_any (λ root. is_at_or_below p root) roots
@@ -27,13 +30,6 @@ one_of paths p = list_any (same_path p) paths
 -- what is there where the test passes and something exists
 abbrev seen : Bool → Option Extent → Option Extent → Option Extent
 seen b v w = if b && is_some v then v else w
-
-seen-false : (v w : Option Extent) → seen false v w ≡ w
-seen-false v w = refl
-
-seen-none : (b : Bool) (w : Option Extent) → seen b None w ≡ w
-seen-none true w = refl
-seen-none false w = refl
 
 pub adds_nothing : (F : Filestore) (m : Extents) → AddsWhere (λ p. false) F m m
 adds_nothing F m p = refl
@@ -91,23 +87,16 @@ pub inside_earlier : (roots : List Path) (i j : ℕ) (root : Path) → i < j →
 inside_earlier [] i j root less within h = absurd (omega arith)
 inside_earlier (r ∷ roots) i zero root less within h = absurd (omega arith)
 inside_earlier (r ∷ roots) zero (suc j) root less within h = ap (λ b. b || below_one (take j roots) root) h
-inside_earlier (r ∷ roots) (suc i) (suc j) root less within h = or_right (is_at_or_below root r) (inside_earlier roots i j root (omega arith) (omega arith) h)
-  where
-    or_right : (a : Bool) {b : Bool} → b ≡ true → (a || b) ≡ true
-    or_right true h = refl
-    or_right false h = h
+inside_earlier (r ∷ roots) (suc i) (suc j) root less within h =
+    or_right (is_at_or_below root r) (below_one (take j roots) root) (inside_earlier roots i j root (omega arith) (omega arith) h)
 
 lower : (rs : List Path) (root p : Path) → is_at_or_below p root ≡ true → below_one rs root ≡ true → below_one rs p ≡ true
 lower [] root p below above = absurd (true≢false (sym above))
 lower (r ∷ rs) root p below above =
     elim (is_at_or_below root r) as (λ b. is_at_or_below root r ≡ b → (b || below_one rs root) ≡ true → (is_at_or_below p r || below_one rs p) ≡ true) [
       | true ↦ λ e h. ap (λ b. b || below_one rs p) (at_or_below-trans p root r below e)
-      | false ↦ λ e h. or_right (is_at_or_below p r) (lower rs root p below h)
+      | false ↦ λ e h. or_right (is_at_or_below p r) (below_one rs p) (lower rs root p below h)
     ] refl above
-  where
-    or_right : (a : Bool) {b : Bool} → b ≡ true → (a || b) ≡ true
-    or_right true h = refl
-    or_right false h = h
 
 module _ (roots paths : List Path) (i k more : ℕ) (root : Path) (F : Filestore) (within : i < length roots) (is : root ≡ get_or roots i root) where
   -- the paths before the root
@@ -117,11 +106,7 @@ module _ (roots paths : List Path) (i k more : ℕ) (root : Path) (F : Filestore
       adds_both (up_to roots paths i k) (one_of (take more (drop k paths))) (up_to roots paths i (k + more)) F l m n one two (λ p.
       ap (λ b. below_one (take i roots) p || b) (ap (λ ps. one_of ps p) (take-add k more paths)
       ∙ list_any-append (same_path p) (take k paths) (take more (drop k paths)))
-      ∙ assoc (below_one (take i roots) p) (one_of (take k paths) p) (one_of (take more (drop k paths)) p))
-    where
-      assoc : (a b c : Bool) → (a || (b || c)) ≡ ((a || b) || c)
-      assoc true b c = refl
-      assoc false b c = refl
+      ∙ sym (or_assoc (below_one (take i roots) p) (one_of (take k paths) p) (one_of (take more (drop k paths)) p)))
 
   next : (p : Path) → below_one (take (i + 1) roots) p ≡ (below_one (take i roots) p || is_at_or_below p root)
   next p = list_any_more (λ root. is_at_or_below p root) roots i root within ∙ ap (λ r. below_one (take i roots) p || is_at_or_below p r) (sym is)
@@ -146,18 +131,10 @@ module _ (roots paths : List Path) (i k more : ℕ) (root : Path) (F : Filestore
       ≡ true → AddsWhere (up_to roots paths (i + 1) (k + more)) F l n
   adds_inside l m n one two inside =
       adds_as (up_to roots paths i (k + more)) (up_to roots paths (i + 1) (k + more)) F l n (before l m n one two) (λ p.
-      ap (λ b. b || one_of (take (k + more) paths) p) (next p ∙ absorbs (below_one (take i roots) p) (is_at_or_below p root)
-      (λ below. lower (take i roots) root p below inside)))
-    where
-      absorbs : (a b : Bool) → (b ≡ true → a ≡ true) → (a || b) ≡ a
-      absorbs true b h = refl
-      absorbs false true h = sym (h refl)
-      absorbs false false h = refl
+      ap (λ b. b || one_of (take (k + more) paths) p) (next p ∙ sym (absorbed (below_one (take i roots) p) (is_at_or_below p root)
+      (λ below. lower (take i roots) root p below inside))))
 
--- at first, and in the end
-pub adds_start : (roots paths : List Path) (F : Filestore) (m : Extents) → AddsWhere (up_to roots paths 0 0) F m m
-adds_start roots paths F m p = refl
-
+-- in the end
 pub adds_rest : (roots paths : List Path) (i k : ℕ) (F : Filestore) (l m n : Extents) → length roots ≤ i → AddsWhere (up_to roots paths i k) F l m →
     AddsWhere (one_of (drop k paths)) F m n →
     AddsWhere (λ p. below_one roots p || one_of paths p) F l n
@@ -166,11 +143,7 @@ adds_rest roots paths i k F l m n all one two =
     ap (λ rs. below_one rs p || one_of paths p) (sym (take_all i roots all))
     ∙ ap (λ b. below_one (take i roots) p || b) (ap (λ ps. one_of ps p) (sym (take-append-drop k paths))
     ∙ list_any-append (same_path p) (take k paths) (drop k paths))
-    ∙ assoc (below_one (take i roots) p) (one_of (take k paths) p) (one_of (drop k paths) p))
-  where
-    assoc : (a b c : Bool) → (a || (b || c)) ≡ ((a || b) || c)
-    assoc true b c = refl
-    assoc false b c = refl
+    ∙ sym (or_assoc (below_one (take i roots) p) (one_of (take k paths) p) (one_of (drop k paths) p)))
 
 -- the code's slices
 pub following : (paths : List Path) (k : ℕ) → between k (length paths) paths ≡ drop k paths

@@ -1,13 +1,10 @@
-use Rattle.std.proofs.Common.{sym, ◌∙◌, subst, OnOk, Result, Ok, Err}
+use Rattle.std.proofs.Common.{sym, ◌∙◌, subst}
+use Rattle.std.proofs.lemmas.Result.{on_ok_weaker}
 use Rattle.cfdp_paths.specs.Paths.{same_path}
 use Rattle.cfdp_states.specs.Sketching.{Extents}
 use Rattle.cfdp_states.specs.code.Sketching.{AddsWhere}
 use Rattle.cfdp_states.proofs.Surveys.{adds_one, adds_none}
 use Rattle.cfdp_states.proofs.survey.add_extent.Goals as goal
-
-on_ok : {A E : Type 0} {P Q : Type 0} (r : Result A E) → (P → Q) → OnOk r P → OnOk r Q
-on_ok (Ok a) f p = f p
-on_ok (Err e) f p = tt
 
 pub returns-in-None : goal.returns-in-None
 returns-in-None g c =
@@ -19,5 +16,5 @@ returns-in-Some g c =
     let F = (g.S.Filestore.state c.args.store.now).filestore in
     let m = c.args.extents.now in
     let path = c.args.path.now in
-    on_ok c.put.result (λ put. subst (λ (n : Extents). AddsWhere (λ p. same_path p path) F m n) (sym put)
+    on_ok_weaker c.put.result (λ put. subst (λ (n : Extents). AddsWhere (λ p. same_path p path) F m n) (sym put)
     (adds_one F m path c.in-Some.extent (sym c.extent_at.ensures ∙ c.in-Some.is))) c.put.ensures.ok
