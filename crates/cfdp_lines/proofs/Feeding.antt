@@ -1,5 +1,5 @@
 -- A loop over the octets that a run is fed with: up to the next line end at once.
-use Rattle.std.proofs.Common.{◌≡◌, ℕ, ◌+◌, ◌<◌, ◌≤◌, ◌==◌, true, false, List, [], ◌∷◌, ◌++◌, Option, None, length, take, drop, get_or, refl, sym, ap, subst, ◌∙◌, append_assoc, arith, length-take}
+use Rattle.std.proofs.Common.{◌≡◌, ℕ, ◌+◌, ◌<◌, ◌≤◌, ◌==◌, true, false, List, [], ◌∷◌, ◌++◌, Option, None, length, take, drop, get_or, sym, ap, subst, ◌∙◌, append_assoc, arith, length-take}
 use Rattle.std.proofs.lemmas.List.{append-nil, drop_more, take_more, take-append-drop, get_or-take}
 use Rattle.std.proofs.lemmas.List.Elements.{All-from_get_or}
 use Rattle.std.specs.Io.KnownBytes.{Appends}
@@ -7,11 +7,11 @@ use Rattle.cfdp_lines.specs.Answers.{AnswersLine, Adds}
 use Rattle.cfdp_lines.specs.Lines.{is_newline, line_limit, IsOneLine}
 use Rattle.cfdp_lines.specs.Report.{line_answer}
 use Rattle.cfdp_lines.specs.Session.{LineReading, line_reading, Moves, StopsBad}
-use Rattle.cfdp_lines.specs.code.Session.{Breaks, Runs, RunsBad, RunsPart, RunsLost}
+use Rattle.cfdp_lines.specs.code.Session.{Breaks, RunsBad, RunsPart, RunsLost}
 use Rattle.cfdp_streams.specs.Streams.{LostWithin}
 use Rattle.cfdp_streams.specs.code.Streams.{Spills}
-use Rattle.cfdp_streams.proofs.Streaming.{Appends-none, Appends-more, Appends-more_or_lost}
-use Rattle.cfdp_lines.proofs.Moving.{Moves-none, Moves-then, Moves-then_stops, Moves-then_breaks, StopsBad-before, StopsBad-good_line, Breaks-none, Breaks-shorter, Moves-gather, Moves-newline, StopsBad-newline, StopsBad-overlong}
+use Rattle.cfdp_streams.proofs.Streaming.{Appends-more, Appends-more_or_lost}
+use Rattle.cfdp_lines.proofs.Moving.{Moves-then, Moves-then_stops, Moves-then_breaks, StopsBad-before, StopsBad-good_line, Breaks-none, Breaks-shorter, Moves-gather, Moves-newline, StopsBad-newline, StopsBad-overlong}
 use Rattle.std.proofs.lemmas.Bool.{false_from_ne_true}
 
 -- octets before the first newline
@@ -97,17 +97,6 @@ module _ (State : Type 0) (answer : State → List ℕ → Option (State × List
     pub whole : text ≡ written ++ held
     pub appended : Appends old new written
 
-  pub Fed-none : (here : LineReading State) (piece : List ℕ) (old : Option (List ℕ)) → Fed here here piece piece [] old old
-  Fed-none here piece old = record {
-    done = [];
-    text = [];
-    written = [];
-    cut = refl;
-    moves = Moves-none State answer here;
-    whole = refl;
-    appended = Appends-none old;
-  }
-
   pub Fed-adds : (from here there : LineReading State) (piece rest front back held later : List ℕ) (old new : Option (List ℕ))
       → Fed from here piece rest held old new → front ++ back ≡ rest → Adds answer here there front held later
       → Fed from there piece back later old new
@@ -139,15 +128,6 @@ module _ (State : Type 0) (answer : State → List ℕ → Option (State × List
       → Appends new newer held → Appends old newer f.text
   whole_text from here piece rest held old new newer f a =
       subst (λ (s : List ℕ). Appends old newer s) (sym f.whole) (Appends-more old new newer f.written held f.appended a)
-
-  pub Fed-runs : (from here : LineReading State) (piece rest held : List ℕ) (old new newer : Option (List ℕ))
-      → Fed from here piece rest held old new → rest ≡ [] → Appends new newer held → Runs answer from here piece old newer
-  Fed-runs from here piece rest held old new newer f e a =
-      let all : f.done ≡ piece = sym (f.cut ∙ ap (λ (s : List ℕ). f.done ++ s) e ∙ append-nil f.done) in record {
-        written = f.text;
-        moves = subst (λ (s : List ℕ). Moves answer from here s f.text) all f.moves;
-        appended = whole_text from here piece rest held old new newer f a;
-      }
 
   pub Fed-stops : (from here : LineReading State) (piece rest held : List ℕ) (n : ℕ) (old new newer : Option (List ℕ))
       → Fed from here piece rest held old new → Appends new newer held → StopsBad answer here rest [] n

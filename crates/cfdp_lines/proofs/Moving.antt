@@ -66,15 +66,6 @@ module _ (State : Type 0) (answer : State → List ℕ → Option (State × List
     stops = λ ends rest. ap (report_at answer ends p) (append_assoc a b rest) ∙ f.stops ends (b ++ rest);
   }
 
-  pub Breaks-before : (p : LineReading State) (a b w : List ℕ) → Breaks answer p a w → Breaks answer p (a ++ b) w
-  Breaks-before p a b w f = record {
-    begins = λ rest.
-        let later = f.begins (b ++ rest) in (
-          later.0,
-          ap (λ (octets : List ℕ). (report_at answer true p octets).text) (append_assoc a b rest) ∙ later.1,
-        );
-  }
-
   -- a run may have written less
   pub Breaks-shorter : (p : LineReading State) (a v w : List ℕ) → Breaks answer p a (v ++ w) → Breaks answer p a v
   Breaks-shorter p a v w f = record {

@@ -84,7 +84,7 @@ module _ (State : Type 0) (answer : State → List ℕ → Option (State × List
       → Begins (script_report answer start octets).text written
   begun_by start octets written b = rw append-nil at b
 
-  -- the reader failed, or the writer is as it was and memory was refused
+  -- the reader failed, or the writer is as it was and the run is out of memory
   pub Running-fails : (start : State) (here : LineReading State) (left most : ℕ) (input unread rest old new newer : Option (List ℕ))
       → Running start here left input unread old new → KeptOrLost unread rest → Keeps new newer → input_limit ≤ most
       → PartRun answer start most input rest old newer

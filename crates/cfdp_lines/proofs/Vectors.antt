@@ -1,5 +1,5 @@
 -- Words decoded sixteen octets at once.
-use Rattle.std.proofs.Common.{◌≡◌, ◌∙◌, ℕ, zero, suc, ◌+◌, ◌-◌, ◌*◌, ◌/◌, ◌%◌, ◌<◌, ◌≤◌, Bool, true, false, ◌&&◌, ◌||◌, cond, eqb, leb, List, [], ◌∷◌, ◌++◌, length, map, take, drop, get_or, length-take, length-drop, replicate, Fits, w8, refl, sym, ap, ap₂, subst, arith, inl, inr}
+use Rattle.std.proofs.Common.{◌≡◌, ◌∙◌, ℕ, zero, suc, ◌+◌, ◌-◌, ◌*◌, ◌/◌, ◌%◌, ◌<◌, ◌≤◌, Bool, true, false, ◌&&◌, ◌||◌, cond, eqb, leb, List, [], ◌∷◌, ◌++◌, length, map, take, drop, get_or, length-take, length-drop, Fits, w8, refl, sym, ap, ap₂, subst, arith, inl, inr}
 use Rattle.std.specs.Int.Bits.{bit_or}
 use Rattle.std.specs.List.{range_with_len}
 use Rattle.std.specs.Simd.Lanes.{fold_l}
@@ -7,27 +7,18 @@ use Rattle.std.proofs.lemmas.Bool.{cases_lt, and_parts, false≢true}
 use Rattle.std.proofs.lemmas.List.{take_all, get_or-drop, get_or-map, get_or-take, get_or_past, length-map, get_or_append_left, get_or-append_right}
 use Rattle.std.proofs.lemmas.List.FromFn.{get_or-map-range_with_len}
 use Rattle.std.proofs.lemmas.Nat.{or_lt, le_or_l, le_or_r}
-use Rattle.std.proofs.lemmas.Simd.{length-chunk, get_or-chunk, get_or-put_chunk_at, Each1-get_or, Each1-from_get_or}
+use Rattle.std.proofs.lemmas.Simd.{length-chunk, get_or-chunk, get_or-put_chunk_at, Each1-get_or, Each1-from_get_or, zip2_of_maps}
 use lib.Lanes.{chunk, zip2, sel_l, top, put_chunk}
 use Rattle.cfdp_lines.specs.code.Digits.{AreSixteenOctets, ArePairs, AreNibbles, AreValues, IsValue, value_of}
 use Rattle.cfdp_lines.proofs.Pairs.{octet_at, of_values}
 
 -- ---- lane by lane
 
-zip2-map : (h : ℕ → ℕ → ℕ) (f g : ℕ → ℕ) (xs : List ℕ) → zip2 h (map f xs) (map g xs) ≡ map (λ x. h (f x) (g x)) xs
-zip2-map h f g [] = refl
-zip2-map h f g (x ∷ xs) = ap (λ r. h (f x) (g x) ∷ r) (zip2-map h f g xs)
-
--- an operator on two vectors that were made lane by lane from v
-pub joined : (h : ℕ → ℕ → ℕ) (f g : ℕ → ℕ) (v : List ℕ) {a b : List ℕ} → a ≡ map f v → b ≡ map g v
-    → zip2 h a b ≡ map (λ x. h (f x) (g x)) v
-joined h f g v p q = ap₂ (zip2 h) p q ∙ zip2-map h f g v
-
 sel-map : (m f g : ℕ → ℕ) (xs : List ℕ) → sel_l (map (top 7) (map m xs)) (map f xs) (map g xs) ≡ map (λ x. cond (top 7 (m x)) (f x) (g x)) xs
 sel-map m f g [] = refl
 sel-map m f g (x ∷ xs) = ap (λ r. cond (top 7 (m x)) (f x) (g x) ∷ r) (sel-map m f g xs)
 
--- a choice between two such vectors
+-- a choice between two vectors that were made lane by lane from v
 chosen : (m f g : ℕ → ℕ) (v : List ℕ) {s a b : List ℕ} → s ≡ map m v → a ≡ map f v → b ≡ map g v
     → sel_l (map (top 7) s) a b ≡ map (λ x. cond (top 7 (m x)) (f x) (g x)) v
 chosen m f g v {s} {a} {b} r p q =
@@ -38,20 +29,11 @@ chosen m f g v {s} {a} {b} r p q =
 -- the lesser of both in each lane, and the greater, by what an operator says of them
 pub lesser : (h : ℕ → ℕ → ℕ) (f g : ℕ → ℕ) (v : List ℕ) {a b : List ℕ} → a ≡ map f v → b ≡ map g v
     → sel_l (map (top 7) (zip2 h a b)) a b ≡ map (λ x. cond (top 7 (h (f x) (g x))) (f x) (g x)) v
-lesser h f g v p q = chosen (λ x. h (f x) (g x)) f g v (joined h f g v p q) p q
+lesser h f g v p q = chosen (λ x. h (f x) (g x)) f g v (zip2_of_maps h f g v p q) p q
 
 pub greater : (h : ℕ → ℕ → ℕ) (f g : ℕ → ℕ) (v : List ℕ) {a b : List ℕ} → a ≡ map f v → b ≡ map g v
     → sel_l (map (top 7) (zip2 h a b)) b a ≡ map (λ x. cond (top 7 (h (f x) (g x))) (g x) (f x)) v
-greater h f g v p q = chosen (λ x. h (f x) (g x)) g f v (joined h f g v p q) q p
-
--- one number in each lane
-pub splat_is : (v : List ℕ) (n y : ℕ) → length v ≡ n → replicate n y ≡ map (λ _. y) v
-splat_is [] n y e = ap (λ k. replicate k y) (sym e)
-splat_is (x ∷ xs) n y e = ap (λ k. replicate k y) (sym e) ∙ ap (λ r. y ∷ r) (splat_is xs (length xs) y refl)
-
-pub itself : (v : List ℕ) → v ≡ map (λ x. x) v
-itself [] = refl
-itself (x ∷ xs) = ap (λ r. x ∷ r) (itself xs)
+greater h f g v p q = chosen (λ x. h (f x) (g x)) g f v (zip2_of_maps h f g v p q) q p
 
 -- the octets of a load
 pub chunk_octets : (i : ℕ) (xs : List ℕ) → i + 16 ≤ length xs → ((k : ℕ) → Fits w8 (get_or xs k 0)) → AreSixteenOctets (chunk i 16 xs)

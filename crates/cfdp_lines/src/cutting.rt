@@ -89,7 +89,7 @@ impl OpenLine {
     ///
     /// # Errors
     ///
-    /// `Bad` where octets that are gathered make the line longer than [`LINE_LIMIT`], even where memory is refused.
+    /// `Bad` where octets that are gathered make the line longer than [`LINE_LIMIT`], even when out of memory.
     #[inline]
     pub fn take(&mut self, octets: &[u8]) -> Result<Option<usize>, LineFault>
         ensures goes_on { IfOk result (λ end. end ≡ None → self.new ≡ self.old ++ octets.now) }

@@ -9,7 +9,7 @@ use thiserror::Error;
 pub enum LineFault {
     /// It is a bad line.
     Bad,
-    /// Memory was refused.
+    /// Out of memory.
     Memory,
 }
 
@@ -32,7 +32,7 @@ pub enum RunFault {
     Read,
     /// The writer failed.
     Write,
-    /// Memory was refused.
+    /// Out of memory.
     Memory,
     /// The line of this number, counted from 1, is bad.
     BadLine(u64),
@@ -44,7 +44,7 @@ pub enum RunFault {
 pub enum LinkFault {
     /// The writer failed.
     Write,
-    /// Memory was refused, or a thread could not be started.
+    /// Out of memory, or a thread could not be started.
     Memory,
     /// The first file that has a bad line, counted from 0 as its seat is, and that line's number, counted from 1.
     BadLine(u8, u64),

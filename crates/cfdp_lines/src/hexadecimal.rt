@@ -76,7 +76,7 @@ fn is_hexadecimal(line: &[u8]) -> bool
 ///
 /// # Errors
 ///
-/// `Bad` exactly if the line spells none, even where memory is refused: only then the line is looked at once more. A
+/// `Bad` exactly if the line spells none, even when out of memory: only then the line is looked at once more. A
 /// line that spells no octet takes no memory.
 pub fn decode_line(line: &[u8], octets: &mut Vec<u8>) -> Result<(), LineFault>
     ensures octets { OnOk result (hex_octets line.now ≡ Some octets.new.items) }

@@ -18,7 +18,7 @@ pub trait Script {
     ghost answer: { State → List ℕ → Option (State × List ℕ) };
 
     /// Answers a line, and appends its text to `out`: each line of it with a newline after it. A bad line is answered
-    /// so even where memory is refused.
+    /// so even when out of memory.
     fn line(&mut self, alloc: Global, line: &[u8], out: &mut Vec<u8>) -> Result<(), LineFault>
         ensures ok { OnOk result (AnswersLine answer (state self.old)
             (state self.new) line.now out.old.items out.new.items) }

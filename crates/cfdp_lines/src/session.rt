@@ -33,7 +33,7 @@ pub(crate) struct LineSession<S> {
     ghost whole: { IsOpenLine line },
 }
 
-/// Runs a line, and appends its text. A line that is bad or too long is reported even where memory is refused.
+/// Runs a line, and appends its text. A line that is bad or too long is reported even when out of memory.
 fn answer_line<S: Script>(
     script: &mut S,
     alloc: Global,
@@ -98,7 +98,7 @@ impl<S: Script> LineSession<S> {
             (take n octets.now) self.old.text.items self.new.text.items) }
         ensures bad { result ≡ Err Bad → StopsBad S.answer (session_reading S.state self.old) octets.now []
             self.old.number }
-        // Of a line that came whole, or is too long already, a bad one is reported even where memory is refused.
+        // Of a line that came whole, or is too long already, a bad one is reported even when out of memory.
         ensures refused { result ≡ Err LineFault.Memory → self.old.line ≡ []
             → StopsBad S.answer (session_reading S.state self.old) octets.now [] self.old.number → ⊥ }
         ensures kept { OnErr result (self.new.text.items ≡ self.old.text.items) }
@@ -166,7 +166,7 @@ impl<S: Script> LineSession<S> {
             octets.now n (W.contents writer.old) (W.contents writer.new) }
         ensures memory { result ≡ Err Memory → RunsPart S.answer (session_reading S.state self.old)
             octets.now (W.contents writer.old) (W.contents writer.new) }
-        // Memory was refused, and the line so far is not bad.
+        // Out of memory, and the line so far is not bad.
         ensures refused { result ≡ Err Memory → RefusesMemory S.answer (session_reading S.state self.old) octets.now }
         ensures write { result ≡ Err Write → RunsLost S.answer (session_reading S.state self.old)
             octets.now (W.contents writer.old) (W.contents writer.new) }

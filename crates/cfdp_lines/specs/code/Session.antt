@@ -1,7 +1,7 @@
 -- What only the proofs of the code need of `Session`.
 --
 --   Breaks     a run broke off within some octets; what it wrote is a beginning of what they report
---   RefusesMemory  a run broke off at a line that was refused memory, and that these octets do not show to be bad,
+--   RefusesMemory  a run broke off out of memory at a line that these octets do not show to be bad,
 --              unless it began before them
 --
 -- and of a writer that shows its octets:
