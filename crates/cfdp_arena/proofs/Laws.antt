@@ -49,7 +49,6 @@ live_count-same (Some x ∷ xs) (None ∷ ys) long same = (let e = same 0 in cc)
 live_count-same (None ∷ xs) (Some y ∷ ys) long same = (let e = same 0 in cc)
 
 module _ (arena : Blocks) (block : ℕ) (octets : List ℕ) where
-
   pub length-with : length (with_block arena block octets) ≡ length arena
   length-with = length-set arena block (Some octets)
 
@@ -63,7 +62,6 @@ module _ (arena : Blocks) (block : ℕ) (octets : List ℕ) where
   free_count-written live = omega (arith, length-with, live_count-written arena block octets live)
 
 module _ (arena : Blocks) (block : ℕ) where
-
   pub length-without : length (without_block arena block) ≡ length arena
   length-without = length-set arena block None
 
