@@ -4,6 +4,7 @@
 #include <stdbool.h>
 #include <stdio.h>
 #include <stdlib.h>
+#include <string.h>
 
 static unsigned calls, fails_at, out;
 static char nothing;
@@ -32,11 +33,31 @@ static const uint8_t metadata[] = {0x24, 0x00, 0x1b, 0x00, 0x01, 0x01, 0x02, 0x0
 static const uint8_t eof[] = {
     0x24, 0x00, 0x0a, 0x00, 0x01, 0x01, 0x02, 0x04, 0x00, 0x00, 0x00, 0x00, 0x00, 0x00, 0x00, 0x00, 0x00};
 
-/* Transaction 1/2: rename file 'app/prog' to 'app/p', rename directory 'app' to 'x'. It has not ended when the engine
- * is freed. */
-static const uint8_t live[] = {0x24, 0x00, 0x23, 0x00, 0x01, 0x02, 0x02, 0x07, 0x40, 0x00, 0x00, 0x00, 0x00, 0x00, 0x00,
-    0x00, 0x10, 0x20, 0x08, 'a', 'p', 'p', '/', 'p', 'r', 'o', 'g', 0x05, 'a', 'p', 'p', '/', 'p',
-    0x00, 0x07, 0x20, 0x03, 'a', 'p', 'p', 0x01, 'x'};
+/* Transaction 1/2: rename file 'app/prog' to 'app/p', deny 24 files that do not exist, rename directory 'app' to 'x'.
+ * It has not ended when the engine is freed. The path of each of the 24 has eight names, so the list sees over 128
+ * paths, and its view keeps them by their names. */
+enum { DENIALS = 24, DENIED = 18 };
+static const uint8_t first[] = {0x24, 0x00, 0x00, 0x00, 0x01, 0x02, 0x02, 0x07, 0x40, 0x00, 0x00, 0x00, 0x00, 0x00, 0x00,
+    0x00, 0x10, 0x20, 0x08, 'a', 'p', 'p', '/', 'p', 'r', 'o', 'g', 0x05, 'a', 'p', 'p', '/', 'p'};
+static const uint8_t last[] = {0x00, 0x07, 0x20, 0x03, 'a', 'p', 'p', 0x01, 'x'};
+static uint8_t live[sizeof first + DENIALS * (4 + DENIED) + sizeof last];
+
+static void spell_live(void) {
+    size_t length = sizeof first;
+    memcpy(live, first, sizeof first);
+    for (unsigned file = 0; file < DENIALS; file++) {
+        char path[DENIED + 1];
+        snprintf(path, sizeof path, "app/%02u/1/2/3/4/5/6", file);
+        const uint8_t head[] = {0x00, 2 + DENIED, 0x70, DENIED};
+        memcpy(live + length, head, sizeof head);
+        memcpy(live + length + sizeof head, path, DENIED);
+        length += sizeof head + DENIED;
+    }
+    memcpy(live + length, last, sizeof last);
+    /* the octets after the header */
+    live[1] = (sizeof live - 7) >> 8;
+    live[2] = (sizeof live - 7) & 0xff;
+}
 
 static unsigned refused;
 
@@ -137,4 +158,7 @@ static int refuse_each(int (*one_run)(void), const char *what) {
     return wrong;
 }
 
-int main(void) { return refuse_each(run, "engine") | refuse_each(run_receiver, "receiver"); }
+int main(void) {
+    spell_live();
+    return refuse_each(run, "engine") | refuse_each(run_receiver, "receiver");
+}

@@ -50,8 +50,9 @@ impl<'a> SparseView<'a> {
     /// - each directory with entries that is leased exclusively: some searches among these paths, a look at each that
     ///   is below it, a copy of each child that leads to one, a `has_beside` with these children, a comparison with
     ///   each rename, and a `deepest_beside` if one of the renames moves it;
-    /// - each rename, if there are at least two, up to the first that renames a path with some of these paths below it:
-    ///   two searches among these paths. If there is one, the view keeps paths by their names, else in path order.
+    /// - each rename, if there are at least two, and at least 128 of these paths, up to the first that renames a path
+    ///   with some of these paths below it: two searches among these paths. If there is such a rename, the view keeps
+    ///   paths by their names, else in path order.
     ///
     /// Without `covers`, the comparisons with renames and those of named paths it grows with the number of these paths
     /// times its logarithm.

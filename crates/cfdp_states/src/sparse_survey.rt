@@ -29,8 +29,8 @@ use std::alloc::{AllocError, Global};
 ///   a file;
 /// - each of them that is leased exclusively and has entries: some searches among the paths, a look at those below it,
 ///   a `has_beside`, and a `deepest_beside` if a request moves it;
-/// - each rename, if there are at least two, up to the first that renames a path with some of the paths below it: two
-///   searches among the paths.
+/// - each rename, if there are at least two, and at least 128 paths, up to the first that renames a path with some of
+///   the paths below it: two searches among the paths.
 pub fn survey_sparse<S: Filestore>(
     alloc: Global,
     store: &S,
@@ -68,15 +68,20 @@ pub fn survey_sparse<S: Filestore>(
     Ok(Some(extents))
 }
 
-/// Nothing, in the form that suits the requests: by names if at least two of them are renames, and one of these may
-/// move paths that the list sees; else in path order. Cost: that of `moves_seen` for each rename.
+/// The fewest paths for which a tree of names pays. With fewer, a rename moves so few that its look-ups cost more.
+const FEWEST_IN_TREE: usize = 128;
+
+/// Nothing, in the form that suits the requests: by names if there are many paths, at least two of the requests are
+/// renames, and one of these may move paths that the list sees; else in path order. Cost: if there are many paths, that
+/// of `moves_seen` for each rename.
 fn empty_form(alloc: Global, paths: &PathMap<()>, requests: &[Request]) -> Extents
     ensures { result ≡ finite.empty }
 {
+    let is_long = paths.entries().len() >= FEWEST_IN_TREE;
     let renames = requests
         .iter()
         .filter(|request| renamed_path(request).is_some());
-    if renames.count() > 1 && requests.iter().any(|request| moves_seen(paths, request)) {
+    if is_long && renames.count() > 1 && requests.iter().any(|request| moves_seen(paths, request)) {
         Extents::branched(alloc)
     } else {
         Extents::sorted(alloc)
