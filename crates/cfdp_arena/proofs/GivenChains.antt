@@ -6,7 +6,6 @@
 use Rattle.std.proofs.Common.{◌≡◌, ◌≢◌, ℕ, suc, zero, ◌+◌, ◌-◌, ◌<◌, ◌≤◌, List, [], ◌∷◌, ◌++◌, length, map, get_or, set, Option, Some, None, refl, sym, ap, ◌∙◌, subst, arith, length-set, length-append}
 use Rattle.std.proofs.lemmas.List.{get_or-set_same, get_or-set_other, set-set, map-set}
 use Rattle.std.proofs.lemmas.List.Elements.{All-tail}
-pub use Rattle.std.proofs.lemmas.List.Elements.{All-tail as rest_all}
 use Rattle.std.specs.Prelude.{All, AllPairs, unwrap_or}
 use Rattle.cfdp_arena.specs.Arena.{Blocks, octets_of, IsLive}
 use Rattle.cfdp_arena.specs.Chain.{chain_in}

@@ -14,7 +14,7 @@ use Rattle.cfdp_engine.specs.Seats.{Seated, receipts_in, is_number_taken, SeatsD
 use Rattle.cfdp_engine.specs.Sharing.{receipt_events}
 use Rattle.cfdp_links.specs.Linked.{AreHanded, HasReadable, Handed, events_by}
 use Rattle.cfdp_links.specs.Links.{Said}
-use Rattle.cfdp_paths.proofs.Scanning.{or_true}
+use Rattle.std.proofs.Math.Bool.{or-true}
 use Rattle.cfdp_engine.proofs.Faults.{both}
 
 -- ---- numbers that differ
@@ -34,7 +34,7 @@ taken_more before s number taken =
 
 taken_here : (before : List Seated) (s : Seated) → IsTrue (is_number_taken (before ++ s ∷ []) s.number)
 taken_here [] s = search rules
-taken_here (t ∷ ts) s = ap (λ (b : Bool). (t.number == s.number) || b) (taken_here ts s) ∙ or_true (t.number == s.number)
+taken_here (t ∷ ts) s = ap (λ (b : Bool). (t.number == s.number) || b) (taken_here ts s) ∙ or-true (t.number == s.number)
 
 none_has : (before seats : List Seated) (number : ℕ) → IsTrue (is_number_taken before number) → SeatsDiffer before seats → NoneHas number seats
 none_has before [] number taken apart = tt

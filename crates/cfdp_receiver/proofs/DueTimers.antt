@@ -21,7 +21,7 @@ use Rattle.cfdp_receiver.specs.State.{State, JointPhase, At_held, At_receiving, 
 use Rattle.cfdp_receiver.specs.Due.{IsSet, expiry_by, has_passed, is_receiving_at, terms_at, Due, Nothing_due, due_by, expiry_of, first_due, is_alive_due}
 use Rattle.cfdp_receiver.specs.StateMachine.{is_any_due}
 use Rattle.cfdp_receiver.specs.code.StateMachine.{IsTaking, is_expired, timer_of}
-use Rattle.cfdp_paths.proofs.Scanning.{or_false}
+use Rattle.std.proofs.Math.Bool.{or-false}
 
 -- ---- the first that is due
 
@@ -82,7 +82,7 @@ any_more R ss i s before after stage alive e was of_stage of_alive both =
 pub any_of_all : (R : State) (ss : List SessionFields) (i : ℕ) (come : Bool) → length ss ≤ i →
     is_any_due (first_due R ss) ≡ (come || is_any_due (first_due R (drop i ss))) → come ≡ is_any_due (first_due R ss)
 any_of_all R ss i come over was =
-    sym (was ∙ ap (λ (due : Due). come || is_any_due due) (at_drop_all (first_due R) ss i over) ∙ or_false come)
+    sym (was ∙ ap (λ (due : Due). come || is_any_due due) (at_drop_all (first_due R) ss i over) ∙ or-false come)
 
 -- ---- what a timer that is due says of its session
 

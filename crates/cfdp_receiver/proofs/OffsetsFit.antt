@@ -27,7 +27,7 @@ use Rattle.cfdp_transactions.specs.Sound.{Sound, IsKept, longest, longest_in}
 use Rattle.cfdp_receiver.specs.code.StateMachine.{IsTaking}
 use Rattle.cfdp_receiver.specs.Turning.{progress_at, gaps_after}
 use Rattle.cfdp_transactions.proofs.Soundness.Needs.{data_live}
-use Rattle.cfdp_leases.proofs.Admitted.{some_is}
+use Rattle.std.proofs.lemmas.Option.{same_Some}
 
 pub zeros : (n : ℕ) → length {A = ℕ} (replicate n 0) ≡ n
 zeros n = length-replicate n 0
@@ -112,14 +112,14 @@ pub missing_fit : (W : World) (id : TransactionId) (low : ℕ) (entry : Option E
     Some rs ≡ option_map (gaps_after low) entry → (large : Bool) → All (IsSizedRange large) rs
 missing_fit W id low None rs sound few here made large = absurd cc
 missing_fit W id low (Some e) rs sound few here made large =
-    subst (All (IsSizedRange large)) (sym (some_is rs (gaps_after low e) made))
+    subst (All (IsSizedRange large)) (sym (same_Some rs (gaps_after low e) made))
     (All-filter (λ (g : SegmentRequest). nat_le low g.0) (IsSizedRange large) (gaps e) (sized_gaps W id e sound few here large).0)
 
 pub reach_fits : (W : World) (id : TransactionId) (entry : Option Entry) (high : ℕ) → Sound W → W.config.blocks ≤ 65536 → entry_of W id ≡ entry →
     Some high ≡ option_map reach entry → (large : Bool) → high < 256 ^ fss large
 reach_fits W id None high sound few here made large = absurd cc
 reach_fits W id (Some e) high sound few here made large =
-    subst (λ (n : ℕ). n < 256 ^ fss large) (sym (some_is high (reach e) made)) (sized_gaps W id e sound few here large).1
+    subst (λ (n : ℕ). n < 256 ^ fss large) (sym (same_Some high (reach e) made)) (sized_gaps W id e sound few here large).1
 
 low_at : (low : ℕ) (g : SegmentRequest) (gs rs : List SegmentRequest) (large kept : Bool) → nat_le low g.0 ≡ kept → rs ≡ (if kept then g ∷ gs else gs) →
     0 < length rs →
@@ -143,4 +143,4 @@ pub low_fits : (W : World) (id : TransactionId) (low : ℕ) (entry : Option Entr
     Some rs ≡ option_map (gaps_after low) entry → 0 < length rs → (large : Bool) → low < 256 ^ fss large
 low_fits W id low None rs sound few here made some large = absurd cc
 low_fits W id low (Some e) rs sound few here made some large =
-    low_in low (gaps e) rs large (some_is rs (gaps_after low e) made) some (missing_fit W id low (Some e) rs sound few here made large)
+    low_in low (gaps e) rs large (same_Some rs (gaps_after low e) made) some (missing_fit W id low (Some e) rs sound few here made large)

@@ -109,9 +109,6 @@ module _ (prefixes : List Path) (F : Filestore) (x : List ℕ) (p : Path) (reque
     (is : fp ≡ footprint_of (Install p ∷ map Perform requests))
     (seen : Seen (alone (only fp F) []) (blocks (alone (only fp F) [])) (blocks (alone (only fp F) [])) 0)
     (long : length x ≡ size) (tells : InstallGoes Seen Next prefixes p size done) where
-  all_items : List Item
-  all_items = Install p ∷ map Perform requests
-
   answered_so : installed_if done ≡ (row prefixes (alone (only (footprint_of (Install p ∷ map Perform requests)) F) x) 0 (Install p)).answer
   answered_so =
       let stated = tells (alone (only fp F) []) (blocks (alone (only fp F) [])) (blocks (alone (only fp F) [])) 0 x seen long in

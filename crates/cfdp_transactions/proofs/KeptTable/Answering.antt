@@ -16,7 +16,7 @@ use Rattle.cfdp_transactions.specs.Execution.{replied}
 use Rattle.cfdp_transactions.specs.declared.books.Books.{Books}
 use Rattle.cfdp_transactions.proofs.Indexes.{get_same}
 use Rattle.cfdp_transactions.proofs.KeptTable.WorldOfTable.{table_entry_at}
-use Rattle.cfdp_paths.proofs.Scanning.{or_false}
+use Rattle.std.proofs.Math.Bool.{or-false}
 
 pub live_at : (s : Store) (b : Books) (k : ℕ) (r : TableEntryFields) → slice_get b.table k ≡ Some r → IsTrue (is_live r.phase) → IsLiveAt (world_of s b) k
 live_at s b k r at live = (entry_in s.filestore r, table_entry_at s.filestore b.table k r at, live)
@@ -31,7 +31,7 @@ pub phase_is : (s : Store) (b : Books) (k : ℕ) (r : TableEntryFields) → slic
 phase_is s b k r at e there phase is = rw (entry_is s b k r at e there) is
 
 pub plain_end : (W V : World) (k condition : ℕ) → EndsAt W V k false condition → (e : Entry) → slice_get W.table k ≡ Some e → V ≡ ends W k e condition
-plain_end W V k condition ended e at = rw (or_false e.ended_by_eof) at (ended e at)
+plain_end W V k condition ended e at = rw (or-false e.ended_by_eof) at (ended e at)
 
 pub cancel_answer : (W V : World) (k : ℕ) (e : Entry) → slice_get W.table k ≡ Some e → IsTrue (is_live e.phase) → EndsAt W V k false 15 → cancelled W k (Some e)
     ≡ (V, Reply.Cancelled)

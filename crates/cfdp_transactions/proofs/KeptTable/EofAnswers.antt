@@ -20,7 +20,7 @@ use Rattle.cfdp_transactions.specs.declared.books.Books.{Books}
 use Rattle.cfdp_transactions.proofs.KeptTable.Answering.{plain_end}
 use Rattle.cfdp_transactions.proofs.Received.RangeSteps.{all_is_whole}
 use Rattle.cfdp_transactions.proofs.KeptTable.EntryChanged.{kept_entry}
-use Rattle.cfdp_paths.proofs.Scanning.{or_true}
+use Rattle.std.proofs.Math.Bool.{or-true}
 use Rattle.cfdp_transactions.proofs.Received.Writing.{length-received}
 
 pub eof_idle : (W : World) (k : ℕ) (eof : Eof) (e : Entry) → is_live e.phase ≡ false → eof_came W k eof (Some e) ≡ (W, Reply.Idle)
@@ -29,7 +29,7 @@ eof_idle W k eof e final = rw final refl
 pub eof_fault : (W V : World) (k : ℕ) (eof : Eof) (e : Entry) → slice_get W.table k ≡ Some e → is_live e.phase ≡ true → (eof.condition == 0) ≡ false →
     EndsAt W V k true eof.condition →
     eof_came W k eof (Some e) ≡ (V, Reply.Faulted eof.condition)
-eof_fault W V k eof e at live fault ended = let is = ended e at in rw (live, fault, rw (or_true e.ended_by_eof) at is) refl
+eof_fault W V k eof e at live fault ended = let is = ended e at in rw (live, fault, rw (or-true e.ended_by_eof) at is) refl
 
 pub eof_again : (W : World) (k : ℕ) (eof : Eof) (e : Entry) → is_live e.phase ≡ true → (eof.condition == 0) ≡ true → is_receiving e.phase ≡ false →
     eof_came W k eof (Some e) ≡ (W, Reply.Duplicate)

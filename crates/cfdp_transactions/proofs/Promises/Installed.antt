@@ -10,7 +10,7 @@ use Rattle.cfdp_transactions.specs.Outcome.{is_refused}
 use Rattle.cfdp_transactions.specs.Beside.{HasItsFile, DoneIsInstalled}
 use Rattle.cfdp_transactions.specs.Beginning.{DoneIsInstalledFrom}
 use Rattle.cfdp_transactions.proofs.Promises.ItemOrder.{IsInOrder, ordered_from}
-use Rattle.cfdp_paths.proofs.Scanning.{or_false}
+use Rattle.std.proofs.Math.Bool.{or-false}
 
 retained_or_none : (file refused : Bool) → ◌≡◌ {A = ℕ} (if not file then 3 else if file then 2 else if refused then 1 else 0) (if file then 2 else 3)
 retained_or_none true refused = refl
@@ -18,7 +18,7 @@ retained_or_none false refused = refl
 
 done_has_its_file : (e : Entry) → IsInOrder e → e.phase ≡ Done → HasItsFile e
 done_has_its_file e s is =
-    let installed : e.installed ≡ has_file e.metadata = sym (or_false e.installed) ∙ (let due = s.due (rw is refl) in rw is at due) in
+    let installed : e.installed ≡ has_file e.metadata = sym (or-false e.installed) ∙ (let due = s.due (rw is refl) in rw is at due) in
     record { installed = installed; file_status = rw installed (retained_or_none (has_file e.metadata) (is_refused e.phase)) }
 
 pub done_from : DoneIsInstalledFrom

@@ -7,14 +7,14 @@
 --     cut_chain          where the node before it names the node after it, the list is without it
 use Rattle.std.proofs.Common.{◌≡◌, ◌≢◌, ℕ, suc, zero, ◌+◌, ◌-◌, List, [], ◌∷◌, cond, length, refl, sym, ap, ◌∙◌, subst, inl, inr, arith}
 use Rattle.std.proofs.lemmas.Bool.{cases_eq, eq-eqb, ne_eqb}
-use Rattle.std.proofs.lemmas.List.Elements.{All-contains}
+use Rattle.std.proofs.lemmas.List.Elements.{All-contains, All-tail}
 use Rattle.std.specs.Prelude.{All, AllPairs, Contains, not}
 use Rattle.cfdp_arena.specs.Arena.{Blocks}
 use Rattle.cfdp_tree.specs.declared.index.ListHead.{ListHead}
 use Rattle.cfdp_tree.specs.code.Tree.{IsNode, node_fields_at}
 use Rattle.cfdp_tree.specs.code.Index.{index_chain, list_of, without_node}
 use Rattle.cfdp_tree.proofs.OfIndex.IndexLaws.{chain_some, has_longer, own_first, rest_has, has_later, has_first, once_first, kept_chain}
-use Rattle.cfdp_arena.proofs.GivenChains.{rest_all, rest_once}
+use Rattle.cfdp_arena.proofs.GivenChains.{rest_once}
 
 module _ (b : ℕ) where
   pub without_other : (x : ℕ) (xs : List ℕ) → x ≢ b → without_node b (x ∷ xs) ≡ x ∷ without_node b xs
@@ -24,7 +24,7 @@ module _ (b : ℕ) where
   without_all [] apart = refl
   without_all (x ∷ xs) apart =
       let P : ℕ → Type 0 = λ c. b ≢ c in
-      without_other x xs (λ e. own_first P x xs apart (sym e)) ∙ ap (λ rest. x ∷ rest) (without_all xs (rest_all P x xs apart))
+      without_other x xs (λ e. own_first P x xs apart (sym e)) ∙ ap (λ rest. x ∷ rest) (without_all xs (All-tail P x xs apart))
 
   pub without_first : (xs : List ℕ) → All (λ c. b ≢ c) xs → without_node b (b ∷ xs) ≡ xs
   without_first xs apart = ap (λ is. cond (not is) (b ∷ without_node b xs) (without_node b xs)) (eq-eqb b b refl) ∙ without_all xs apart
@@ -80,7 +80,7 @@ module _ (old : Blocks) (p b : ℕ) (before : (node_fields_at old p).same_head �
         let second = once_first y rest (rest_once x (y ∷ rest) once) in
         let P : ℕ → Type 0 = λ c. p ≢ c in
         let B : ℕ → Type 0 = λ c. b ≢ c in
-        let p_apart : All P (index_chain old m z) = subst (All P) rest_is (subst (λ q. All (λ c. q ≢ c) rest) e (rest_all (λ c. x ≢ c) y rest first)) in
+        let p_apart : All P (index_chain old m z) = subst (All P) rest_is (subst (λ q. All (λ c. q ≢ c) rest) e (All-tail (λ c. x ≢ c) y rest first)) in
         let b_apart : All B rest = subst (λ q. All (λ c. q ≢ c) rest) y_is second in
         let x_other : x ≢ b = (λ same. own_first (λ c. x ≢ c) y rest first (same ∙ sym y_is)) in
         let cut : without_node b (y ∷ rest) ≡ rest = ap (λ c. without_node b (c ∷ rest)) y_is ∙ without_first b rest b_apart in

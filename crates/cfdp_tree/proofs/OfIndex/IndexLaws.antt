@@ -9,11 +9,11 @@
 use Rattle.std.proofs.Common.{◌≡◌, ◌≢◌, ℕ, suc, zero, ◌<◌, List, [], ◌∷◌, length, get_or, refl, ap, ◌∙◌, subst, inl, inr, arith}
 use Rattle.std.proofs.lemmas.Bool.{cases_eq}
 use Rattle.std.specs.Prelude.{All, AllPairs, Contains}
+use Rattle.std.proofs.lemmas.List.Elements.{All-tail}
 use Rattle.cfdp_arena.specs.Arena.{Blocks}
 use Rattle.cfdp_tree.specs.code.Tree.{node_fields_at}
 use Rattle.cfdp_tree.specs.code.Index.{index_chain}
 use Rattle.cfdp_tree.specs.code.Lists as lists
-use Rattle.cfdp_arena.proofs.GivenChains.{rest_all}
 
 pub chain_more : (nodes : Blocks) (n m b : ℕ) → n ≡ suc m → index_chain nodes n b ≡ b ∷ index_chain nodes m (node_fields_at nodes b).same_head
 chain_more nodes n m b e = ap (λ k. index_chain nodes k b) e
@@ -64,7 +64,7 @@ module _ (P : ℕ → Type 0) (old new : ℕ → ℕ) (same : (c : ℕ) → P c 
   kept_links (suc n) b own =
       let rest = lists.chain old n (old b) in
       ap (λ c. b ∷ lists.chain new n c) (same b (own_first P b rest own))
-      ∙ ap (λ xs. b ∷ xs) (kept_links n (old b) (rest_all P b rest own))
+      ∙ ap (λ xs. b ∷ xs) (kept_links n (old b) (All-tail P b rest own))
 
 -- the link of one node has changed
 module _ (old new : Blocks) (b : ℕ) (others : (c : ℕ) → b ≢ c → (node_fields_at new c).same_head ≡ (node_fields_at old c).same_head) where

@@ -11,11 +11,12 @@ use Rattle.std.proofs.Common.{◌≡◌, ◌≢◌, ℕ, suc, zero, ◌+◌, ◌
 use Rattle.std.proofs.lemmas.List.{get_or-set_other}
 use Rattle.std.proofs.lemmas.Bool.{cases_eq}
 use Rattle.std.specs.Prelude.{All, AllPairs, IsSome}
+use Rattle.std.proofs.lemmas.List.Elements.{All-tail}
 use Rattle.cfdp_arena.specs.Arena.{Blocks, octets_at, IsLive, free_count, with_block}
 use Rattle.cfdp_arena.specs.Chain.{chain_in}
 use Rattle.cfdp_arena.specs.FreeList.{vacated}
 use Rattle.cfdp_arena.proofs.Chains.{length-vacated, get_or-vacated}
-use Rattle.cfdp_arena.proofs.GivenChains.{length-chain_in, first_absent, rest_once, rest_all}
+use Rattle.cfdp_arena.proofs.GivenChains.{length-chain_in, first_absent, rest_once}
 use Rattle.cfdp_arena.proofs.Laws.{octets_at-vacated_other, free_count-vacated}
 use Rattle.cfdp_actions.specs.Store.{overwritten}
 use Rattle.cfdp_tree.specs.declared.runs.Run.{Run}
@@ -119,7 +120,7 @@ nodes-vacated arena [] none once = refl
 nodes-vacated arena (x ∷ xs) none once =
     let stays = get_or-vacated xs arena x (first_absent x xs once) in
     nodes-kept (vacated xs arena) x None refl (ap only_node stays ∙ none 0 0 (omega arith))
-    ∙ nodes-vacated arena xs (rest_all (λ b. only_node (octets_at arena b) ≡ None) x xs none) (rest_once x xs once)
+    ∙ nodes-vacated arena xs (All-tail (λ b. only_node (octets_at arena b) ≡ None) x xs none) (rest_once x xs once)
 
 -- all its blocks are given back
 module _ (arena : Blocks) (run : Run) (held : IsHeld arena run) where

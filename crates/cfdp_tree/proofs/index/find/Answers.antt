@@ -1,5 +1,5 @@
 use Rattle.std.proofs.Common.{◌≡◌, ◌+◌, ◌-◌, suc, None, length, sym, ap, ◌∙◌, subst, arith, inl, inr}
-use Rattle.std.proofs.lemmas.List.Elements.{Contains-append_cases}
+use Rattle.std.proofs.lemmas.List.Elements.{Contains-append_cases, All-tail}
 use Rattle.std.specs.Prelude.{All, Contains}
 use Rattle.std.proofs.lemmas.Option.{none-some}
 use Rattle.std.proofs.lemmas.Bool.{both_ways}
@@ -11,7 +11,6 @@ use Rattle.cfdp_tree.proofs.OfNodes.TreeLaws.{node_live, node_octets}
 use Rattle.cfdp_tree.proofs.OfIndex.IndexLaws.{chain_more, chain_some, own_first, rest_has}
 use Rattle.cfdp_tree.proofs.OfIndex.HeadLaws.{head_here}
 use Rattle.cfdp_tree.proofs.index.find.Goals as goal
-use Rattle.cfdp_arena.proofs.GivenChains.{rest_all}
 use Rattle.cfdp_order.proofs.SplitLaws.{All_front}
 
 pub loop-step-init : goal.loop-step-init
@@ -58,7 +57,7 @@ loop-step-preserved c =
     ap (λ o. (node_fields_of o).same_head) (sym (node_octets c.args.arena.now l.node node c.bytes.result.now c.bytes.ensures.octets))
     ∙ sym c.same_head_of-node.ensures.value in
     record {
-      own = subst (λ b. All (IsNode nodes) (index_chain nodes m b)) next_is (rest_all (IsNode nodes) l.node (index_chain nodes m next) listed);
+      own = subst (λ b. All (IsNode nodes) (index_chain nodes m b)) next_is (All-tail (IsNode nodes) l.node (index_chain nodes m next) listed);
       left = (λ b entry has. subst (λ n. Contains (index_chain nodes m n) b) next_is
           (rest_has l.node (index_chain nodes m next) b (subst (λ xs. Contains xs b) list (l.invariant.left b entry has))
           (λ e. both_ways _ c.if-is_entry.false (c.is_entry.ensures.1 (subst (IsEntry nodes c.args.directory c.args.name.now) (sym e) entry)))));

@@ -1,6 +1,7 @@
 use Rattle.std.proofs.Common.{◌≡◌, ◌+◌, ◌-◌, suc, sym, ap, ◌∙◌, subst, arith}
 use Rattle.std.proofs.lemmas.Bool.{eqb-true, eqb-false}
 use Rattle.std.specs.Prelude.{All, Contains}
+use Rattle.std.proofs.lemmas.List.Elements.{All-tail}
 use Rattle.cfdp_tree.specs.code.NodeFields.{node_fields_of}
 use Rattle.cfdp_tree.specs.code.Nodes.{nodes_in}
 use Rattle.cfdp_tree.specs.code.Tree.{IsNode, node_fields_at}
@@ -8,7 +9,6 @@ use Rattle.cfdp_tree.specs.code.Index.{index_chain}
 use Rattle.cfdp_tree.proofs.OfNodes.TreeLaws.{node_live, node_octets}
 use Rattle.cfdp_tree.proofs.OfIndex.IndexLaws.{chain_more, chain_some, own_first, rest_has, has_later, has_first, chain_one}
 use Rattle.cfdp_tree.proofs.index.node_before.Goals as goal
-use Rattle.cfdp_arena.proofs.GivenChains.{rest_all}
 
 pub loop-step-init : goal.loop-step-init
 loop-step-init c =
@@ -49,7 +49,7 @@ loop-step-preserved c =
     let rest_is : index_chain nodes m next ≡ index_chain nodes (count + 1 - (l._step + 1)) c.same_head_of-next.result =
     (λ k. index_chain nodes (same k) (next_is k)) in
     record {
-      nodes = subst (All (IsNode nodes)) rest_is (rest_all (IsNode nodes) l.before (index_chain nodes m next) owned);
+      nodes = subst (All (IsNode nodes)) rest_is (All-tail (IsNode nodes) l.before (index_chain nodes m next) owned);
       later = (λ some. eqb-false c.same_head_of-next.result b (sym c.eq.ensures ∙ c.if-eq.false));
       left = (λ has. subst (λ xs. Contains xs b) rest_is
           (rest_has l.before (index_chain nodes m next) b (subst (λ xs. Contains xs b) list (l.invariant.left has)) (l.invariant.later (omega arith))));
