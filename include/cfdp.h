@@ -93,7 +93,7 @@ enum cfdp_answer {
     CFDP_ANSWER_DONE = 0,
     CFDP_ANSWER_NO_ENGINE = 1,          /* there is no engine, or no receiver: it was not made, or was freed */
     CFDP_ANSWER_HAS_ENGINE = 2,         /* there is an engine, or a receiver, already */
-    CFDP_ANSWER_NO_MEMORY = 3,          /* memory was refused; the same call can be made again */
+    CFDP_ANSWER_NO_MEMORY = 3,          /* out of memory; the same call can be made again */
     CFDP_ANSWER_TOO_SHORT = 4,          /* what was asked for does not fit in the buffer */
     CFDP_ANSWER_NOTHING = 5,            /* there is no such thing */
     CFDP_ANSWER_BAD_PATH = 6,           /* the octets of a path spell none */

@@ -498,7 +498,7 @@ BEFORE_LOCK = (
 LOCK_NOTES = (
     "Whenever the lock is taken and whenever it is given back, the journal is a history of one thread, "
     "and the core is sound.",
-    "accept: the core takes the event (apply_both), and the journal gets one entry, unless memory was refused "
+    "accept: the core takes the event (apply_both), and the journal gets one entry, unless it is out of memory "
     "or the journal is full.",
     "A run looks for a step in one hold of the lock and takes it in the next: "
     "other workers' events may come between.",

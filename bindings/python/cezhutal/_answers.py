@@ -23,7 +23,7 @@ class HasEngine(Refused):
 
 
 class NoMemory(Refused):
-    """Memory was refused. The same call can be made again."""
+    """Out of memory. The same call can be made again."""
 
     answer = 3
 

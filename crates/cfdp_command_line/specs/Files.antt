@@ -1,6 +1,6 @@
 -- What the program reads of its files, and what can go wrong with them.
 --
---   IsInputFault    a file cannot be opened or read, or memory was refused
+--   IsInputFault    a file cannot be opened or read, or out of memory
 --   AllPaired       two lists are of one length, and the fact holds of each pair, in order
 --   IsWhole         these octets are all that an input had, where it says that
 --   IsRead          a file was opened by this path, and these octets are all that it had

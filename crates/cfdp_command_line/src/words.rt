@@ -31,7 +31,7 @@ pub enum Asked<'a> {
 ///
 /// # Errors
 ///
-/// `Usage` for words that are no text, and the run's `Memory` where memory was refused.
+/// `Usage` for words that are no text, and the run's `Memory` out of memory.
 pub fn read_words<R: AllocGlobal + Env>(rt: &R) -> Result<Vec<String>, ProgramEnd>
     ensures { IfErr result (λ end. (end ≡ Usage) ⊎ (end ≡ Run Memory)) }
 {
@@ -51,7 +51,7 @@ pub fn read_words<R: AllocGlobal + Env>(rt: &R) -> Result<Vec<String>, ProgramEn
 ///
 /// # Errors
 ///
-/// `Usage` for words that are no command, and the run's `Memory` where memory was refused.
+/// `Usage` for words that are no command, and the run's `Memory` out of memory.
 pub fn parse<'a, S: AsStr>(alloc: Global, words: &'a [S]) -> Result<Asked<'a>, ProgramEnd>
     // It is the command that the words name, with their files.
     ensures asked { IfOk result (IsAsked (subcommand_of program (map S.text words.now))) }

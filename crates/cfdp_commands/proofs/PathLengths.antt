@@ -50,7 +50,7 @@ octets_fault : (b : Bool) (names : List Name) → (if b then Some Empty else fir
 octets_fault true names e = absurd cc
 octets_fault false names e = names_fault 8 names e
 
--- octets to which memory was refused for their path spell one
+-- octets with no fault but Memory spell a path
 pub path-refused : (octets : List ℕ) → ((fault : PathFault) → fault_of octets ≡ Some fault → fault ≡ Memory) → path_of octets ≡ None → ⊥
 path-refused octets refused none =
     elim (fault_of octets) as (λ o. fault_of octets ≡ o → ⊥) [

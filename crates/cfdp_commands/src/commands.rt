@@ -85,7 +85,7 @@ pub enum Command<'a> {
 /// Room for the octets that lines spell. It is used again for each line.
 #[derive(Drop)]
 pub struct CommandRoom {
-    /// The octets of a path. They take no memory, so that a bad line is reported even where memory is refused.
+    /// The octets of a path. They take no memory, so that a bad line is reported even when out of memory.
     path: [u8; LONGEST_PATH],
     /// The octets of a PDU.
     pdu: Vec<u8>,
@@ -241,8 +241,8 @@ fn read_words<'a>(
 ///
 /// # Errors
 ///
-/// [`LineFault::Bad`] exactly if the line says none of these, even where memory is refused; [`LineFault::Memory`] out
-/// of memory, which only the octets of a PDU take.
+/// [`LineFault::Bad`] exactly if the line says none of these, even when out of memory; [`LineFault::Memory`] out of
+/// memory, which only the octets of a PDU take.
 pub fn read_command<'a>(
     line: &[u8],
     room: &'a mut CommandRoom,

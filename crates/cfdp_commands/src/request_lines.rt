@@ -22,7 +22,7 @@ use std::alloc::{AllocError, Global};
 pub(crate) enum NoRequest {
     /// It is dropped.
     Dropped(DroppedLine),
-    /// Memory was refused.
+    /// Out of memory.
     Memory,
 }
 

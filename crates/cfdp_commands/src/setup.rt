@@ -172,8 +172,8 @@ impl Setup {
         Ok(())
     }
 
-    /// A path is protected, by the octets that spell it. A line that is bad is reported even where memory is
-    /// refused: so whether one more path may be protected is tested first.
+    /// A path is protected, by the octets that spell it. A line that is bad is reported even when out
+    /// of memory: so whether one more path may be protected is tested first.
     ///
     /// # Errors
     ///

@@ -57,8 +57,8 @@ impl<S: Filestore> Shared<S> {
     ///
     /// # Errors
     ///
-    /// [`Stop::Memory`] where memory was refused, for the receipt or to the core, and [`Stop::JournalFull`] where the
-    /// journal is full. Nothing changes, and the event is dropped.
+    /// [`Stop::Memory`] out of memory, for the receipt or in the core, and [`Stop::JournalFull`] where the journal is
+    /// full. Nothing changes, and the event is dropped.
     pub fn accept<R: Wait>(
         &self,
         rt: &R,

@@ -10,7 +10,7 @@ use std::fmt;
 /// Why an event was not taken, and no further ones are handed in.
 #[derive(Clone, Copy, Debug, PartialEq, Eq)]
 pub enum Stop {
-    /// Memory was refused; the event can be handed in again.
+    /// Out of memory; the event can be handed in again.
     Memory,
     /// The journal is full.
     JournalFull,

@@ -203,7 +203,7 @@ fn serve_all<S: Filestore, R: Wait, G: Gate>(
 /// counted. No lock is held while it waits for a message, is at the gate or reads a PDU. The room of a message in what
 /// it took is made before it is received. Cost: for each message that of [`Shared::accept`], and of reading a PDU.
 ///
-/// It stops where memory is refused, or the journal is full.
+/// It stops out of memory, or where the journal is full.
 pub fn work<S: Filestore, R: Wait, G: Gate>(
     rt: &R,
     alloc: Global,

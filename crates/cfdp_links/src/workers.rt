@@ -86,7 +86,7 @@ fn join_all<R: Threads>(
 ///
 /// # Errors
 ///
-/// Memory was refused, or a thread could not be started.
+/// Out of memory, or a thread could not be started.
 pub fn run_all<R: Threads + Wait + Sync, G: Gate + Sync>(
     rt: &R,
     alloc: Global,

@@ -408,7 +408,7 @@ fn read_worded<'a>(
 /// # Errors
 ///
 /// The first of these: [`Wrong::TooLong`] (also of a comment), [`Wrong::UnknownWord`], [`Wrong::TooLate`],
-/// [`Wrong::Expected`]; then those of the line's word. A bad line is reported even where there is no memory, but for
+/// [`Wrong::Expected`]; then those of the line's word. A bad line is reported even when out of memory, but for
 /// [`Wrong::NoPath`]: [`CommandFault::Memory`] comes only where a path is read, or where the line is good and has
 /// octets or a line in it.
 ///

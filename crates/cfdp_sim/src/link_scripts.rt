@@ -218,8 +218,8 @@ fn text_of_scripts<R: Threads + Wait + Sync, G: Gate + Sync>(
 ///
 /// # Errors
 ///
-/// [`LinkFault::BadLine`] for the first bad line of the first file that has one; [`LinkFault::Memory`] where memory was
-/// refused or a thread could not be started; [`LinkFault::JournalFull`] where the journal was full (of several workers
+/// [`LinkFault::BadLine`] for the first bad line of the first file that has one; [`LinkFault::Memory`] out of memory
+/// or where a thread could not be started; [`LinkFault::JournalFull`] where the journal was full (of several workers
 /// that stopped the one with the lowest seat decides); [`LinkFault::ReceiptsDiffer`] where a worker did not take what
 /// its file says, the receipts are not the journal, or the entity has not the configuration of the files;
 /// [`LinkFault::Write`] where the writer failed: then a beginning of the text was written, as far as the writer shows.

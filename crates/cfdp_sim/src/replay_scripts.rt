@@ -30,7 +30,7 @@ use std::alloc::Global;
 /// hexadecimal, no pair of digits, no path, a ninth path, numbers outside the configuration's limits, `config` that is
 /// not the first, `protect` after any line but these two; [`RunFault::Read`] where the reader failed, or gave more
 /// than 268,435,456 octets, unless a line is bad that ends within those or is too long within them; [`RunFault::Write`]
-/// where the writer failed; [`RunFault::Memory`] where memory was refused.
+/// where the writer failed; [`RunFault::Memory`] out of memory.
 ///
 /// Memory: the receiving entity, one line and what it wrote. Cost: one pass over the octets, and that of the events.
 pub fn replay<R: ScriptIn, W: ScriptOut>(

@@ -5,7 +5,7 @@
 --     with_node W p node        a directory or a file is put at a path, and nothing else changes
 --     put_fault W p node        the first reason, in the order of tests, for which it can't be put
 --                               there;  filestore_fault: by a filestore with `free` free blocks
---     IsNotPut W p node why     it is this reason, or memory was refused
+--     IsNotPut W p node why     it is this reason, or out of memory
 --     StartIsEmpty              `start` is the start over the empty filestore
 --     EmptyIsGood, PutIsGood    that one is good;  and one stays good with what is put there
 --     PutIsSound                what is put keeps an entity sound

@@ -1,6 +1,6 @@
 -- What the program keeps of the receiving entity beside the store: its configuration, the table, and what follows from
 -- the table, the leases and the budget of blocks.
---     IsAnswered reply          memory was not refused
+--     IsAnswered reply          any reply but Memory
 use Rattle.std.specs.Prelude.{⊤}
 use Rattle.cfdp_transactions.specs.Events.{Reply}
 

@@ -3,9 +3,9 @@
 --     IsReady W e n             the entry's item n: it is there, and may be performed
 --     HasRoomFor W e received   octets that may be staged for the entry
 --     StepNeeds, DataNeeds, TakeNeeds   for each entry of a sound world
---     Follows W event reply V   what a call may do: nothing, where memory was refused, and else what the table says
+--     Follows W event reply V   what a call may do: nothing, if out of memory, and else what the table says
 --     FollowsIsSound            then the world stays sound
---     may_lack_memory thrifty event   whether the event may be refused memory, where the store takes none, or some
+--     may_lack_memory thrifty event   whether the event may run out of memory, where the store takes none, or some
 --     OnlyTakeHandsOut          no other event's reply has an outcome
 use Rattle.std.specs.Prelude.{◌≡◌, ℕ, ◌+◌, ◌-◌, max, ◌≤◌, Bool, true, false, not, IsTrue, IsFalse, length, Some, slice_get}
 use Rattle.std.specs.List.{AllByRecursion}

@@ -27,8 +27,8 @@ use cfdp_paths::Memory;
 use cfdp_pdus::Piece;
 use cfdp_pdus::condition::FILE_SIZE_ERROR;
 
-/// File data of the transaction at an index. Where memory is refused, nothing has changed. Costs by its octets and the
-/// pieces that they touch. If no octet is missing any more after an EOF PDU, the store is asked for the checksum, once.
+/// File data of the transaction at an index. Out of memory, nothing has changed. Costs by its octets and the pieces
+/// that they touch. If no octet is missing any more after an EOF PDU, the store is asked for the checksum, once.
 pub(crate) fn receive<S: Filestore>(
     store: &mut S,
     books: &mut Books,

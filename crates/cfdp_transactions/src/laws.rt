@@ -121,7 +121,7 @@ pub fn what_was_read_is_readable()
     ensures { ReadIsReadable }
 {}
 
-/// A call that does what the table says, or nothing where memory was refused, keeps an entity sound.
+/// A call that does what the table says, or nothing when out of memory, keeps an entity sound.
 pub fn follows_is_sound()
     ensures { FollowsIsSound }
 {

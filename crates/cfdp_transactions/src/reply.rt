@@ -45,7 +45,7 @@ pub enum Reply {
     NotForUs,
     /// There are 64 transactions.
     TableFull,
-    /// Memory was refused, and nothing changed.
+    /// Out of memory: nothing changed.
     Memory,
     /// The journal is full: the event was not taken.
     JournalFull,

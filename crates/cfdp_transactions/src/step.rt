@@ -30,8 +30,8 @@ pub(crate) fn book_quota(quota: &mut Quota, slot: u8, before: u32, after: u32)
     }
 }
 
-/// The next item of the transaction at an index is performed (CCSDS 727.0-B-5, filestore procedures). Where memory is
-/// refused, nothing has changed.
+/// The next item of the transaction at an index is performed (CCSDS 727.0-B-5, filestore procedures). Out of memory,
+/// nothing has changed.
 pub(crate) fn step<S: Filestore>(store: &mut S, books: &mut Books, index: usize) -> Reply
     requires laws { LowerLaws }
     requires sound { Sound (world_of (S.state store.old) books.old) }

@@ -31,8 +31,8 @@ use cfdp_tlv::{FilestoreRequest, FilestoreResponse};
 use std::alloc::Global;
 use std::sync::Arc;
 
-/// The transaction at an index is forgotten, and its outcome handed out: the reply, twice. Where memory is refused
-/// nothing has changed. Cost: a copy of its requests' names.
+/// The transaction at an index is forgotten, and its outcome handed out: the reply, twice. Out of memory, nothing has
+/// changed. Cost: a copy of its requests' names.
 pub(crate) fn take<S: Filestore>(
     alloc: Global,
     store: &S,
@@ -58,9 +58,8 @@ pub(crate) fn take<S: Filestore>(
     (Reply::Taken(outcome), Reply::Taken(again))
 }
 
-/// Like `take`, but returns the reply once: the names of the requests are moved into the outcome. Where memory is
-/// refused nothing has changed. Cost: two allocations, a move of each request, and the drop of the rest of what the
-/// table has.
+/// Like `take`, but returns the reply once: the names of the requests are moved into the outcome. Out of memory,
+/// nothing has changed. Cost: two allocations, a move of each request, and the drop of the rest of what the table has.
 pub(crate) fn take_moved<S: Filestore>(
     alloc: Global,
     store: &S,
@@ -95,7 +94,7 @@ pub(crate) fn take_moved<S: Filestore>(
 }
 
 /// Like `take`, for an outcome that the caller made before: the transaction at an index is forgotten, and the outcome
-/// handed out. Where memory is refused nothing has changed. Cost: one allocation.
+/// handed out. Out of memory, nothing has changed. Cost: one allocation.
 pub(crate) fn hand_out<S: Filestore>(
     alloc: Global,
     store: &S,

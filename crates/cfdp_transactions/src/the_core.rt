@@ -311,11 +311,11 @@ impl<S: Filestore> Core<S> {
     /// Takes an event (CCSDS 727.0-B-5, the procedures at the receiving entity): the reply, and the world after it, are
     /// those of the table of events.
     ///
-    /// Where memory is refused the reply is [`Reply::Memory`] and the world is as before: the event can be handed in
-    /// again. Over a store that takes no memory only Metadata and Take get that reply. Over any store an EOF PDU, a
-    /// request to cancel and a check never get it. Nor does Take of a transaction that is live or not known, nor a
-    /// Metadata PDU that is for another entity, that came before, that has more than 64 requests, or that comes while
-    /// the table is full. Journal-full is no reply of the core.
+    /// Out of memory, the reply is [`Reply::Memory`] and the world is as before: the event can be handed in again. Over
+    /// a store that takes no memory only Metadata and Take get that reply. Over any store an EOF PDU, a request to
+    /// cancel and a check never get it. Nor does Take of a transaction that is live or not known, nor a Metadata PDU
+    /// that is for another entity, that came before, that has more than 64 requests, or that comes while the table is
+    /// full. Journal-full is no reply of the core.
     ///
     /// Cost: that of what the event brings. Metadata costs what [`verify`](cfdp_verifier::verify) does and one copy of
     /// it. File data costs its octets and the pieces that they touch, and what the store takes to reach its offset.

@@ -1,4 +1,4 @@
-//! What no clause says: what comes at each stage, and what is left where memory is refused. `actor` hands inputs to a
+//! What no clause says: what comes at each stage, and what is left when out of memory. `actor` hands inputs to a
 //! receiver and writes what it answers; the other modules have the cases, with their texts.
 //!
 //! Whole scripts are text: `examples/run` has them, and `.ci/run_scripts` runs them.

@@ -1,4 +1,4 @@
-//! What no clause says, and no run of the program shows: streams that fail, memory that is refused, workers that wait
+//! What no clause says, and no run of the program shows: streams that fail, running out of memory, workers that wait
 //! for each other. The scripts that the program runs, with what it prints, are in `.ci/cases`.
 mod ends;
 mod failing;

@@ -1,6 +1,6 @@
 -- What is put into the filestore while no transaction is known.
 --     CanPut W p node       nothing is in the way: can_put, no_fault
---     no_memory             what is in the way is never that memory was refused
+--     no_memory             the reason that is found is never Memory
 --     file_weight           the blocks of a file
 --     put_good, put_sound   a filestore to begin with stays one;  an entity stays sound
 --     put_keeps             an entity is sound after a call
@@ -62,7 +62,7 @@ no_fault W p node can =
     (skipped _ NoParent _ (ap not can.parent)
     (skipped _ NoRoom None (le-ltb (free W) (weight (Some node)) can.room) refl)))
 
--- a reason that is found is never that memory was refused
+-- a reason that is found is never Memory
 found : (b : Bool) (say : NotPut) (x : Option NotPut) (why : NotPut) → say ≢ Memory → (x ≡ Some why → why ≢ Memory) → (if b then Some say else x) ≡ Some why →
     why ≢ Memory
 found true say x why other later is = λ memory. other (let same : say ≡ why = cc in same ∙ memory)

@@ -7,7 +7,7 @@
 --     IsLiveAt W k              the entry at k is live
 --     EndsAt, TurnsAt           the entry at k ends;  moves to another phase;  and nothing else changes
 --     IsDoneAt, IsBareAt        the entry at k is done;  it has no items
---     Carries W V answer reply  a call answered so, or memory was refused
+--     Carries W V answer reply  a call answered so, or out of memory
 --     AnswersAt W V k f reply   to an event of the entry at k the reply and the next world are what f says
 --     IsTakenAt W k piece       file data that the entry at k takes;  StoresAt: it is staged for it, and nothing else
 --                               changes
@@ -74,7 +74,7 @@ IsDoneAt W V k = (e : Entry) → slice_get W.table k ≡ Some e → V ≡ turns 
 abbrev pub IsBareAt : World → ℕ → Type 0
 IsBareAt W k = (e : Entry) → slice_get W.table k ≡ Some e → e.items ≡ []
 
--- memory was refused and nothing changed, or the world after and the reply are the answer
+-- out of memory, nothing changed; otherwise the world after and the reply are the answer
 abbrev pub Carries : World → World → World × Reply → Reply → Type 0
 Carries W V answer Reply.Memory = V ≡ W
 Carries W V answer reply = answer ≡ (V, reply)

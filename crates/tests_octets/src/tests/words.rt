@@ -1,4 +1,4 @@
-//! PDUs of each kind, in words, where memory is refused (`.ci/refused`). What is shown is in `.ci/cases/show.txt`.
+//! PDUs of each kind, in words, also when out of memory (`.ci/refused`). What is shown is in `.ci/cases/show.txt`.
 
 use cfdp_words::{Style, show};
 use std::alloc::{AllocError, Global};

@@ -1,5 +1,5 @@
 //! A receiver that is handed one input after the other, about one transaction, with the text of its last answer.
-//! Where memory is refused to an input nothing has changed, and the input is handed in again. Nothing but the
+//! An input that is out of memory has changed nothing, and is handed in again. Nothing but the
 //! receiver asks for memory once it is made.
 
 use cfdp_actions::Protected;
@@ -160,7 +160,7 @@ pub(super) struct Actor {
     moment: u64,
     /// How much later the next one is.
     stride: u64,
-    /// Something had changed after memory was refused.
+    /// Something had changed after a call that was out of memory.
     pub(super) has_changed: bool,
 }
 
@@ -170,7 +170,7 @@ fn made(alloc: Global, config: Config) -> Result<Result<Receiver, NotMade>, Allo
     Ok(Receiver::new(alloc, MIB, entity))
 }
 
-/// A receiver, made once more where it was refused memory. `None` of a configuration that is out of range.
+/// A receiver, made once more where it was out of memory. `None` of a configuration that is out of range.
 fn made_at_last(alloc: Global) -> Result<Option<Receiver>, AllocError> {
     for _ in 0..2 {
         let Ok(config) = Config::new(2, 64, 2_400, 2, 1_000, Protected::new()) else {
@@ -231,7 +231,7 @@ impl Actor {
         }
     }
 
-    /// Memory was refused to an input, and it was handed in again, at the moment of the input before it. All was as
+    /// An input was out of memory, and it was handed in again, at the moment of the input before it. All was as
     /// before then, and its own moment was not noted: no timer runs from it.
     fn was_refused(&mut self, before: &Seen, between: &Seen) {
         let late = self.moment.saturating_add(self.stride);
@@ -270,7 +270,7 @@ impl Actor {
         }
     }
 
-    /// Like `hand_in`, once more where memory was refused.
+    /// Like `hand_in`, once more where it was out of memory.
     fn hand_in_at_last(&mut self, alloc: Global, octets: &[u8]) -> Result<Answer, Dropped> {
         let before = self.seen();
         let next = self.moment.saturating_add(self.stride);
@@ -297,7 +297,7 @@ impl Actor {
         }
     }
 
-    /// The outcome of the first transaction that is over is taken, once more where memory was refused.
+    /// The outcome of the first transaction that is over is taken, once more where that was out of memory.
     fn finish(&mut self, alloc: Global) -> Result<(), AllocError> {
         let before = self.seen();
         let next = self.moment.saturating_add(self.stride);

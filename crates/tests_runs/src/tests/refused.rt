@@ -1,4 +1,4 @@
-//! Transactions with memory refused: only a receiver that is made, a Metadata PDU and an outcome that is taken ask
+//! Transactions that run out of memory: only a receiver that is made, a Metadata PDU and an outcome that is taken ask
 //! for some. After a refusal nothing has changed, and the call can be made again (`rt try --test --fail-alloc 1..`
 //! refuses each call in turn). `lines` has the same for the lines of a script.
 
@@ -222,7 +222,7 @@ const WITHOUT_CLOSURE: Steps = &[
     ),
 ];
 
-/// Each step is answered by its text, and nothing has changed where memory was refused.
+/// Each step is answered by its text, and nothing has changed where it was out of memory.
 fn all_hold<R: Abort + Print>(
     rt: &R,
     alloc: Global,

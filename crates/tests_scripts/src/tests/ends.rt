@@ -16,7 +16,7 @@ fn has_line(alloc: Global, end: ProgramEnd, line: &str) -> Result<bool, AllocErr
     Ok(printed.as_str() == line)
 }
 
-/// Whether these are the end's status and line. Where memory is refused, the line is printed once more.
+/// Whether these are the end's status and line. Out of memory, the line is printed once more.
 fn is_end(alloc: Global, end: ProgramEnd, status: u8, line: &str) -> bool {
     let is_line = has_line(alloc, end, line) == Ok(true) || has_line(alloc, end, line) == Ok(true);
     is_line && end.status() == status

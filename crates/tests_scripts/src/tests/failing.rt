@@ -189,8 +189,7 @@ static REFUSED: [(&str, Example); 4] = [
     ),
 ];
 
-/// Where memory is refused, it is reported, and what was written is a beginning of the report; run once more, all is
-/// written.
+/// Out of memory, that is reported, and what was written is a beginning of the report; run once more, all is written.
 #[test]
 fn memory(rt: HostRuntime) {
     all_hold(&rt, rt.alloc(), &EXAMPLES);
@@ -414,7 +413,7 @@ fn end_of_unwritten(alloc: Global, example: &Example) -> Result<(), RunFault> {
     }
 }
 
-/// Like `end_of_unwritten`, of a second run where memory was refused to the first one.
+/// Like `end_of_unwritten`, of a second run where the first one ran out of memory.
 fn end_of_unwritten_at_last(alloc: Global, example: &Example) -> Result<(), RunFault> {
     match end_of_unwritten(alloc, example) {
         Err(RunFault::Memory) => end_of_unwritten(alloc, example),

@@ -89,7 +89,7 @@ pub(super) struct Writer {
     stream: Stream,
     calls: usize,
     failed: bool,
-    /// Whether it failed since it was refused memory for its own text.
+    /// Whether it failed since it ran out of memory for its own text.
     pub(super) refused: bool,
 }
 

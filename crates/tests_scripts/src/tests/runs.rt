@@ -1,5 +1,5 @@
-//! Runs of `plain` and of `replay` that are made once more where memory is refused (`rt try --test --fail-alloc N`).
-//! With every allocation granted each runs once.
+//! Runs of `plain` and of `replay` that are made once more where they are out of memory
+//! (`rt try --test --fail-alloc N`). With every allocation granted each runs once.
 use super::fakes::{Reader, Stream, Writer};
 use cfdp_sim::{RunFault, ScriptIn, ScriptOut, plain, plain_text, replay, replay_text};
 use std::alloc::Global;
@@ -35,13 +35,13 @@ impl<'a> Ran<'a> {
         report.as_bytes().starts_with(&self.writer.text)
     }
 
-    /// Whether the run was refused memory, or its writer was.
+    /// Whether the run was out of memory, or its writer was.
     fn was_refused(&self) -> bool {
         self.writer.refused || self.end == Err(RunFault::Memory)
     }
 
     /// Whether that is reported and nothing else has failed, and a beginning of the report was written, in whole lines
-    /// unless the writer was refused memory.
+    /// unless the writer was out of memory.
     fn reports_that_alone(&self, report: &str) -> bool {
         let refused = self.writer.refused;
         let text = &self.writer.text;
@@ -88,7 +88,7 @@ impl<'a> Run<'a> {
         }
     }
 
-    /// Runs the script. Where memory is refused, to it or to the writer, that is reported and it runs once more over
+    /// Runs the script. Where it or the writer is out of memory, that is reported and it runs once more over
     /// streams made anew.
     pub(super) fn run<R: Abort + Print>(&self, rt: &R, alloc: Global) -> Ran<'a> {
         let ran = self.once(alloc);
@@ -122,7 +122,7 @@ fn is_text(alloc: Global, kind: Kind, script: &[u8], report: &[u8]) -> Result<bo
     }
 }
 
-/// Whether the text of a script in memory is the report, made once more where memory is refused.
+/// Whether the text of a script in memory is the report, made once more where it was out of memory.
 fn is_text_at_last<R: Print>(
     rt: &R,
     alloc: Global,

@@ -23,7 +23,7 @@ const LINES: &[Line] = &[
     (b"expect", Some(Wrong::Expected(FirstWord::Expect))),
 ];
 
-/// What is wrong with a line, or that memory was refused to it.
+/// What is wrong with a line, or that it was out of memory.
 fn fault_of(alloc: Global, line: &[u8]) -> Option<CommandFault> {
     read_command(alloc, line, default_mib(), HeadProgress::Fresh).err()
 }
