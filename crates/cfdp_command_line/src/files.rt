@@ -65,10 +65,7 @@ fn open_all<O: Opens>(files: &O, alloc: Global, paths: &[&str]) -> Result<Vec<O:
 {
     let mut opened = Vec::new(alloc);
     for path in paths {
-        let file = match files.open(path) {
-            Ok(file) => file,
-            Err(error) => return Err(error),
-        };
+        let file = files.open(path)?;
         let Ok(()) = opened.push(file) else {
             return Err(RunFault::Memory);
         };
@@ -109,10 +106,7 @@ fn read_each<I: Read + Drop>(alloc: Global, inputs: Vec<I>) -> Result<Vec<Vec<u8
 {
     let mut scripts = Vec::new(alloc);
     for input in inputs {
-        let script = match read_whole(alloc, input) {
-            Ok(script) => script,
-            Err(error) => return Err(error),
-        };
+        let script = read_whole(alloc, input)?;
         let Ok(()) = scripts.push(script) else {
             return Err(RunFault::Memory);
         };
@@ -142,9 +136,6 @@ pub fn read_all<O: Opens>(
         (λ script. length script.items ≤ input_limit) scripts.items) }
     ensures ends { IfErr result IsInputFault }
 {
-    let opened = match open_all(files, alloc, paths) {
-        Ok(opened) => opened,
-        Err(error) => return Err(error),
-    };
+    let opened = open_all(files, alloc, paths)?;
     read_each(alloc, opened)
 }

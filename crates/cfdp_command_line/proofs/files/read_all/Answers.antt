@@ -6,11 +6,12 @@ pub returns-clause-read : goal.returns-clause-read
 returns-clause-read g c =
     if_ok _ _ c.read_each.result
     (λ scripts read. paired_through _ _ _ (λ path file script opened whole. record { file = file; opened = opened; whole = whole })
-    c.args.paths.now c.in-Ok.opened.items scripts.items c.in-Ok.ensures.opened read)
+    c.args.paths.now c.in_ok-opened.opened.items scripts.items c.in_ok-opened.ensures.opened read)
     c.read_each.ensures.read
 
 pub returns-clause-each : goal.returns-clause-each
 returns-clause-each g c =
+    let opened = c.in_ok-opened.opened.items in
     if_ok _ _ c.read_each.result
-    (λ scripts read. paired_length _ c.in-Ok.opened.items scripts.items read ∙ paired_length _ c.args.paths.now c.in-Ok.opened.items c.in-Ok.ensures.opened)
+    (λ scripts read. paired_length _ opened scripts.items read ∙ paired_length _ c.args.paths.now opened c.in_ok-opened.ensures.opened)
     c.read_each.ensures.read
