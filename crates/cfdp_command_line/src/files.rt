@@ -58,7 +58,7 @@ impl<F: Files> Opens for F {
 ///
 /// # Errors
 ///
-/// The first file that cannot be opened ends it, with the fault of [`Opens::open`]; so does a refusal of memory.
+/// The first file that cannot be opened ends it, with the fault of [`Opens::open`]; `Memory` out of memory.
 fn open_all<O: Opens>(files: &O, alloc: Global, paths: &[&str]) -> Result<Vec<O::Opened>, RunFault>
     ensures opened { IfOk result (λ opened. AllPaired (λ path file. O.IsOpened path.now file) paths.now opened.items) }
     ensures ends { IfErr result IsInputFault }
@@ -96,7 +96,7 @@ pub fn read_whole<I: Read + Drop>(alloc: Global, input: I) -> Result<Vec<u8>, Ru
 ///
 /// # Errors
 ///
-/// The first input that cannot be read ends it, with the fault of [`read_whole`]; so does a refusal of memory.
+/// The first input that cannot be read ends it, with the fault of [`read_whole`]; `Memory` out of memory.
 fn read_each<I: Read + Drop>(alloc: Global, inputs: Vec<I>) -> Result<Vec<Vec<u8>>, RunFault>
     ensures read { IfOk result (λ scripts. AllPaired (λ input script. IsWhole (I.remaining input) script.items)
         inputs.items scripts.items) }
