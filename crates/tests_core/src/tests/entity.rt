@@ -208,7 +208,7 @@ fn apply<S: Filestore>(rt: &impl Abort, core: &mut Core<S>, event: &Event, twice
     reply
 }
 
-/// What stays the same when memory is refused: how far a transaction is, what it was granted and whether it holds
+/// What stays the same when out of memory: how far a transaction is, what it was granted and whether it holds
 /// leases, the free blocks and those to spare, and the first transaction that is performed.
 type Books = (
     Option<Phase>,
@@ -233,7 +233,7 @@ fn may_lack_memory<S: Filestore>(core: &Core<S>, event: &Event) -> bool {
     !core.store().takes_no_memory() || matches!(event, Event::Metadata(..) | Event::Take(_))
 }
 
-/// The reply; where memory is refused, which may be, nothing has changed, and the same event is handed in again.
+/// The reply; out of memory, which may be, nothing has changed, and the same event is handed in again.
 fn hand_in<S: Filestore>(
     rt: &impl Abort,
     alloc: Global,

@@ -1,5 +1,5 @@
 //! A journal of sixteen entries that some Metadata PDUs filled in part: worked transactions go on until it is full, and
-//! nothing goes in from then on. An event for which memory was refused is handed in once more.
+//! nothing goes in from then on. An event that was out of memory is handed in once more.
 
 use super::entity::{Given, Replied, id, is_replied};
 use cfdp_actions::{Entry, Filestore, Protected};
@@ -120,7 +120,7 @@ fn seen(alloc: Global, journaled: &JournaledTree) -> Result<Seen, Memory> {
     Ok((listing, core.spare(), journaled.journal().len(), phases))
 }
 
-/// The reply to an event. Where memory is refused or the journal is full, nothing has changed.
+/// The reply to an event. Out of memory, or where the journal is full, nothing has changed.
 fn accept(
     rt: &impl Abort,
     alloc: Global,
@@ -139,7 +139,7 @@ fn accept(
     Ok(reply)
 }
 
-/// Whether an event is replied to so. Where memory is refused the same event is handed in again.
+/// Whether an event is replied to so. Out of memory, the same event is handed in again.
 fn replies(
     rt: &impl Abort,
     alloc: Global,

@@ -153,7 +153,7 @@ fn put_in(core: &mut Core<ListStore>, path: &Path, octets: &Option<Vec<u8>>) -> 
     }
 }
 
-/// Where memory is refused, all is as before, and the same call can be made again.
+/// Out of memory, all is as before, and the same call can be made again.
 #[test]
 fn memory(rt: HostRuntime) -> Result<(), Memory> {
     let alloc = rt.alloc();

@@ -1,6 +1,6 @@
 //! Verdicts that no program prints: the call of the repository's `docs/GUIDE.md`, needs that no u32 says, and verdicts
-//! for which memory is refused (`rt try --test --fail-alloc N` refuses the Nth growth, and no other). All other worked
-//! lists are in `.ci/cases/admission.txt`.
+//! that run out of memory (`rt try --test --fail-alloc N` refuses the Nth growth, and no other). All other worked lists
+//! are in `.ci/cases/admission.txt`.
 
 use super::scene::{Before, Scene, parse};
 use cfdp_actions::{Entry, Filestore};
@@ -135,7 +135,7 @@ static LISTS: [Row; 5] = [
     ),
 ];
 
-/// What stays the same when memory is refused: what exists, the first transaction in the way of a list that deletes
+/// What stays the same when out of memory: what exists, the first transaction in the way of a list that deletes
 /// `x`, and the blocks to spare.
 type Seen = (Vec<Entry>, Option<TransactionId>, u32);
 
@@ -147,7 +147,7 @@ fn seen(rt: &impl Abort, alloc: Global, scene: &Scene) -> Result<Seen, Memory> {
     Ok((listing, user, scene.quota(rt).spare()))
 }
 
-/// What is said of a list. Where memory is refused instead, all is as before, and the next answer is the verdict.
+/// What is said of a list. Out of memory instead, all is as before, and the next answer is the verdict.
 fn judge(rt: &impl Abort, alloc: Global, scene: &Scene, row: &Row) -> Result<String, Memory> {
     let (file, tlvs, said) = *row;
     let before = seen(rt, alloc, scene)?;

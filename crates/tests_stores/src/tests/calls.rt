@@ -8,8 +8,8 @@ use cfdp_paths::{Memory, Path};
 use cfdp_status::Action;
 use std::alloc::{AllocError, Global};
 
-/// The path that the octets spell, also where memory is refused at first. They spell one, so that only memory can be
-/// refused.
+/// The path that the octets spell, also where it is out of memory at first. They spell one, so that it can fail only
+/// out of memory.
 pub fn parsed(alloc: Global, octets: &[u8]) -> Result<Path, Memory> {
     if let Ok(path) = Path::parse(alloc, octets) {
         return Ok(path);

@@ -12,7 +12,7 @@ use std::process::Abort;
 
 /// A row of a table of worked cases.
 pub trait Row {
-    /// Whether all is as the row says; `Err` where memory is refused.
+    /// Whether all is as the row says; `Err` out of memory.
     fn holds(&self, alloc: Global) -> Result<bool, AllocError>;
 }
 

@@ -153,7 +153,7 @@ fn conflicts(leases: &Leases, probes: &[Footprint; 2]) -> [Option<TransactionId>
     [leases.conflict(&probes[0]), leases.conflict(&probes[1])]
 }
 
-/// Leases a footprint. If memory is refused, the leases are as before, and it is leased when it is asked for again.
+/// Leases a footprint. Out of memory, the leases are as before, and it is leased when it is asked for again.
 fn lease(
     rt: &impl Abort,
     leases: &mut Leases,

@@ -80,8 +80,8 @@ fn joined(alloc: Global, names: Names<'_>) -> Result<Vec<u8>, Memory> {
     Ok(text)
 }
 
-/// The names of the path that the octets spell, with `|` after each. They spell one, so that only memory can be
-/// refused.
+/// The names of the path that the octets spell, with `|` after each. They spell one, so that it can fail
+/// only out of memory.
 fn names(alloc: Global, octets: &[u8]) -> Result<Vec<u8>, Memory> {
     let mut octets = Vec::from_slice(alloc, octets)?;
     if Names::fault_in(&octets).is_some() {

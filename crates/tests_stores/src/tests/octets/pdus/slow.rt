@@ -48,7 +48,7 @@ fn second_name(action: Action, octets: &[u8]) -> Option<(Option<&[u8]>, &[u8])>
     }
 }
 
-// What was made, or that memory was refused.
+// What was made, or out of memory.
 fn in_memory<T: Drop>(made: Result<T, AllocError>) -> Result<T, PduFault> {
     match made {
         Ok(made) => Ok(made),
