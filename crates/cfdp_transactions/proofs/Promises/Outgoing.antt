@@ -80,6 +80,9 @@ pub record AnswerFits (a : World × Reply) : Type 0 where
   pub reply : FitsReply a.1
 
 module _ (W : World) (all : Each IsSendable W.table) where
+  stays_fit : (reply : Reply) → FitsReply reply → AnswerFits (W, reply)
+  stays_fit reply fits = record { table = all; reply = fits }
+
   module _ (k : ℕ) (e : Entry) (at : slice_get W.table k ≡ Some e) where
     changed_fits : (changes : List Change) (new : Entry) → IsSendable new → Each IsSendable (change_at W k changes new).table
     changed_fits changes new s = set_each (λ _ (d : Entry). IsSendable d) W.table k new s (λ j d here ne. all j d here)
@@ -90,9 +93,6 @@ module _ (W : World) (all : Each IsSendable W.table) where
         AnswerFits (change_at W k changes new, reply)
     goes_to changes new phase reply header metadata is small fits = record
         { table = changed_fits changes new (sendable_in e phase new (all k e at) header metadata is small); reply = fits }
-
-    stays_fit : (reply : Reply) → FitsReply reply → AnswerFits (W, reply)
-    stays_fit reply fits = record { table = all; reply = fits }
 
     ends_fit : (now : Entry) (condition : ℕ) (reply : Reply) → now.header ≡ e.header → now.metadata ≡ e.metadata → condition < 16 → FitsReply reply →
         AnswerFits (ends W k now condition, reply)
@@ -179,39 +179,36 @@ module _ (W : World) (all : Each IsSendable W.table) (k : ℕ) (e : Entry) (at :
   there = get_set_same W.table k new e at
 
   after_eof_fits : (eof : Option Eof) → AnswerFits (after_eof eof V k new)
-  after_eof_fits None = stays_fit V all_now k new there Reply.Stored tt
+  after_eof_fits None = stays_fit V all_now Reply.Stored tt
   after_eof_fits (Some eof) = cond_both (is_whole eof.size new.received) _ _ AnswerFits (λ _. whole_fits V all_now k new there eof.checksum)
-      (λ _. stays_fit V all_now k new there Reply.Stored tt)
+      (λ _. stays_fit V all_now Reply.Stored tt)
 
   stored_fits : (phase : Phase) → AnswerFits (stored phase V k new)
   stored_fits (Awaiting checks) = after_eof_fits e.eof
-  stored_fits Receiving = stays_fit V all_now k new there Reply.Stored tt
-  stored_fits (Executing n) = stays_fit V all_now k new there Reply.Stored tt
-  stored_fits Refused = stays_fit V all_now k new there Reply.Stored tt
-  stored_fits Done = stays_fit V all_now k new there Reply.Stored tt
-  stored_fits (Ended condition) = stays_fit V all_now k new there Reply.Stored tt
+  stored_fits Receiving = stays_fit V all_now Reply.Stored tt
+  stored_fits (Executing n) = stays_fit V all_now Reply.Stored tt
+  stored_fits Refused = stays_fit V all_now Reply.Stored tt
+  stored_fits Done = stays_fit V all_now Reply.Stored tt
+  stored_fits (Ended condition) = stays_fit V all_now Reply.Stored tt
 
   data_fits : AnswerFits (data_came W k piece (Some e))
   data_fits =
       cond_both (takes_data e.phase) _ _ AnswerFits
-      (λ _. cond_both (length piece.octets == 0) _ _ AnswerFits (λ _. stays_fit W all k e at Reply.Stored tt)
+      (λ _. cond_both (length piece.octets == 0) _ _ AnswerFits (λ _. stays_fit W all Reply.Stored tt)
       (λ _. cond_both (nat_lt (limit e.phase W.config e) (piece.offset + length piece.octets)) _ _ AnswerFits
       (λ _. ends_fit W all k e at e 6 (Reply.Faulted 6) refl refl (omega arith) tt)
-      (λ _. cond_both (nat_lt 32 (pieces received)) _ _ AnswerFits (λ _. stays_fit W all k e at Reply.Dropped tt) (λ _. stored_fits e.phase))))
-      (λ _. stays_fit W all k e at Reply.Idle tt)
+      (λ _. cond_both (nat_lt 32 (pieces received)) _ _ AnswerFits (λ _. stays_fit W all Reply.Dropped tt) (λ _. stored_fits e.phase))))
+      (λ _. stays_fit W all Reply.Idle tt)
 
 module _ (W : World) (all : Each IsSendable W.table) where
-  nothing_changes : (reply : Reply) → FitsReply reply → AnswerFits (W, reply)
-  nothing_changes reply fits = record { table = all; reply = fits }
-
   added_fits : (new : Entry) (reply : Reply) → IsSendable new → FitsReply reply → AnswerFits (with_new W new, reply)
   added_fits new reply s fits = record { table = append_each (λ _ (d : Entry). IsSendable d) W.table new s (λ j d here. all j d here); reply = fits }
 
   metadata_fits : (h : Header) (m : MetadataFields) → IsHeader h → AllByRecursion IsShort m.requests → (o : Option Entry) → AnswerFits (metadata_came W h m o)
-  metadata_fits h m header requests (Some e) = nothing_changes Reply.Duplicate tt
+  metadata_fits h m header requests (Some e) = stays_fit W all Reply.Duplicate tt
   metadata_fits h m header requests None =
-      cond_both (nat_le 64 (length W.table)) _ _ AnswerFits (λ _. nothing_changes Reply.TableFull tt)
-      (λ _. cond_both (nat_lt 64 (length m.requests)) _ _ AnswerFits (λ _. nothing_changes (Reply.Refused TooManyRequests) tt)
+      cond_both (nat_le 64 (length W.table)) _ _ AnswerFits (λ _. stays_fit W all Reply.TableFull tt)
+      (λ _. cond_both (nat_lt 64 (length m.requests)) _ _ AnswerFits (λ _. stays_fit W all (Reply.Refused TooManyRequests) tt)
       (λ few. cond_both (has_file m && not (is_known_checksum m.checksum_type)) _ _ AnswerFits
       (λ _. added_fits (refused_entry h m (Ended 11)) (Reply.Faulted 11) (record {
         header = header;
@@ -234,25 +231,25 @@ module _ (W : World) (all : Each IsSendable W.table) where
   found_fits f k unknown known (Some e) at = known e at
 
   for_us_fits : (h : Header) (a : World × Reply) → AnswerFits a → AnswerFits (for_us W h a)
-  for_us_fits h a fits = cond_both (h.destination == W.config.entity) a _ AnswerFits (λ _. fits) (λ _. nothing_changes Reply.NotForUs tt)
+  for_us_fits h a fits = cond_both (h.destination == W.config.entity) a _ AnswerFits (λ _. fits) (λ _. stays_fit W all Reply.NotForUs tt)
 
   pub next_fits : (event : Event) → IsReadable event → AnswerFits (next W event)
   next_fits (MetadataCame h m) fits = for_us_fits h _ (metadata_fits h m fits.0 fits.1 (entry_of W (id_of h)))
   next_fits (DataCame h piece) fits =
       let k = index_of W (id_of h) in
-      for_us_fits h (data_came W k piece (entry_of W (id_of h))) (found_fits (λ o. data_came W k piece o) k (nothing_changes Reply.Unknown tt)
+      for_us_fits h (data_came W k piece (entry_of W (id_of h))) (found_fits (λ o. data_came W k piece o) k (stays_fit W all Reply.Unknown tt)
       (λ e at. data_fits W all k e at piece) (entry_of W (id_of h)) refl)
   next_fits (EofCame h eof) fits =
       let k = index_of W (id_of h) in
-      for_us_fits h (eof_came W k eof (entry_of W (id_of h))) (found_fits (λ o. eof_came W k eof o) k (nothing_changes Reply.Unknown tt)
+      for_us_fits h (eof_came W k eof (entry_of W (id_of h))) (found_fits (λ o. eof_came W k eof o) k (stays_fit W all Reply.Unknown tt)
       (λ e at. eof_fits W all k e at eof fits.1) (entry_of W (id_of h)) refl)
-  next_fits (Step id) fits = let k = index_of W id in found_fits (λ o. stepped W k o) k (nothing_changes Reply.Unknown tt)
+  next_fits (Step id) fits = let k = index_of W id in found_fits (λ o. stepped W k o) k (stays_fit W all Reply.Unknown tt)
       (λ e at. step_fits W all k e at e.phase) (entry_of W id) refl
-  next_fits (Cancel id) fits = let k = index_of W id in found_fits (λ o. cancelled W k o) k (nothing_changes Reply.Unknown tt)
+  next_fits (Cancel id) fits = let k = index_of W id in found_fits (λ o. cancelled W k o) k (stays_fit W all Reply.Unknown tt)
       (λ e at. cancelled_fits W all k e at) (entry_of W id) refl
-  next_fits (Check id) fits = let k = index_of W id in found_fits (λ o. checked W k o) k (nothing_changes Reply.Unknown tt)
+  next_fits (Check id) fits = let k = index_of W id in found_fits (λ o. checked W k o) k (stays_fit W all Reply.Unknown tt)
       (λ e at. check_fits W all k e at e.phase) (entry_of W id) refl
-  next_fits (Take id) fits = let k = index_of W id in found_fits (λ o. taken_out W k o) k (nothing_changes Reply.Unknown tt) (λ e at. taken_fits W all k e at)
+  next_fits (Take id) fits = let k = index_of W id in found_fits (λ o. taken_out W k o) k (stays_fit W all Reply.Unknown tt) (λ e at. taken_fits W all k e at)
       (entry_of W id) refl
 
 pub replies_fit : (W : World) (events : List Event) → Each IsSendable W.table → AllByRecursion IsReadable events → AllByRecursion FitsReply (replies W events)
