@@ -26,7 +26,7 @@ use Rattle.cfdp_transactions.specs.World.{World, index_of, entry_of}
 use Rattle.cfdp_transactions.specs.Sound.{Sound, IsKept, longest, longest_in}
 use Rattle.cfdp_receiver.specs.code.StateMachine.{IsTaking}
 use Rattle.cfdp_receiver.specs.Turning.{progress_at, gaps_after}
-use Rattle.cfdp_transactions.proofs.Soundness.Needs.{data_live}
+use Rattle.cfdp_transactions.proofs.Soundness.EachEvent.{data_live}
 use Rattle.std.proofs.lemmas.Option.{same_Some}
 
 pub zeros : (n : ℕ) → length {A = ℕ} (replicate n 0) ≡ n

@@ -24,9 +24,9 @@ use Rattle.cfdp_transactions.proofs.KeptTable.Accounts.{Adjusts}
 use Rattle.cfdp_transactions.proofs.KeptTable.Answering.{entry_is}
 use Rattle.cfdp_transactions.proofs.Balance.{left-spend}
 use Rattle.cfdp_transactions.proofs.KeptTable.Budgets.{reserve_is, taken_here, taken_elsewhere}
-use Rattle.cfdp_transactions.proofs.Soundness.EachEvent.{storing_moves}
+use Rattle.cfdp_transactions.proofs.Soundness.EachEvent.{data_live, storing_moves}
 use Rattle.cfdp_transactions.proofs.Received.FillingGaps.{staged_anew}
-use Rattle.cfdp_transactions.proofs.Soundness.Needs.{data_live, data_needs}
+use Rattle.cfdp_transactions.proofs.Soundness.Needs.{data_needs}
 use Rattle.cfdp_transactions.proofs.Received.RangesAdded.{end_added, pieces_added, pieces_kept}
 use Rattle.cfdp_transactions.proofs.KeptTable.EntryChanged.{entry_at_k, kept_entry, least_spent, most_spent, reserve_open, table_now, booked_now}
 use Rattle.cfdp_transactions.proofs.Soundness.Turning.{length-staged_of, reserve_live}

@@ -31,6 +31,15 @@ use Rattle.cfdp_transactions.proofs.Soundness.Joining.{taken_sound}
 
 -- events that change nothing, or one entry twice ---------------------------------------
 
+-- a transaction that takes file data is live
+pub data_live : (phase : Phase) → IsTrue (takes_data phase) → IsTrue (is_live phase)
+data_live Receiving h = refl
+data_live (Awaiting checks) h = refl
+data_live (Executing next) h = absurd cc
+data_live Refused h = absurd cc
+data_live Done h = absurd cc
+data_live (Ended condition) h = absurd cc
+
 pub stays : (k : ℕ) (W : World) → Sound W → Goes k W W
 stays k W s = record { sound = s; keeps = λ j d at ne live p covered. refl }
 
@@ -271,20 +280,12 @@ module _ (laws : LowerLaws) where
     stored_moves Done is takes first = absurd cc
     stored_moves (Ended condition) is takes first = absurd cc
 
-    takes_live : (phase : Phase) → IsTrue (takes_data phase) → IsTrue (is_live phase)
-    takes_live Receiving h = refl
-    takes_live (Awaiting checks) h = refl
-    takes_live (Executing next) h = absurd cc
-    takes_live Refused h = absurd cc
-    takes_live Done h = absurd cc
-    takes_live (Ended condition) h = absurd cc
-
     pub data_moves : Moves false k e W (data_came W k piece (Some e)).0
     data_moves =
         cond_both (takes_data e.phase) _ _ (λ (a : World × Reply). Moves false k e W a.0)
         (λ takes. cond_both (length piece.octets == 0) _ _ (λ (a : World × Reply). Moves false k e W a.0) (λ _. still_here W k e s at)
         (λ _. cond_both (nat_lt (limit e.phase W.config e) (piece.offset + length piece.octets)) _ _ (λ (a : World × Reply). Moves false k e W a.0)
-        (λ _. ends_here W k e s at 6 (takes_live e.phase takes))
+        (λ _. ends_here W k e s at 6 (data_live e.phase takes))
         (λ below. cond_both (nat_lt 32 (pieces received)) _ _ (λ (a : World × Reply). Moves false k e W a.0) (λ _. still_here W k e s at)
         (λ few. stored_moves e.phase refl takes (storing_moves (ltb-false _ _ few) e.phase refl takes (ltb-false _ _ below))))))
         (λ _. still_here W k e s at)

@@ -13,7 +13,7 @@ use Rattle.cfdp_states.specs.Alone.{stage}
 use Rattle.cfdp_states.proofs.NextItem.{blocks-le-peak}
 use Rattle.cfdp_tlv.specs.Values.{RequestFields, IsRequest, IsResponse}
 use Rattle.cfdp_transactions.specs.Config.{Config}
-use Rattle.cfdp_transactions.specs.Entry.{Phase, Receiving, Awaiting, Executing, Refused, Done, Ended, is_live, takes_data, Entry, rest, reserve, awaited}
+use Rattle.cfdp_transactions.specs.Entry.{Phase, Receiving, Awaiting, Executing, Refused, Done, Ended, takes_data, Entry, rest, reserve, awaited}
 use Rattle.cfdp_transactions.specs.Events.{Reply}
 use Rattle.cfdp_transactions.specs.Outcome.{answered, responses_of}
 use Rattle.cfdp_transactions.specs.World.{World, free, bound}
@@ -26,6 +26,7 @@ use Rattle.cfdp_transactions.specs.Needs.{IsReady, StepNeeds, DataNeeds, TakeNee
 use Rattle.cfdp_transactions.proofs.Soundness.OwnChange.{reserve_within}
 use Rattle.cfdp_transactions.proofs.Soundness.Turning.{length-staged_of, reserve_live}
 use Rattle.cfdp_transactions.proofs.Soundness.Stepping.{enough, succeeded_now, takes_within, steps_within}
+use Rattle.cfdp_transactions.proofs.Soundness.EachEvent.{data_live}
 use Rattle.cfdp_transactions.proofs.Soundness.NextWorld.{next_sound}
 use Rattle.cfdp_transactions.proofs.Promises.Promise.{get_drop}
 
@@ -54,14 +55,6 @@ module _ (laws : LowerLaws) where
   pub follows_sound : FollowsIsSound
   follows_sound W event Reply.Memory V s f = rw f s
   follows_sound W event reply V s f = subst Sound (ap (λ (a : World × Reply). a.0) f) (next_sound laws W s event)
-
-pub data_live : (phase : Phase) → IsTrue (takes_data phase) → IsTrue (is_live phase)
-data_live Receiving h = refl
-data_live (Awaiting checks) h = refl
-data_live (Executing next) h = absurd cc
-data_live Refused h = absurd cc
-data_live Done h = absurd cc
-data_live (Ended condition) h = absurd cc
 
 -- octets end no further than the longest list does
 limit_within : (phase : Phase) (c : Config) (e : Entry) → IsTrue (takes_data phase) → limit phase c e ≤ length (longest_in phase c e)

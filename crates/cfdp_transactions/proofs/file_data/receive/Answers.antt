@@ -11,7 +11,7 @@ use Rattle.cfdp_transactions.specs.Delivery.{limit}
 use Rattle.cfdp_transactions.proofs.KeptTable.Answering.{live_at, entry_is}
 use Rattle.cfdp_transactions.proofs.KeptTable.DataAnswers.{stored_length, many_pieces, few_pieces, data_past, data_dropped, data_stored}
 use Rattle.cfdp_transactions.proofs.KeptTable.WorldOfTable.{table_entry_at}
-use Rattle.cfdp_transactions.proofs.Soundness.Needs.{data_live}
+use Rattle.cfdp_transactions.proofs.Soundness.EachEvent.{data_live}
 use Rattle.cfdp_transactions.proofs.file_data.receive.Goals as goal
 
 pub end-requires-clause-live : goal.end-requires-clause-live
