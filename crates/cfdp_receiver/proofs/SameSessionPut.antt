@@ -14,21 +14,19 @@ use Rattle.cfdp_receiver.specs.Due.{is_receiving_at}
 use Rattle.cfdp_receiver.specs.StateMachine.{StateMachineFields}
 use Rattle.cfdp_receiver.specs.code.StateMachine.{AtIndex, machine_heard, with_session}
 use Rattle.cfdp_receiver.specs.Turning.{is_news, roused}
+use Rattle.cfdp_receiver.proofs.CancelAsked.{with_sessions}
 
 pub kept : (ss : List SessionFields) (i : ℕ) (s : SessionFields) → AreDistinct ss → slice_get ss i ≡ Some s → replaced ss s ≡ ss
 kept ss i s distinct at = sym (set_replaced ss i s s distinct at refl) ∙ set_get_same ss i s at
-
-abbrev put : StateMachineFields → List SessionFields → StateMachineFields
-put M ss = record M { state = record M.state { sessions = ss } }
 
 -- what is no news to a session leaves it
 pub no_news : (U : World) (M : StateMachineFields) (i : ℕ) (s : SessionFields) → AreDistinct M.state.sessions → slice_get M.state.sessions i ≡ Some s →
     is_news U M.state.world s ≡ false → M ≡ machine_heard U M s
 no_news U M i s distinct at quiet =
     sym (
-    ap (λ (t : SessionFields). put M (replaced M.state.sessions t)) (cond-false (is_news U M.state.world s)
+    ap (λ (t : SessionFields). with_sessions M (replaced M.state.sessions t)) (cond-false (is_news U M.state.world s)
     (record s { timer = restarted M.state.now }) s quiet)
-    ∙ ap (put M) (kept M.state.sessions i s distinct at)
+    ∙ ap (with_sessions M) (kept M.state.sessions i s distinct at)
     )
 
 -- the session that is found by a name has it
@@ -43,5 +41,5 @@ pub not_roused : (M : StateMachineFields) (i : ℕ) (s : SessionFields) → AreD
 not_roused M i s distinct at quiet =
     sym (
     ap (with_session M) (cond-false (is_receiving_at (at_of M.state.world s)) (record s { timer = restarted M.state.now }) s quiet)
-    ∙ ap (put M) (kept M.state.sessions i s distinct at)
+    ∙ ap (with_sessions M) (kept M.state.sessions i s distinct at)
     )
