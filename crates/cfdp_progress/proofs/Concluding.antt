@@ -2,6 +2,7 @@
 use Rattle.std.specs.Prelude.{not, ◌==◌, if◌then◌else◌, is_some, slice_get, slice_set}
 use Rattle.std.proofs.Common.{◌≡◌, ◌⊎◌, inl, inr, ℕ, zero, suc, Bool, true, false, ◌&&◌, ◌||◌, List, [], ◌∷◌, drop, Option, Some, None, refl, sym, ap, subst, ◌∙◌}
 use Rattle.std.proofs.lemmas.Bool.{cond_both, cond-true, cond-false, cases_Bool, and_parts, not-true, both_ways}
+use Rattle.std.proofs.lemmas.Option.{same_Some}
 use Rattle.cfdp_status.specs.declared.transaction.TransactionId.{TransactionId}
 use Rattle.cfdp_leases.specs.Leases.{is_same}
 use Rattle.cfdp_actions.specs.Actions.{Item, succeeded}
@@ -15,7 +16,7 @@ use Rattle.cfdp_retransmission.specs.declared.timer.Timer.{Timer}
 use Rattle.cfdp_sessions.specs.Sessions.{SessionFields, session_id, found, replaced, AreDistinct}
 use Rattle.cfdp_sessions.specs.declared.session.Stage.{Stage}
 use Rattle.cfdp_sessions.specs.declared.session.Stage.TheVariants.{Held, Known, Over as OverStage, Waiting}
-use Rattle.cfdp_sessions.proofs.Names.{found_name, replaced_self, member_found, IsMember}
+use Rattle.cfdp_sessions.proofs.Names.{chosen_some, found_name, replaced_self, member_found, IsMember}
 use Rattle.cfdp_transactions.specs.Admission.{metadata_came}
 use Rattle.cfdp_transactions.specs.Delivery.{data_at, data_came, eof_without_error, eof_came}
 use Rattle.cfdp_transactions.specs.Ending.{ended, ends, cancelled}
@@ -50,7 +51,6 @@ use Rattle.cfdp_progress.specs.Concluding.{has_nothing_left, WasConcluded, Concl
 use Rattle.cfdp_receiver.proofs.OthersStay.{other_than, others_keep_entries, run_sound}
 use Rattle.cfdp_progress.proofs.Turns.{heard_is, roused_is}
 use Rattle.cfdp_leases.proofs.Admitted.{same_is}
-use Rattle.cfdp_transactions.proofs.Promises.Carried.{some_same}
 
 -- ---- the entry, at events of its own
 
@@ -485,27 +485,17 @@ runs_by e es true is h = refl
 runs_by e es false is (inl later) = later
 runs_by e es false is (inr now) = absurd cc
 
-abbrev of_entry : Entry → Option Entry → Entry
-of_entry d None = d
-of_entry d (Some e) = e
-
-abbrev of_session : SessionFields → Option SessionFields → SessionFields
-of_session d None = d
-of_session d (Some s) = s
-
-member_by : (x : SessionFields) (xs : List SessionFields) (id : TransactionId) (s : SessionFields) (b : Bool) →
-    (if b then Some x else found xs id) ≡ Some s → (found xs id ≡ Some s → IsMember s xs) → IsMember s (x ∷ xs)
-member_by x xs id s true h later = inl (ap (of_session x) h)
-member_by x xs id s false h later = inr (later h)
-
 found_member : (ss : List SessionFields) (id : TransactionId) (s : SessionFields) → found ss id ≡ Some s → IsMember s ss
 found_member [] id s h = absurd cc
-found_member (x ∷ xs) id s h = member_by x xs id s (is_same (session_id x) id) h (found_member xs id s)
+found_member (x ∷ xs) id s h = elim (chosen_some (is_same (session_id x) id) x s (found xs id) h) [
+  | inl here ↦ inl here.1
+  | inr there ↦ inr (found_member xs id s there.1)
+]
 
 -- where an item of an entry is next, some item is
 runs : (table : List Entry) (k : ℕ) (e : Entry) → slice_get table k ≡ Some e → is_executing e.phase ≡ true → is_some (next_runnable table) ≡ true
 runs [] k e at h = absurd cc
-runs (x ∷ xs) zero e at h = runs_by x xs (is_executing x.phase) refl (inr (ap (λ (y : Entry). is_executing y.phase) (some_same x e at) ∙ h))
+runs (x ∷ xs) zero e at h = runs_by x xs (is_executing x.phase) refl (inr (ap (λ (y : Entry). is_executing y.phase) (same_Some x e at) ∙ h))
 runs (x ∷ xs) (suc k) e at h = runs_by x xs (is_executing x.phase) refl (inl (runs xs k e at h))
 
 over_by : (x : SessionFields) (b : Bool) (later : Option SessionFields) → (is_some later ≡ true) ⊎ (b ≡ true) → is_some (if b then Some x else later) ≡ true

@@ -1,7 +1,8 @@
 -- No item of an entry that waits for octets is next.
 use Rattle.std.specs.Prelude.{if◌then◌else◌, ◌==◌, slice_get}
-use Rattle.std.proofs.Common.{◌≡◌, inl, inr, ℕ, suc, Bool, true, false, List, [], ◌∷◌, Option, Some, None, refl, sym, ap, ◌∙◌}
+use Rattle.std.proofs.Common.{◌≡◌, inl, inr, ℕ, suc, Bool, true, false, List, [], ◌∷◌, Some, refl, sym, ap, ◌∙◌}
 use Rattle.std.proofs.lemmas.Bool.{cases_Bool, eq-eqb, eqb-true, both_ways}
+use Rattle.std.proofs.lemmas.Option.{same_Some}
 use Rattle.cfdp_status.specs.declared.transaction.TransactionId.{TransactionId}
 use Rattle.cfdp_transactions.specs.Entry.{Entry, is_executing, is_awaiting}
 use Rattle.cfdp_transactions.specs.Entry as Entries
@@ -20,13 +21,9 @@ record Runs (table : List Entry) (id : TransactionId) : Type 0 where
   named : Entries.name_of entry ≡ id
   runs : is_executing entry.phase ≡ true
 
-abbrev some_id : TransactionId → Option TransactionId → TransactionId
-some_id d None = d
-some_id d (Some x) = x
-
 runs_by : (e : Entry) (es : List Entry) (id : TransactionId) (b : Bool) → is_executing e.phase ≡ b → (next_runnable es ≡ Some id → Runs es id) →
     (if b then Some (Entries.name_of e) else next_runnable es) ≡ Some id → Runs (e ∷ es) id
-runs_by e es id true runs later h = record { index = 0; entry = e; there = refl; named = ap (λ (o : Option TransactionId). some_id id o) h; runs = runs }
+runs_by e es id true runs later h = record { index = 0; entry = e; there = refl; named = same_Some (Entries.name_of e) id h; runs = runs }
 runs_by e es id false runs later h = let r = later h in record { index = suc r.index; entry = r.entry; there = r.there; named = r.named; runs = r.runs }
 
 runs_of : (table : List Entry) (id : TransactionId) → next_runnable table ≡ Some id → Runs table id

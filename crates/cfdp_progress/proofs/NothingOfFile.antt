@@ -2,6 +2,7 @@
 use Rattle.std.specs.Prelude.{not, ◌&&◌, ◌||◌, ◌==◌, nat_le, nat_lt, slice_set}
 use Rattle.std.proofs.Common.{◌≡◌, ℕ, Bool, true, List, [], ◌∷◌, length, Option, Some, None, refl, sym, ap, subst, ◌∙◌}
 use Rattle.std.proofs.lemmas.Bool.{cond_both, cond-true}
+use Rattle.std.proofs.lemmas.Option.{none-some, same_Some}
 use Rattle.cfdp_status.specs.declared.transaction.TransactionId.{TransactionId}
 use Rattle.cfdp_pdus.specs.Values.{MetadataFields}
 use Rattle.cfdp_pdus.specs.declared.eof.Eof.{Eof}
@@ -24,13 +25,13 @@ use Rattle.cfdp_transactions.specs.declared.phase.Phase.TheVariants.{Receiving, 
 use Rattle.cfdp_transactions.specs.declared.reply.Reply.{Reply}
 use Rattle.cfdp_transactions.proofs.Finding.{found_name as entry_name}
 use Rattle.cfdp_transactions.proofs.Lookups.{append_own}
+use Rattle.cfdp_transactions.proofs.Options.{none_of}
 use Rattle.cfdp_receiver.specs.State.{State, MetadataPdu, session_of}
 use Rattle.cfdp_receiver.specs.Handing as Handing
 use Rattle.cfdp_receiver.specs.Turning.{after_input, is_known}
 use Rattle.cfdp_receiver.specs.Laws.{knows, AreKnown}
 use Rattle.cfdp_progress.specs.NakRounds.{MetadataOpens}
 use Rattle.cfdp_progress.proofs.PieceOfAwaiting.{replaces}
-use Rattle.cfdp_receiver.proofs.Concluding.{no_entry}
 
 -- of the entry of this name, if there is one, no octet was received
 abbrev Nil : World → TransactionId → Type 0
@@ -39,15 +40,11 @@ Nil V id = (e : Entry) → entry_of V id ≡ Some e → e.received ≡ []
 abbrev NilAfter : TransactionId → World × Reply → Type 0
 NilAfter id a = Nil a.0 id
 
-abbrev some_entry : Entry → Option Entry → Entry
-some_entry d None = d
-some_entry d (Some e) = e
-
 nil_is : (V : World) (id : TransactionId) (new : Entry) → entry_of V id ≡ Some new → new.received ≡ [] → Nil V id
-nil_is V id new here nil e found = subst (λ (n : Entry). n.received ≡ []) (ap (some_entry new) (sym here ∙ found)) nil
+nil_is V id new here nil e found = subst (λ (n : Entry). n.received ≡ []) (same_Some new e (sym here ∙ found)) nil
 
 nil_none : (V : World) (id : TransactionId) → entry_of V id ≡ None → Nil V id
-nil_none V id none e found = let never : None ≡ Some e = sym none ∙ found in absurd cc
+nil_none V id none e found = absurd (none-some e (sym none ∙ found))
 
 nil_put : (W V : World) (id : TransactionId) (e new : Entry) → entry_of W id ≡ Some e → Entries.name_of new ≡ Entries.name_of e →
     V.table ≡ slice_set W.table (index_of W id) new → new.received ≡ [] → Nil V id
@@ -137,7 +134,7 @@ nothing_kept R id moment h m known opens =
     ∙ ap (Handing.metadata_in_stage h m s) opens.held
     ∙ cond-true h.acknowledged both [] opens.mode in
     let unknown : entry_of R.world id ≡ None =
-    no_entry (entry_of R.world id) (known id ∙ ap knows opens.here ∙ ap is_known opens.held) in
+    none_of (entry_of R.world id) (known id ∙ ap knows opens.here ∙ ap is_known opens.held) in
     let first : Nil (next R.world (MetadataCame h m)).0 id =
     subst (Nil (next R.world (MetadataCame h m)).0) opens.named (next_metadata R.world h m (ap (entry_of R.world) opens.named ∙ unknown)) in
     let last : Nil (run R.world both) id =

@@ -2,6 +2,7 @@
 use Rattle.std.specs.Prelude.{◌==◌}
 use Rattle.std.proofs.Common.{◌≡◌, ℕ, ◌+◌, ◌≤◌, Bool, true, false, not, ◌&&◌, ◌||◌, List, [], ◌∷◌, map, Option, Some, refl, sym, ap, subst, ◌∙◌, arith}
 use Rattle.std.proofs.lemmas.Bool.{cond-true, and_from, eq-eqb}
+use Rattle.std.proofs.lemmas.Option.{same_Some}
 use Rattle.cfdp_status.specs.declared.transaction.TransactionId.{TransactionId}
 use Rattle.cfdp_leases.specs.Leases.{is_same}
 use Rattle.cfdp_pdus.specs.Values.{MetadataFields}
@@ -17,7 +18,6 @@ use Rattle.cfdp_sessions.specs.Sessions.{SessionFields, session_id, found, repla
 use Rattle.cfdp_sessions.specs.declared.session.Stage.{Stage}
 use Rattle.cfdp_sessions.specs.declared.session.Stage.TheVariants.{Known}
 use Rattle.cfdp_sessions.proofs.Names.{found_name, replaced_self}
-use Rattle.cfdp_sessions.proofs.Indexes.{some_same}
 use Rattle.cfdp_transactions.specs.Entry.{Entry, id_of, gaps, gaps_in, reach, reach_in, awaited}
 use Rattle.cfdp_transactions.specs.Received.{gaps_below}
 use Rattle.cfdp_transactions.specs.declared.phase.Phase.{Phase}
@@ -152,7 +152,7 @@ open_eof R id moment h came e eof r awaits =
     ∙ ap (Turning.eof_stage L U rs h came s) r.known in
     let here : found (Turning.after_input R i).sessions id ≡ Some t =
     ap (λ (p : Turning.Parts). found p.sessions id) parts ∙ replaced_self R.sessions t id (s, r.here) (heard_name L U s ∙ name) in
-    let it : awaits.session ≡ t = some_same awaits.session t (sym awaits.here ∙ here) in
+    let it : awaits.session ≡ t = same_Some awaits.session t (sym awaits.here ∙ here) in
     let mode : s.header.acknowledged ≡ true =
     ap (λ (x : Header). x.acknowledged) (sym is.1) ∙ ap (λ (y : SessionFields). y.header.acknowledged) (sym it) ∙ awaits.acknowledged in
     let waits : at_of U s ≡ At_awaiting core.checks = at_in U s id e core.checks r.known name core.here core.phase in
@@ -199,7 +199,7 @@ open_metadata R id moment h m e eof r awaits =
     ∙ cond-true h.acknowledged (Turning.joins L U rs h m) (Turning.keeps L (Turning.said_word s words.Idle)) r.mode in
     let here : found (Turning.after_input R i).sessions id ≡ Some t =
     ap (λ (p : Turning.Parts). found p.sessions id) parts ∙ replaced_self R.sessions t id (s, r.here) r.named in
-    let it : awaits.session ≡ t = some_same awaits.session t (sym awaits.here ∙ here) in
+    let it : awaits.session ≡ t = same_Some awaits.session t (sym awaits.here ∙ here) in
     let known : t.stage ≡ Known = ap (λ (y : SessionFields). y.stage) (sym it) ∙ awaits.known in
     let waits : at_of U t ≡ At_awaiting core.checks = at_in U t id e core.checks known r.named core.here core.phase in
     let sent : (Turning.parts R i).answer.naks ≡ Turning.sequence R.mib h 0 (reach e) (Turning.gaps_after 0 e) =

@@ -2,6 +2,7 @@
 use Rattle.std.specs.Prelude.{not, ◌&&◌, ◌||◌, ◌==◌, if◌then◌else◌, nat_le, nat_lt, is_some, slice_get, slice_set}
 use Rattle.std.proofs.Common.{◌≡◌, inl, inr, ℕ, suc, ◌+◌, ◌≤◌, Bool, true, false, List, [], ◌∷◌, length, drop, Option, Some, None, refl, sym, ap, subst, ◌∙◌}
 use Rattle.std.proofs.lemmas.Bool.{cond_both, cond-true, cases_Bool, cases_lt, lt-ltb, not-true, both_ways}
+use Rattle.std.proofs.lemmas.Option.{same_Some}
 use Rattle.cfdp_status.specs.declared.transaction.TransactionId.{TransactionId}
 use Rattle.cfdp_leases.specs.Leases.{is_same}
 use Rattle.cfdp_actions.specs.Actions.{Item, succeeded}
@@ -60,16 +61,8 @@ LacksAt c V id = (e : Entry) → entry_of V id ≡ Some e → If_waiting c e
 abbrev AllLack : World → Type 0
 AllLack W = (id : TransactionId) → LacksAt W.config W id
 
-abbrev some_eof : Eof → Option Eof → Eof
-some_eof d None = d
-some_eof d (Some x) = x
-
-abbrev some_entry : Entry → Option Entry → Entry
-some_entry d None = d
-some_entry d (Some e) = e
-
 it_is : (c : Config) (V : World) (id : TransactionId) (new : Entry) → entry_of V id ≡ Some new → If_waiting c new → LacksAt c V id
-it_is c V id new here lacks e found = subst (If_waiting c) (ap (some_entry new) (sym here ∙ found)) lacks
+it_is c V id new here lacks e found = subst (If_waiting c) (same_Some new e (sym here ∙ found)) lacks
 
 -- nothing of this name
 none_is : (c : Config) (V : World) (id : TransactionId) → entry_of V id ≡ None → LacksAt c V id
@@ -132,7 +125,7 @@ after_own W id e received (Some eof) here came lacks =
     (λ w. whole_own W V id e new eof.checksum here refl refl)
     (λ short. stores_own W id e received here (λ checks is.
     let l = lacks checks is in
-    let same : l.eof ≡ eof = ap (some_eof eof) (sym l.came ∙ came) in
+    let same : l.eof ≡ eof = same_Some l.eof eof (sym l.came ∙ came) in
     record { eof = eof; came = came; within = subst (λ (x : Eof). x.size ≤ bound W.config e.metadata) same l.within; short = short }))
 
 stored_own : (W : World) (id : TransactionId) (e : Entry) (received : Received) (phase : Phase) → entry_of W id ≡ Some e → e.phase ≡ phase →

@@ -1,13 +1,14 @@
 -- After the acknowledgement of its Finished PDU a transaction is closed, and no Finished PDU of it is sent.
 use Rattle.std.proofs.Common.{◌≡◌, inl, inr, ℕ, ◌+◌, true, ◌==◌, List, [], ◌∷◌, length, take, Some, None, refl, sym, ap, subst, ◌∙◌, arith}
 use Rattle.std.proofs.lemmas.Bool.{cond-true, cond_both, cases_Bool, or_left, eq-eqb, both_ways}
+use Rattle.std.proofs.lemmas.Option.{none-some}
 use Rattle.cfdp_status.specs.declared.transaction.TransactionId.{TransactionId}
 use Rattle.cfdp_leases.specs.Leases.{is_same}
 use Rattle.cfdp_pdus.specs.declared.header.Header.{Header}
 use Rattle.cfdp_directives.specs.declared.ack.Ack.{Ack}
 use Rattle.cfdp_sessions.specs.Sessions.{SessionFields, session_id, found, without_session}
 use Rattle.cfdp_sessions.specs.code.Sessions.{IsFound}
-use Rattle.cfdp_sessions.proofs.Names.{no_some, found_name, gone, replaced_none, added_other, without_none}
+use Rattle.cfdp_sessions.proofs.Names.{found_name, gone, replaced_none, added_other, without_none}
 use Rattle.cfdp_sessions.specs.declared.session.Stage.TheVariants.{Waiting}
 use Rattle.cfdp_transactions.specs.Entry.{id_of}
 use Rattle.cfdp_receiver.specs.declared.answer.Word.TheVariants as words
@@ -40,7 +41,7 @@ stays_closed R i id none closed = none_by (Handing.later (now_of i) R) (touched 
 -- ---- nothing is sent without a session
 
 not_found : (R : State) (id n : TransactionId) → session_of R id ≡ None → n ≡ id → IsFound R.sessions n → ⊥
-not_found R id n none same f = no_some f.0 (sym none ∙ ap (found R.sessions) (sym same) ∙ f.1)
+not_found R id n none same f = none-some f.0 (sym none ∙ ap (found R.sessions) (sym same) ∙ f.1)
 
 none_in : (R : State) (i : Input) (id : TransactionId) (sent : List (List ℕ)) → session_of R id ≡ None → touched_in R i ≡ id → Sent R i sent → length sent ≡ 0
 none_in R i id sent none same (None_sent e) = ap length e

@@ -1,10 +1,10 @@
 -- What is over: which session, its outcome, and the turn that takes it.
-use Rattle.std.proofs.Common.{◌≡◌, ◌⊎◌, inl, inr, ℕ, suc, List, [], ◌∷◌, drop, Bool, true, false, not, Option, Some, None, refl, sym, ap, ◌∙◌}
-use Rattle.std.specs.Prelude.{if◌then◌else◌, slice_get, is_some, unwrap_or}
+use Rattle.std.proofs.Common.{◌≡◌, ◌⊎◌, inl, inr, ℕ, suc, List, [], ◌∷◌, drop, true, false, not, Option, Some, None, refl, sym, ap, ◌∙◌}
+use Rattle.std.specs.Prelude.{slice_get, is_some, unwrap_or}
 use Rattle.std.specs.Option.{option_map}
 use Rattle.std.proofs.Math.Seq.{drop-cons}
 use Rattle.std.proofs.lemmas.Bool.{cond-true, cond-false, both_ways}
-use Rattle.std.proofs.lemmas.Option.{slice_get_within, get_or_from_slice_get}
+use Rattle.std.proofs.lemmas.Option.{none-some, slice_get_within, get_or_from_slice_get}
 use Rattle.cfdp_status.specs.declared.transaction.TransactionId.{TransactionId}
 use Rattle.cfdp_pdus.specs.declared.eof.Eof.{Eof}
 use Rattle.cfdp_sessions.specs.Closed.{with_name}
@@ -26,6 +26,7 @@ use Rattle.cfdp_transactions.specs.declared.event.Event.TheVariants.{Take}
 use Rattle.cfdp_transactions.specs.declared.outcome.Outcome.{Outcome}
 use Rattle.cfdp_transactions.specs.declared.reply.Reply.{Reply}
 use Rattle.cfdp_transactions.specs.declared.reply.Reply.TheVariants as Replies
+use Rattle.cfdp_transactions.proofs.Options.{none_of, unless_some}
 use Rattle.cfdp_receiver.specs.declared.answer.Became.TheVariants.{Nothing, Said}
 use Rattle.cfdp_receiver.specs.declared.answer.Conclusion.{Conclusion}
 use Rattle.cfdp_receiver.specs.declared.answer.Indication.TheVariants as tells
@@ -68,13 +69,10 @@ not_over At_waiting other = refl
 
 -- ---- its outcome
 
-some_none : (o : Outcome) → Some o ≡ None → ⊥
-some_none o e = absurd cc
-
 over_outcome : (x : Option Entry) → is_some x ≡ true → is_over (at_entry x) ≡ true → where_any (option_map outcome_when_over x) ≡ None → ⊥
 over_outcome None there over none = absurd cc
 over_outcome (Some e) there over none =
-    absurd (some_none (outcome_of e) (sym (cond-false (is_live e.phase) None (Some (outcome_of e)) (phase_over e.phase over)) ∙ none))
+    absurd (none-some (outcome_of e) (sym none ∙ cond-false (is_live e.phase) None (Some (outcome_of e)) (phase_over e.phase over)))
 
 -- a session that is over, and that the core knows, has an outcome there
 pub known_outcome : (R : State) (s : SessionFields) → AreDistinct R.sessions → AreKnown R → first_over R.world R.sessions ≡ Some s →
@@ -86,10 +84,6 @@ known_outcome R s d known first is none =
     (known (session_id s) ∙ ap knows (member_found R.sessions s d over.0) ∙ ap is_known is)
     (ap (λ (stage : Stage). is_over (at_stage stage entry)) (sym is) ∙ over.1) none
 
-outcome_if : (live : Bool) (a o : Outcome) → (if live then None else Some a) ≡ Some o → a ≡ o
-outcome_if true a o e = absurd cc
-outcome_if false a o e = cc
-
 record Kept (x : Option Entry) (o : Outcome) : Type 0 where
   entry : Entry
   here : x ≡ Some entry
@@ -97,7 +91,7 @@ record Kept (x : Option Entry) (o : Outcome) : Type 0 where
 
 kept_outcome : (x : Option Entry) (o : Outcome) → where_any (option_map outcome_when_over x) ≡ Some o → Kept x o
 kept_outcome None o e = absurd cc
-kept_outcome (Some entry) o e = record { entry = entry; here = refl; is = outcome_if (is_live entry.phase) (outcome_of entry) o e }
+kept_outcome (Some entry) o e = record { entry = entry; here = refl; is = unless_some (is_live entry.phase) (outcome_of entry) o e }
 
 -- the outcome of the core, with the condition code for which this entity cancelled the transaction
 abbrev pub caused_outcome : SessionFields → Outcome → Outcome
@@ -148,10 +142,6 @@ finished_in : (R : State) (s : SessionFields) (o : Outcome) → first_over R.wor
     Turning.outcome_for s (entry_of R.world (session_id s)) ≡ o → Turning.finish_parts R (first_over R.world R.sessions) ≡ Turning.finish_session R s o
 finished_in R s o first outcome = ap (Turning.finish_parts R) first ∙ ap (Turning.finish_session R s) outcome
 
-pub no_entry : (x : Option Entry) → is_some x ≡ false → x ≡ None
-no_entry None e = refl
-no_entry (Some entry) e = absurd cc
-
 -- of a transaction that is not in the core
 pub finish_over : (M N : StateMachineFields) (a : AnswerParts) (now : ℕ) (s : SessionFields) (ending : Ending) → AreDistinct M.state.sessions → AreKnown M.state
     →
@@ -162,7 +152,7 @@ finish_over M N a now s ending d known first is c =
     let W = M.state.world in
     let here = member_found M.state.sessions s d (first_over_is W M.state.sessions s first).0 in
     let none : entry_of W (session_id s) ≡ None =
-    no_entry (entry_of W (session_id s)) (known (session_id s) ∙ ap knows here ∙ ap is_known is) in
+    none_of (entry_of W (session_id s)) (known (session_id s) ∙ ap knows here ∙ ap is_known is) in
     let outcome : Turning.outcome_for s (entry_of W (session_id s)) ≡ Turning.stage_outcome s (Over ending) =
     ap (Turning.outcome_for s) none ∙ ap (Turning.stage_outcome s) is in
     turns_by L N a (Finish now) [] (λ (V : World) (rs : List Reply). Turning.finish_session L.state s (Turning.stage_outcome s (Over ending)))

@@ -2,6 +2,7 @@
 use Rattle.std.specs.Prelude.{if◌then◌else◌}
 use Rattle.std.proofs.Common.{◌≡◌, ◌≢◌, ◌⊎◌, inl, inr, ℕ, ◌+◌, ◌<◌, Bool, true, false, ◌&&◌, List, [], ◌∷◌, length, Option, Some, None, refl, sym, ap, subst, ◌∙◌, arith}
 use Rattle.std.proofs.lemmas.Bool.{cond-true, cond-false, cases_Bool, and_parts, both_ways}
+use Rattle.std.proofs.lemmas.Option.{same_Some}
 use Rattle.cfdp_status.specs.declared.transaction.TransactionId.{TransactionId}
 use Rattle.cfdp_leases.specs.Leases.{is_same}
 use Rattle.cfdp_pdus.specs.Values.{MetadataFields, FileDataFields}
@@ -16,7 +17,7 @@ use Rattle.cfdp_retransmission.proofs.Waiting.{Early, Due, Over, why}
 use Rattle.cfdp_sessions.specs.Sessions.{SessionFields, session_id, found, without_session, AreDistinct}
 use Rattle.cfdp_sessions.specs.declared.session.Stage.{Stage}
 use Rattle.cfdp_sessions.specs.declared.session.Stage.TheVariants.{Held, Known, Over as OverStage, Waiting}
-use Rattle.cfdp_sessions.proofs.Names.{gone, found_name, IsMember, member_found, replaced_self}
+use Rattle.cfdp_sessions.proofs.Names.{chosen_some, gone, found_name, IsMember, member_found, replaced_self}
 use Rattle.cfdp_transactions.specs.Entry.{id_of}
 use Rattle.cfdp_transactions.specs.declared.reply.Reply.{Reply}
 use Rattle.cfdp_transactions.specs.World.{World, entry_of}
@@ -79,21 +80,12 @@ alive_due R (x ∷ xs) t e = elim (due_by_alive (Dues.expiry_of R x) (Dues.is_al
   | inr there ↦ let rest = alive_due R xs t there in (inr rest.0, rest.1)
 ]
 
-abbrev pub of_some : SessionFields → Option SessionFields → SessionFields
-of_some s None = s
-of_some s (Some t) = t
-
-over_by : (b : Bool) (x : SessionFields) (later : Option SessionFields) (t : SessionFields) → (if b then Some x else later) ≡ Some t → ((x ≡ t) × (b ≡ true))
-    ⊎ (later ≡ Some t)
-over_by true x later t e = inl (ap (of_some x) e, refl)
-over_by false x later t e = inr e
-
 pub first_over_is : (W : World) (ss : List SessionFields) (t : SessionFields) → Dues.first_over W ss ≡ Some t → IsMember t ss
     × (Dues.is_over (at_of W t) ≡ true)
 first_over_is W [] t e = absurd cc
-first_over_is W (x ∷ xs) t e = elim (over_by (Dues.is_over (at_of W x)) x (Dues.first_over W xs) t e) [
-  | inl here ↦ (inl here.0, ap (λ (y : SessionFields). Dues.is_over (at_of W y)) (sym here.0) ∙ here.1)
-  | inr there ↦ let rest = first_over_is W xs t there in (inr rest.0, rest.1)
+first_over_is W (x ∷ xs) t e = elim (chosen_some (Dues.is_over (at_of W x)) x t (Dues.first_over W xs) e) [
+  | inl here ↦ (inl here.1, ap (λ (y : SessionFields). Dues.is_over (at_of W y)) (sym here.1) ∙ here.0)
+  | inr there ↦ let rest = first_over_is W xs t there.1 in (inr rest.0, rest.1)
 ]
 
 -- ---- what becomes of a session that waits
@@ -241,7 +233,7 @@ waits_limit R V id s d name w ne =
 pub is_it : (R : State) (id : TransactionId) (s t : SessionFields) → AreDistinct R.sessions → found R.sessions id ≡ Some s → IsMember t R.sessions →
     is_same (session_id t) id ≡ true → s ≡ t
 is_it R id s t d e member same =
-    ap (of_some s) (sym e ∙ ap (found R.sessions) (sym (same_is (session_id t) id same)) ∙ member_found R.sessions t d member)
+    same_Some s t (sym e ∙ ap (found R.sessions) (sym (same_is (session_id t) id same)) ∙ member_found R.sessions t d member)
 
 waits_due : (R : State) (V : World) (id : TransactionId) (s : SessionFields) (due : Dues.Due) → AreDistinct R.sessions → found R.sessions id ≡ Some s →
     session_id s ≡ id → s.stage ≡ Waiting →

@@ -2,6 +2,7 @@
 use Rattle.std.specs.Prelude.{slice_get, slice_set, nat_lt, nat_le, is_some}
 use Rattle.std.proofs.Common.{◌≡◌, ◌⊎◌, inl, inr, ℕ, zero, suc, ◌+◌, Bool, true, false, not, ◌&&◌, ◌||◌, ◌==◌, if◌then◌else◌, List, [], ◌∷◌, drop, length, Option, Some, None, refl, sym, ap, subst, ◌∙◌}
 use Rattle.std.proofs.lemmas.Bool.{cond_both}
+use Rattle.std.proofs.lemmas.Option.{same_Some}
 use Rattle.cfdp_actions.specs.Actions.{Item, succeeded}
 use Rattle.cfdp_actions.specs.Filestore.{Change, Stages}
 use Rattle.cfdp_status.specs.declared.transaction.TransactionId.{TransactionId}
@@ -30,7 +31,6 @@ use Rattle.cfdp_transactions.proofs.Finding.{found_name}
 use Rattle.cfdp_transactions.proofs.Lookups.{set_own}
 use Rattle.cfdp_transactions.proofs.Received.OctetsAndGaps.{first_stays}
 use Rattle.cfdp_transactions.proofs.Indexes.{set_each, append_each, remove_index, before, get_set_same, set_set_same}
-use Rattle.cfdp_transactions.proofs.Promises.Carried.{some_same}
 use Rattle.cfdp_retransmission.proofs.Arriving.{stays}
 
 -- ---- octets
@@ -230,13 +230,13 @@ module _ (W : World) (id : TransactionId) (e : Entry) (here : entry_of W id ≡ 
   k = index_of W id
 
   same_joined : (reply : Reply) → JoinedIn id low (W, reply)
-  same_joined reply now there = inl (ap (λ (x : Entry). continues x.received low) (sym (some_same e now (sym here ∙ there))) ∙ joined)
+  same_joined reply now there = inl (ap (λ (x : Entry). continues x.received low) (sym (same_Some e now (sym here ∙ there))) ∙ joined)
 
   -- a world whose table has this entry instead of that one
   put_joined : (U : World) (new : Entry) (reply : Reply) → name_of new ≡ id → U.table ≡ slice_set W.table k new → Joined low new → JoinedIn id low (U, reply)
   put_joined U new reply name table j now there =
       let own : entry_of U id ≡ Some new = ap (λ (t : List Entry). slice_get t (index_in id t)) table ∙ set_own W.table id e new name here in
-      subst (Joined low) (some_same new now (sym own ∙ there)) j
+      subst (Joined low) (same_Some new now (sym own ∙ there)) j
 
   named : name_of e ≡ id
   named = found_name W.table id e here

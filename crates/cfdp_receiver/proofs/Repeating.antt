@@ -2,6 +2,7 @@
 use Rattle.std.specs.Prelude.{slice_get}
 use Rattle.std.proofs.Common.{◌≡◌, ◌⊎◌, inl, inr, ℕ, zero, suc, true, false, List, [], ◌∷◌, length, Option, Some, refl, sym, ap, ◌∙◌}
 use Rattle.std.proofs.lemmas.Bool.{cond-true, cond-false, cases_Bool}
+use Rattle.std.proofs.lemmas.Option.{same_Some}
 use Rattle.cfdp_status.specs.declared.transaction.TransactionId.{TransactionId}
 use Rattle.cfdp_leases.specs.Leases.{is_same}
 use Rattle.cfdp_directives.specs.Reading.{NakFields}
@@ -10,7 +11,7 @@ use Rattle.cfdp_retransmission.specs.declared.timer.Expiry.TheVariants.{Again}
 use Rattle.cfdp_retransmission.specs.Timers.{passed}
 use Rattle.cfdp_sessions.specs.Sessions.{SessionFields, session_id, replaced}
 use Rattle.cfdp_sessions.proofs.Names.{replaced_self}
-use Rattle.cfdp_sessions.proofs.Indexes.{found_by_name, some_same}
+use Rattle.cfdp_sessions.proofs.Indexes.{found_by_name}
 use Rattle.cfdp_transactions.specs.declared.reply.Reply.{Reply}
 use Rattle.cfdp_transactions.specs.World.{World}
 use Rattle.cfdp_transactions.specs.Next.{run}
@@ -44,15 +45,15 @@ at_replaced [] new s t i e after = absurd cc
 at_replaced (x ∷ xs) new s t zero e after = elim (cases_Bool (is_same (session_id x) (session_id new))) [
   | inl here ↦
       let put = cond-true (is_same (session_id x) (session_id new)) (new ∷ xs) (x ∷ replaced xs new) here in
-      inl (some_same new t (ap (λ (ys : List SessionFields). slice_get ys 0) (sym put) ∙ after))
+      inl (same_Some new t (ap (λ (ys : List SessionFields). slice_get ys 0) (sym put) ∙ after))
   | inr there ↦
       let put = cond-false (is_same (session_id x) (session_id new)) (new ∷ xs) (x ∷ replaced xs new) there in
-      inr (some_same s t (sym e ∙ ap (λ (ys : List SessionFields). slice_get ys 0) (sym put) ∙ after))
+      inr (same_Some s t (sym e ∙ ap (λ (ys : List SessionFields). slice_get ys 0) (sym put) ∙ after))
 ]
 at_replaced (x ∷ xs) new s t (suc i) e after = elim (cases_Bool (is_same (session_id x) (session_id new))) [
   | inl here ↦
       let put = cond-true (is_same (session_id x) (session_id new)) (new ∷ xs) (x ∷ replaced xs new) here in
-      inr (some_same s t (sym e ∙ ap (λ (ys : List SessionFields). slice_get ys (suc i)) (sym put) ∙ after))
+      inr (same_Some s t (sym e ∙ ap (λ (ys : List SessionFields). slice_get ys (suc i)) (sym put) ∙ after))
   | inr there ↦
       let put = cond-false (is_same (session_id x) (session_id new)) (new ∷ xs) (x ∷ replaced xs new) there in
       at_replaced xs new s t i e (ap (λ (ys : List SessionFields). slice_get ys (suc i)) (sym put) ∙ after)

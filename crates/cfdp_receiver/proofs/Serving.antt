@@ -2,6 +2,7 @@
 use Rattle.std.specs.Prelude.{if◌then◌else◌, nat_le}
 use Rattle.std.proofs.Common.{◌≡◌, ◌≢◌, inl, inr, ℕ, ◌+◌, ◌-◌, ◌≤◌, Bool, true, false, ◌&&◌, List, [], ◌∷◌, Option, Some, None, refl, sym, ap, ◌∙◌, arith}
 use Rattle.std.proofs.lemmas.Bool.{cond_both, cond-true, cond-false, cases_Bool, lt-ltb, lt-leb, both_ways}
+use Rattle.std.proofs.lemmas.Option.{none-some}
 use Rattle.cfdp_status.specs.declared.transaction.TransactionId.{TransactionId}
 use Rattle.cfdp_leases.specs.Leases.{is_same}
 use Rattle.cfdp_retransmission.specs.declared.timer.Expiry.{Expiry}
@@ -12,7 +13,7 @@ use Rattle.cfdp_retransmission.proofs.Waiting.{Early, Due, Over, why}
 use Rattle.cfdp_sessions.specs.Sessions.{SessionFields, session_id, found, replaced, without_session, AreDistinct}
 use Rattle.cfdp_sessions.specs.declared.session.Stage.{Stage}
 use Rattle.cfdp_sessions.specs.declared.session.Stage.TheVariants.{Held, Known, Over as OverStage, Waiting}
-use Rattle.cfdp_sessions.proofs.Names.{no_some, IsMember, member_found}
+use Rattle.cfdp_sessions.proofs.Names.{IsMember, member_found}
 use Rattle.cfdp_transactions.specs.Config.{Config}
 use Rattle.cfdp_transactions.specs.Delivery.{checked, check_at}
 use Rattle.cfdp_transactions.specs.Ending.{cancelled, ended, ends}
@@ -55,7 +56,7 @@ none_named : (ss : List SessionFields) (t s : SessionFields) → AreDistinct ss 
     (session_id s)
     ≡ false
 none_named ss t s d none member = elim (cases_Bool (is_same (session_id t) (session_id s))) [
-  | inl same ↦ absurd (no_some t (sym none ∙ ap (found ss) (sym (same_is (session_id t) (session_id s) same)) ∙ member_found ss t d member))
+  | inl same ↦ absurd (none-some t (sym none ∙ ap (found ss) (sym (same_is (session_id t) (session_id s) same)) ∙ member_found ss t d member))
   | inr other ↦ other
 ]
 
@@ -69,7 +70,7 @@ first_is : (x : SessionFields) (xs : List SessionFields) (s : SessionFields) →
     ≡ true → x ≡ s
 first_is x xs s d (inl e) same = e
 first_is x xs s d (inr m) same =
-    absurd (no_some s (sym d.0 ∙ ap (found xs) (same_is (session_id x) (session_id s) same) ∙ member_found xs s d.1 m))
+    absurd (none-some s (sym d.0 ∙ ap (found xs) (same_is (session_id x) (session_id s) same) ∙ member_found xs s d.1 m))
 
 later_is : (x : SessionFields) (xs : List SessionFields) (s : SessionFields) → IsMember s (x ∷ xs) → is_same (session_id x) (session_id s) ≡ false →
     IsMember s xs

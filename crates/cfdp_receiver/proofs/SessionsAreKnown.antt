@@ -2,6 +2,7 @@
 use Rattle.std.specs.Prelude.{if◌then◌else◌, slice_get, is_some, ◌==◌}
 use Rattle.std.proofs.Common.{◌≡◌, inl, inr, ℕ, Bool, true, false, not, ◌&&◌, ◌||◌, List, [], ◌∷◌, ◌++◌, Option, Some, None, refl, sym, ap, subst, ◌∙◌}
 use Rattle.std.proofs.lemmas.Bool.{cond_both, cond-true, cond-false, cases_Bool, both_ways}
+use Rattle.std.proofs.lemmas.Option.{none-some}
 use Rattle.cfdp_status.specs.declared.transaction.TransactionId.{TransactionId}
 use Rattle.cfdp_leases.specs.Leases.{is_same}
 use Rattle.cfdp_pdus.specs.Values.{MetadataFields, FileDataFields}
@@ -129,13 +130,10 @@ stage_in_is : (o : Option Entry) (sent : Bool) (fault : ℕ) → is_some o ≡ i
 stage_in_is None sent fault = refl
 stage_in_is (Some e) sent fault = refl
 
-some_none : (x : SessionFields) → Some x ≡ None → ⊥
-some_none x e = absurd cc
-
 added_by : (x : SessionFields) (xs : List SessionFields) (new : SessionFields) (id : TransactionId) (same : Bool) → is_same (session_id x) id ≡ same →
     (if is_same (session_id x) id then Some x else found xs id) ≡ None → (found xs id ≡ None → found (xs ++ new ∷ []) id ≡ Some new) →
     (if is_same (session_id x) id then Some x else found (xs ++ new ∷ []) id) ≡ Some new
-added_by x xs new id true is none later = absurd (some_none x (sym (cond-true (is_same (session_id x) id) (Some x) (found xs id) is) ∙ none))
+added_by x xs new id true is none later = absurd (none-some x (sym none ∙ cond-true (is_same (session_id x) id) (Some x) (found xs id) is))
 added_by x xs new id false is none later =
     cond-false (is_same (session_id x) id) (Some x) (found (xs ++ new ∷ []) id) is
     ∙ later (sym (cond-false (is_same (session_id x) id) (Some x) (found xs id) is) ∙ none)

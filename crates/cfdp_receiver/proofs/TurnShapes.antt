@@ -3,6 +3,7 @@ use Rattle.std.specs.Prelude.{⊤, nat_le}
 use Rattle.std.proofs.Common.{◌≡◌, ◌⊎◌, inl, inr, ℕ, zero, suc, ◌≤◌, length, take, Bool, true, false, not, ◌&&◌, ◌||◌, ◌==◌, if◌then◌else◌, List, [], ◌∷◌, ◌++◌, Option, Some, None, refl, sym, ap, subst, ◌∙◌, append_assoc, arith}
 use Rattle.std.proofs.lemmas.List.{append-nil}
 use Rattle.std.proofs.lemmas.Bool.{cond_both, cases_Bool, or_left, or_right, or_cases, or_parts, le-leb, false≢true}
+use Rattle.std.proofs.lemmas.Option.{none-some}
 use Rattle.std.specs.List.{list_any}
 use Rattle.cfdp_status.specs.declared.transaction.TransactionId.{TransactionId}
 use Rattle.cfdp_leases.specs.Leases.{is_same}
@@ -19,7 +20,7 @@ use Rattle.cfdp_sessions.specs.Sessions.{SessionFields, session_id, found}
 use Rattle.cfdp_sessions.specs.code.Sessions.{IsFound}
 use Rattle.cfdp_sessions.specs.declared.session.Stage.{Stage}
 use Rattle.cfdp_sessions.specs.declared.session.Stage.TheVariants.{Held, Known, Over, Waiting}
-use Rattle.cfdp_sessions.proofs.Names.{no_some, found_name, found_first, found_either, found_replaced, found_more, replaced_other, without_other, added_other}
+use Rattle.cfdp_sessions.proofs.Names.{found_name, found_first, found_either, found_replaced, found_more, replaced_other, without_other, added_other}
 use Rattle.cfdp_transactions.specs.Entry.{id_of}
 use Rattle.cfdp_transactions.specs.declared.reply.Reply.{Reply}
 use Rattle.cfdp_transactions.specs.declared.outcome.Outcome.{Outcome}
@@ -337,7 +338,7 @@ not_unrecognized : (o : Option SessionFields) (closed forgot : Bool) → ((t : S
 not_unrecognized (Some t) closed forgot h e = absurd cc
 not_unrecognized None true forgot h e = absurd cc
 not_unrecognized None false true h e = absurd cc
-not_unrecognized None false false (inl h) e = absurd (no_some h.0 h.1)
+not_unrecognized None false false (inl h) e = absurd (none-some h.0 h.1)
 not_unrecognized None false false (inr (inl h)) e = absurd cc
 not_unrecognized None false false (inr (inr h)) e = absurd cc
 

@@ -14,7 +14,8 @@ use Rattle.cfdp_transactions.specs.declared.putting.NotPut.TheVariants.{HasTrans
 use Rattle.cfdp_transactions.specs.Config.{Config}
 use Rattle.cfdp_transactions.specs.Restart.{put_all, CanPutAll}
 use Rattle.cfdp_transactions.specs.World.{World, free}
-use Rattle.cfdp_transactions.proofs.Beginnings.PutThere.{no_fault, grown, none_of}
+use Rattle.cfdp_transactions.proofs.Beginnings.PutThere.{no_fault, grown}
+use Rattle.cfdp_transactions.proofs.Options.{none_of}
 use Rattle.cfdp_run.specs.Putting.{missing, as_directory, is_below_file, needed, with_put, path_wrong, room_wrong}
 use Rattle.cfdp_run.specs.declared.wrong.Wrong.TheVariants.{Taken, ParentIsFile, NoRoom}
 use Rattle.cfdp_actions.proofs.Order.{same_path-refl}

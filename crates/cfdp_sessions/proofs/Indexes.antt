@@ -2,11 +2,12 @@
 use Rattle.std.proofs.Common.{◌≡◌, inl, inr, ℕ, zero, suc, ◌<◌, ◌≤◌, Bool, true, false, if◌then◌else◌, List, [], ◌∷◌, length, get_or, Option, Some, None, refl, sym, ap, ◌∙◌, arith}
 use Rattle.std.specs.Prelude.{slice_get, slice_set, remove}
 use Rattle.std.proofs.lemmas.Bool.{cond-true, cond-false, cases_Bool}
+use Rattle.std.proofs.lemmas.Option.{none-some, same_Some}
 use Rattle.cfdp_status.specs.declared.transaction.TransactionId.{TransactionId}
 use Rattle.cfdp_leases.specs.Leases.{is_same}
 use Rattle.cfdp_sessions.specs.Sessions.{SessionFields, session_id, found, replaced, without_session, AreDistinct}
 use Rattle.cfdp_sessions.specs.code.Sessions.{IsFound, session_index}
-use Rattle.cfdp_sessions.proofs.Names.{found_first, found_either, no_some}
+use Rattle.cfdp_sessions.proofs.Names.{found_first, found_either}
 use Rattle.cfdp_leases.proofs.Held.{same_itself}
 use Rattle.cfdp_leases.proofs.Admitted.{same_is}
 
@@ -80,14 +81,11 @@ found_none (s ∷ ss) id h = none_if (is_same (session_id s) id) s ss (session_i
 
 -- ---- by index, where the names are distinct
 
-pub some_same : (x s : SessionFields) → Some x ≡ Some s → x ≡ s
-some_same x s e = cc
-
 -- a session at an index is found by its name
 pub found_by_name : (ss : List SessionFields) (i : ℕ) (s : SessionFields) → slice_get ss i ≡ Some s → IsFound ss (session_id s)
 found_by_name [] i s e = absurd cc
 found_by_name (x ∷ xs) zero s e =
-    found_first x xs (session_id s) (ap (λ (t : SessionFields). is_same (session_id t) (session_id s)) (some_same x s e) ∙ same_itself (session_id s))
+    found_first x xs (session_id s) (ap (λ (t : SessionFields). is_same (session_id t) (session_id s)) (same_Some x s e) ∙ same_itself (session_id s))
 found_by_name (x ∷ xs) (suc i) s e = found_either x xs (session_id s) (found_by_name xs i s e)
 
 -- and one of the same name that is set there replaces it
@@ -96,12 +94,12 @@ pub set_replaced : (ss : List SessionFields) (i : ℕ) (s new : SessionFields) �
 set_replaced [] i s new d e same = absurd cc
 set_replaced (x ∷ xs) zero s new d e same =
     let here : is_same (session_id x) (session_id new) ≡ true =
-    ap (λ (n : TransactionId). is_same n (session_id new)) (ap session_id (some_same x s e) ∙ same) ∙ same_itself (session_id new) in
+    ap (λ (n : TransactionId). is_same n (session_id new)) (ap session_id (same_Some x s e) ∙ same) ∙ same_itself (session_id new) in
     sym (cond-true (is_same (session_id x) (session_id new)) (new ∷ xs) (x ∷ replaced xs new) here)
 set_replaced (x ∷ xs) (suc i) s new d e same = elim (cases_Bool (is_same (session_id x) (session_id new))) [
   | inl here ↦
       let later = found_by_name xs i s e in
-      absurd (no_some later.0 (sym d.0 ∙ ap (found xs) (same_is (session_id x) (session_id new) here ∙ sym same) ∙ later.1))
+      absurd (none-some later.0 (sym d.0 ∙ ap (found xs) (same_is (session_id x) (session_id new) here ∙ sym same) ∙ later.1))
   | inr there ↦
       ap (λ (ys : List SessionFields). x ∷ ys) (set_replaced xs i s new d.1 e same)
       ∙ sym (cond-false (is_same (session_id x) (session_id new)) (new ∷ xs) (x ∷ replaced xs new) there)
@@ -112,11 +110,11 @@ pub index_here : (ss : List SessionFields) (i : ℕ) (s : SessionFields) (id : T
     session_index ss id ≡ i
 index_here [] i s id d e same = absurd cc
 index_here (x ∷ xs) zero s id d e same =
-    let here : is_same (session_id x) id ≡ true = ap (λ (n : TransactionId). is_same n id) (ap session_id (some_same x s e) ∙ same) ∙ same_itself id in
+    let here : is_same (session_id x) id ≡ true = ap (λ (n : TransactionId). is_same n id) (ap session_id (same_Some x s e) ∙ same) ∙ same_itself id in
     cond-true (is_same (session_id x) id) 0 (suc (session_index xs id)) here
 index_here (x ∷ xs) (suc i) s id d e same = elim (cases_Bool (is_same (session_id x) id)) [
   | inl here ↦
       let later = found_by_name xs i s e in
-      absurd (no_some later.0 (sym d.0 ∙ ap (found xs) (same_is (session_id x) id here ∙ sym same) ∙ later.1))
+      absurd (none-some later.0 (sym d.0 ∙ ap (found xs) (same_is (session_id x) id here ∙ sym same) ∙ later.1))
   | inr there ↦ cond-false (is_same (session_id x) id) 0 (suc (session_index xs id)) there ∙ ap suc (index_here xs i s id d.1 e same)
 ]

@@ -1,6 +1,7 @@
 -- Sessions by their names.
 use Rattle.std.proofs.Common.{◌≡◌, ◌⊎◌, inl, inr, Bool, true, false, ◌==◌, if◌then◌else◌, List, [], ◌∷◌, ◌++◌, Option, Some, None, refl, sym, ap, subst, ◌∙◌}
 use Rattle.std.proofs.lemmas.Bool.{cond-true, cond-false, cases_Bool, both_ways}
+use Rattle.std.proofs.lemmas.Option.{none-some, same_Some}
 use Rattle.cfdp_status.specs.declared.transaction.TransactionId.{TransactionId}
 use Rattle.cfdp_leases.specs.Leases.{is_same}
 use Rattle.cfdp_sessions.specs.Sessions.{SessionFields, session_id, found, replaced, without_session, AreDistinct}
@@ -17,15 +18,11 @@ turned_about a b h = elim (cases_Bool (is_same b a)) [
 
 -- ---- a session that is found
 
--- the session itself, where there is one
-abbrev of_some : SessionFields → Option SessionFields → SessionFields
-of_some s None = s
-of_some s (Some t) = t
-
-found_if : (b : Bool) (s t : SessionFields) (later : Option SessionFields) → (if b then Some s else later) ≡ Some t → ((b ≡ true) × (s ≡ t))
+-- of a choice between a session and a later one
+pub chosen_some : (b : Bool) (s t : SessionFields) (later : Option SessionFields) → (if b then Some s else later) ≡ Some t → ((b ≡ true) × (s ≡ t))
     ⊎ ((b ≡ false) × (later ≡ Some t))
-found_if true s t later e = inl (refl, ap (λ (o : Option SessionFields). of_some s o) e)
-found_if false s t later e = inr (refl, e)
+chosen_some true s t later e = inl (refl, same_Some s t e)
+chosen_some false s t later e = inr (refl, e)
 
 pub found_first : (x : SessionFields) (xs : List SessionFields) (id : TransactionId) → is_same (session_id x) id ≡ true → IsFound (x ∷ xs) id
 found_first x xs id h = (x, cond-true (is_same (session_id x) id) (Some x) (found xs id) h)
@@ -40,7 +37,7 @@ pub found_put : (ss : List SessionFields) (new s : SessionFields) (id : Transact
     IsFound (replaced ss new) id
 found_put [] new s id e same = absurd cc
 found_put (x ∷ xs) new s id e same =
-    let seen = found_if (is_same (session_id x) id) x s (found xs id) e in
+    let seen = chosen_some (is_same (session_id x) id) x s (found xs id) e in
     elim (cases_Bool (is_same (session_id x) (session_id new))) [
       | inl here ↦
           subst (λ (ys : List SessionFields). IsFound ys id) (sym (cond-true (is_same (session_id x) (session_id new)) (new ∷ xs) (x ∷ replaced xs new) here)) (
@@ -64,18 +61,15 @@ found_added [] new id h = found_first new [] id h
 found_added (x ∷ xs) new id h = found_either x (xs ++ new ∷ []) id (found_added xs new id h)
 
 first_is : (b : Bool) (x s : SessionFields) (later : Option SessionFields) → b ≡ true → (if b then Some x else later) ≡ Some s → x ≡ s
-first_is true x s later h e = ap (of_some x) e
+first_is true x s later h e = same_Some x s e
 first_is false x s later h e = absurd cc
 
 later_is : (b : Bool) (x s : SessionFields) (later : Option SessionFields) → b ≡ false → (if b then Some x else later) ≡ Some s → later ≡ Some s
 later_is true x s later h e = absurd cc
 later_is false x s later h e = e
 
-pub no_some : (t : SessionFields) → None ≡ Some t → ⊥
-no_some t e = absurd cc
-
 no_session : (id : TransactionId) → IsFound [] id → ⊥
-no_session id f = no_some f.0 f.1
+no_session id f = none-some f.0 f.1
 
 first_or_later : (x : SessionFields) (xs : List SessionFields) (id : TransactionId) → IsFound (x ∷ xs) id → (is_same (session_id x) id ≡ true) ⊎ IsFound xs id
 first_or_later x xs id f = elim (cases_Bool (is_same (session_id x) id)) [
@@ -243,7 +237,7 @@ member_found (x ∷ xs) t d (inl e) = cond-true (is_same (session_id x) (session
 member_found (x ∷ xs) t d (inr m) =
     let later = member_found xs t d.1 m in
     elim (cases_Bool (is_same (session_id x) (session_id t))) [
-      | inl same ↦ absurd (no_some t (sym d.0 ∙ ap (found xs) (same_is (session_id x) (session_id t) same) ∙ later))
+      | inl same ↦ absurd (none-some t (sym d.0 ∙ ap (found xs) (same_is (session_id x) (session_id t) same) ∙ later))
       | inr other ↦ cond-false (is_same (session_id x) (session_id t)) (Some x) (found xs (session_id t)) other ∙ later
     ]
 

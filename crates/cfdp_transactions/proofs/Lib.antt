@@ -1,3 +1,4 @@
+pub mod Options
 pub mod Indexes
 pub mod Balance
 pub mod SlotChanges

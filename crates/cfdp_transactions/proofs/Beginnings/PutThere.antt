@@ -21,6 +21,7 @@ use Rattle.cfdp_transactions.specs.World.{World, free, reserves}
 use Rattle.cfdp_transactions.specs.Sound.{Sound, IsVacant}
 use Rattle.cfdp_transactions.specs.Beginning.{NotPut, HasTransactions, Exists, NoParent, NoRoom, Memory, start_with, with_node, put_fault, PutIsGood, PutIsSound}
 use Rattle.cfdp_transactions.proofs.Soundness.Turning.{empty_by_length}
+use Rattle.cfdp_transactions.proofs.Options.{none_of}
 
 -- nothing is in the way --------------------------------------------------------------------
 
@@ -29,10 +30,6 @@ pub record CanPut (W : World) (p : Path) (node : Node) : Type 0 where
   pub absent : node_at W.filestore p ≡ None
   pub parent : parent_is_good W.filestore p ≡ true
   pub room : weight (Some node) ≤ free W
-
-pub none_of : (x : Option Node) → is_some x ≡ false → x ≡ None
-none_of None h = refl
-none_of (Some node) h = absurd (true≢false h)
 
 passed : (b : Bool) (why : NotPut) (x : Option NotPut) → (if b then Some why else x) ≡ None → (b ≡ false) × (x ≡ None)
 passed true why x h = absurd cc

@@ -1,7 +1,7 @@
 -- From an event of the entry at an index to the next world.
 use Rattle.std.proofs.Common.{◌≡◌, ℕ, zero, suc, ◌<◌, ◌≤◌, List, [], ◌∷◌, length, refl, ap, sym, ◌∙◌, arith}
 use Rattle.std.specs.Prelude.{Bool, true, false, ◌==◌, if◌then◌else◌, nat_lt, nat_le, Option, Some, None, is_some, is_none, IfSome, IfNone, IsNone, IsTrue, IsFalse, slice_get}
-use Rattle.std.proofs.lemmas.Bool.{and_parts, ltb-true, leb-true, lt-ltb, le-leb, lt-leb}
+use Rattle.std.proofs.lemmas.Bool.{and_parts, not-true, ltb-true, leb-true, lt-ltb, le-leb, lt-leb}
 use Rattle.cfdp_status.specs.declared.transaction.TransactionId.{TransactionId}
 use Rattle.cfdp_pdus.specs.Values.{MetadataFields}
 use Rattle.cfdp_pdus.specs.declared.header.Header.{Header}
@@ -22,6 +22,7 @@ use Rattle.cfdp_transactions.specs.CoreFields.{may_begin, outcome_in}
 use Rattle.cfdp_transactions.specs.code.CoreFields.{IsWholeCore}
 use Rattle.cfdp_transactions.specs.declared.books.Books.{Books}
 use Rattle.cfdp_transactions.proofs.KeptTable.WorldOfTable.{index_among, get_in, table_entry_at}
+use Rattle.cfdp_transactions.proofs.Options.{none_of, unless_some}
 
 pub carries_follows : (W V : World) (event : Event) (reply : Reply) → Carries W V (next W event) reply → Follows W event reply V
 carries_follows W V event Reply.Memory h = h
@@ -63,13 +64,9 @@ pub live_where_none : (W : World) (id : TransactionId) (e : Entry) → entry_of 
 live_where_none W id e there none = live_by (is_live e.phase) (outcome_of e) (rw there at none)
 
 -- the outcome of a transaction that is over
-over_by : (live : Bool) (o given : Outcome) → (if live then None else Some o) ≡ Some given → IsFalse live → given ≡ o
-over_by true o given e over = absurd cc
-over_by false o given e over = cc
-
 pub outcome_where_over : (W : World) (id : TransactionId) (e : Entry) (given : Outcome) → entry_of W id ≡ Some e → outcome_in W id ≡ Some given →
     IsFalse (is_live e.phase) → given ≡ outcome_of e
-outcome_where_over W id e given there made over = over_by (is_live e.phase) (outcome_of e) given (rw there at made) over
+outcome_where_over W id e given there made over = sym (unless_some (is_live e.phase) (outcome_of e) given (rw there at made))
 
 module _ (s : Store) (b : Books) (id : TransactionId) where
   pub outcome_made : (index : ℕ) → index ≡ kept_index id b.table → (given : Outcome) → outcome_in (world_of s b) id ≡ Some given →
@@ -113,16 +110,12 @@ pub record Begins (W : World) (h : Header) (m : MetadataFields) : Type 0 where
   pub few : length W.table < 64
   pub short : length m.requests ≤ 64
 
-none_so : {X : Type 0} (o : Option X) → is_none o ≡ true → o ≡ None
-none_so None e = refl
-none_so (Some x) e = absurd cc
-
 pub begins_so : (W : World) (h : Header) (m : MetadataFields) → IsTrue (may_begin W h m) → Begins W h m
 begins_so W h m begun =
     let last = and_parts _ (nat_le (length m.requests) 64) begun in
     let third = and_parts _ (nat_lt (length W.table) 64) last.0 in
     let first = and_parts (h.destination == W.config.entity) (is_none (entry_of W (id_of h))) third.0 in
-    record { mine = first.0; absent = none_so (entry_of W (id_of h)) first.1; few = ltb-true _ _ third.1; short = leb-true _ _ last.1 }
+    record { mine = first.0; absent = none_of (entry_of W (id_of h)) (not-true _ first.1); few = ltb-true _ _ third.1; short = leb-true _ _ last.1 }
 
 pub begins_when : (W : World) (h : Header) (m : MetadataFields) → Begins W h m → IsTrue (may_begin W h m)
 begins_when W h m b = rw (b.mine, b.absent, lt-ltb (length W.table) 64 b.few, le-leb (length m.requests) 64 b.short) refl

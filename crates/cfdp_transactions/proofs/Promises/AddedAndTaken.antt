@@ -2,6 +2,7 @@
 use Rattle.std.proofs.Common.{◌≡◌, ◌≢◌, ◌⊎◌, List, [], length, refl, ap, sym, ◌∙◌, subst}
 use Rattle.std.specs.Prelude.{Option, Some, None, remove, is_some, IsSome, IsFalse, ℕ, not, ◌&&◌, ◌==◌, nat_lt, nat_le}
 use Rattle.std.proofs.lemmas.Bool.{cases_Bool, both_ways, cond_both, cond-true, cond-false}
+use Rattle.std.proofs.lemmas.Option.{none-some, same_Some}
 use mathlib.Core.Logic.{inl, inr}
 use Rattle.cfdp_actions.specs.Actions.{Item}
 use Rattle.cfdp_leases.specs.Leases.{is_same}
@@ -20,12 +21,9 @@ use Rattle.cfdp_transactions.specs.Next.{next}
 use Rattle.cfdp_transactions.specs.code.LowerLaws.{LowerLaws}
 use Rattle.cfdp_transactions.specs.Sound.{Sound}
 use Rattle.cfdp_transactions.specs.Entries.{OnlyMetadataAdds, MetadataAddsItsOwn, OnlyTakeRemoves, TakeRemoves, TakeKeeps, OtherEntriesStay}
-use Rattle.cfdp_transactions.proofs.Promises.Carried.{some_same, unknown_same, moves_on, moved_here, gone_unknown, next_others}
+use Rattle.cfdp_transactions.proofs.Promises.Carried.{unknown_same, moves_on, moved_here, gone_unknown, next_others}
 use Rattle.cfdp_transactions.proofs.Finding.{is_same-true, is_same-same}
 use Rattle.cfdp_transactions.proofs.Lookups.{append_own}
-
-none_some : (e : Entry) → None ≡ Some e → ⊥
-none_some e h = cc
 
 same_or_not : (a b : TransactionId) → (a ≡ b) ⊎ (a ≢ b)
 same_or_not a b = elim (cases_Bool (is_same a b)) [
@@ -47,13 +45,13 @@ module _ (W : World) (h : Header) (m : MetadataFields) (e : Entry) (none : entry
   IsItsOwn a = entry_of a.0 (id_of h) ≡ Some e → MetadataCame h m ≡ MetadataCame e.header e.metadata
 
   own_none : (reply : Reply) → IsItsOwn (W, reply)
-  own_none reply now = absurd (none_some e (sym none ∙ now))
+  own_none reply now = absurd (none-some e (sym none ∙ now))
 
   own_new : (phase : Phase) (slot : ℕ) (items : List Item) (blocks steps : ℕ) (reply : Reply) →
       IsItsOwn (with_new W (new_entry h m phase slot items blocks steps), reply)
   own_new phase slot items blocks steps reply now =
       let new = new_entry h m phase slot items blocks steps in
-      ap (λ (d : Entry). MetadataCame d.header d.metadata) (some_same new e (sym (append_own W.table (id_of h) new refl none) ∙ now))
+      ap (λ (d : Entry). MetadataCame d.header d.metadata) (same_Some new e (sym (append_own W.table (id_of h) new refl none) ∙ now))
 
   own_judged : (v : Verdict) → IsItsOwn (judged W h m v)
   own_judged (Refuse r) = own_new Refused 0 [] 0 0 (Reply.Refused r)
@@ -74,17 +72,17 @@ module _ (W : World) (h : Header) (m : MetadataFields) (e : Entry) (none : entry
 own_event : LowerLaws → (W : World) (event : Event) (e : Entry) → Sound W → entry_of W (about event) ≡ None → entry_of (next W event).0 (about event) ≡ Some e →
     event ≡ MetadataCame e.header e.metadata
 own_event laws W (MetadataCame h m) e s none now = own_came W h m e none now
-own_event laws W (DataCame h piece) e s none now = absurd (none_some e (sym (only_metadata_adds laws W (DataCame h piece) (id_of h) s refl none) ∙ now))
-own_event laws W (EofCame h eof) e s none now = absurd (none_some e (sym (only_metadata_adds laws W (EofCame h eof) (id_of h) s refl none) ∙ now))
-own_event laws W (Step id) e s none now = absurd (none_some e (sym (only_metadata_adds laws W (Step id) id s refl none) ∙ now))
-own_event laws W (Cancel id) e s none now = absurd (none_some e (sym (only_metadata_adds laws W (Cancel id) id s refl none) ∙ now))
-own_event laws W (Check id) e s none now = absurd (none_some e (sym (only_metadata_adds laws W (Check id) id s refl none) ∙ now))
-own_event laws W (Take id) e s none now = absurd (none_some e (sym (only_metadata_adds laws W (Take id) id s refl none) ∙ now))
+own_event laws W (DataCame h piece) e s none now = absurd (none-some e (sym (only_metadata_adds laws W (DataCame h piece) (id_of h) s refl none) ∙ now))
+own_event laws W (EofCame h eof) e s none now = absurd (none-some e (sym (only_metadata_adds laws W (EofCame h eof) (id_of h) s refl none) ∙ now))
+own_event laws W (Step id) e s none now = absurd (none-some e (sym (only_metadata_adds laws W (Step id) id s refl none) ∙ now))
+own_event laws W (Cancel id) e s none now = absurd (none-some e (sym (only_metadata_adds laws W (Cancel id) id s refl none) ∙ now))
+own_event laws W (Check id) e s none now = absurd (none-some e (sym (only_metadata_adds laws W (Check id) id s refl none) ∙ now))
+own_event laws W (Take id) e s none now = absurd (none-some e (sym (only_metadata_adds laws W (Take id) id s refl none) ∙ now))
 
 pub metadata_adds_its_own : LowerLaws → MetadataAddsItsOwn
 metadata_adds_its_own laws W event id e s none now = elim (same_or_not id (about event)) [
   | inl own ↦ own_event laws W event e s (sym (ap (entry_of W) own) ∙ none) (sym (ap (entry_of (next W event).0) own) ∙ now)
-  | inr ne ↦ absurd (none_some e (sym (next_others laws W s event id ne ∙ none) ∙ now))
+  | inr ne ↦ absurd (none-some e (sym (next_others laws W s event id ne ∙ none) ∙ now))
 ]
 
 -- what is taken out --------------------------------------------------------------------

@@ -2,6 +2,7 @@
 use Rattle.std.proofs.Common.{◌≡◌, ◌≢◌, ℕ, length, ◌⊎◌, refl, ap, sym, ◌∙◌, subst}
 use Rattle.std.specs.Prelude.{Bool, false, IsFalse, not, ◌&&◌, ◌==◌, nat_lt, nat_le, Option, Some, None, slice_get, remove}
 use Rattle.std.proofs.lemmas.Bool.{cond_both}
+use Rattle.std.proofs.lemmas.Option.{same_Some}
 use mathlib.Core.Logic.{inl, inr}
 use Rattle.cfdp_status.specs.declared.transaction.TransactionId.{TransactionId}
 use Rattle.cfdp_pdus.specs.Values.{MetadataFields}
@@ -23,9 +24,6 @@ use Rattle.cfdp_transactions.proofs.Finding.{found_name}
 use Rattle.cfdp_transactions.proofs.Lookups.{set_other, append_other, remove_other, set_own}
 use Rattle.cfdp_transactions.proofs.Soundness.OwnChange.{Moves}
 use Rattle.cfdp_transactions.proofs.Soundness.EachEvent.{still, cancelled_moves, taken_table, check_moves, eof_moves, step_moves_in, data_moves}
-
-pub some_same : (a b : Entry) → Some a ≡ Some b → a ≡ b
-some_same a b h = cc
 
 -- transactions that are not known ------------------------------------------------------
 
@@ -140,7 +138,7 @@ module _ (laws : LowerLaws) (W : World) (s : Sound W) where
   next_carried event e now found after = elim (fate event e found) [
     | inl p ↦
         subst (λ (d : Entry). IsCarriedOn (performs event e.phase) W.filestore (next W event).0.filestore e d)
-        (some_same p.0 now (sym (moved_here event e found p) ∙ after)) p.1.carried
+        (same_Some p.0 now (sym (moved_here event e found p) ∙ after)) p.1.carried
     | inr gone ↦ absurd (gone_unknown (about event) e now found (rw gone at after))
   ]
 

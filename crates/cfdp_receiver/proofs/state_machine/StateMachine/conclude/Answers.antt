@@ -1,11 +1,11 @@
 use Rattle.std.proofs.Common.{◌≡◌, ℕ, List, [], ◌∷◌, sym, ap, subst, ◌∙◌}
 use Rattle.cfdp_status.specs.declared.transaction.TransactionId.{TransactionId}
 use Rattle.std.specs.Prelude.{slice_get}
+use Rattle.std.proofs.lemmas.Option.{same_Some}
 use Rattle.cfdp_retransmission.specs.Timers.{restarted}
 use Rattle.cfdp_retransmission.specs.declared.timer.Timer.{Timer}
 use Rattle.cfdp_sessions.specs.Sessions.{SessionFields, AreDistinct, session_id, replaced}
 use Rattle.cfdp_sessions.specs.declared.session.Stage.TheVariants.{Waiting}
-use Rattle.cfdp_sessions.proofs.Indexes.{some_same}
 use Rattle.cfdp_transactions.specs.Writable.{finished_octets}
 use Rattle.cfdp_receiver.specs.declared.answer.Conclusion.{Conclusion}
 use Rattle.cfdp_receiver.specs.declared.answer.Indication.TheVariants.{TransactionFinished}
@@ -52,7 +52,7 @@ returns-then-session-2 c outcome sent conclusion octets session at =
       last_finished = c.self.inside.last_finished;
     } in
     let done = concludes_waiting M c.args.index a s outcome c.session-session.ensures field (sym sent ∙ c.if-not-is_sent.false) acked said in
-    subst (λ (x : SessionFields). Concludes M N a x outcome) (some_same s session (sym c.session-session.ensures ∙ at))
+    subst (λ (x : SessionFields). Concludes M N a x outcome) (same_Some s session (sym c.session-session.ensures ∙ at))
     (subst (λ (X : StateMachineFields). Concludes M X a s outcome) (sym same) done)
 
 pub returns : goal.returns
@@ -86,5 +86,5 @@ returns c outcome sent conclusion octets session at =
       last_finished = c.of.result;
     } in
     let done = concludes_closed M a s outcome distinct field (sym sent ∙ c.if-not-is_sent.false) acked said in
-    subst (λ (x : SessionFields). Concludes M N a x outcome) (some_same s session (sym c.session-session.ensures ∙ at))
+    subst (λ (x : SessionFields). Concludes M N a x outcome) (same_Some s session (sym c.session-session.ensures ∙ at))
     (subst (λ (X : StateMachineFields). Concludes M X a s outcome) (sym same) done)
