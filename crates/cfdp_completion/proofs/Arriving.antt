@@ -3,7 +3,7 @@ use Rattle.std.proofs.Common.{◌≡◌, ℕ, ◌+◌, ◌*◌, ◌<◌, ◌≤�
 use Rattle.std.specs.List.{AllByRecursion, list_all}
 use Rattle.std.specs.Prelude.{is_some}
 use Rattle.std.proofs.lemmas.List.{length-map, length-take, length-drop}
-use Rattle.std.proofs.lemmas.Bool.{eqb-true, cases_lt, cond_both, or_from}
+use Rattle.std.proofs.lemmas.Bool.{eqb-true, cases_lt, cond_both, or_from, cond-true, cond-false}
 use Rattle.cfdp_actions.specs.Actions.{Item, Install}
 use Rattle.cfdp_paths.specs.Paths.{Path, path_of}
 use Rattle.cfdp_verifier.specs.Verdict.{Verdict, Grant, Refuse, verdict, Parsed, Good, Bad, parsed, parsed_from, with_file, with_destination}
@@ -30,14 +30,6 @@ use Rattle.cfdp_uploads.proofs.Pieces.{part, begins_within}
 use Rattle.cfdp_completion.specs.Delivering.{data_event, data_events, upload_events, kept_piece, kept_after, StaysFew, AdmittedIsComplete}
 use Rattle.cfdp_completion.proofs.FileKept.{file_kept}
 
--- ---- choices
-
-yes : {A : Type 0} (b : Bool) (x y : A) → b ≡ true → cond b x y ≡ x
-yes b x y is = ap (λ t. cond t x y) is
-
-no : {A : Type 0} (b : Bool) (x y : A) → b ≡ false → cond b x y ≡ y
-no b x y is = ap (λ t. cond t x y) is
-
 not_zero : (n : ℕ) → 0 < n → eqb n 0 ≡ false
 not_zero n some = ne_eqb n 0 (λ z. absurd (omega (arith, some, z)))
 
@@ -53,8 +45,8 @@ pub record IsReceiving (W : World) (u : UploadFields) (rs : Received) (e : Entry
 
 bound_is : (c : Config) (u : UploadFields) → IsUpload u → has_file u.metadata ≡ true → 0 < length u.file → bound c u.metadata ≡ length u.file
 bound_is c u is file some =
-    yes (has_file u.metadata) _ 0 file
-    ∙ no (eqb u.metadata.size 0) c.cap u.metadata.size (not_zero u.metadata.size (omega (arith, is.size)))
+    cond-true (has_file u.metadata) _ 0 file
+    ∙ cond-false (eqb u.metadata.size 0) c.cap u.metadata.size (not_zero u.metadata.size (omega (arith, is.size)))
     ∙ is.size
 
 -- ---- a piece
@@ -86,15 +78,15 @@ piece_stored W u rs e index is file at lt few =
     let fits : piece.offset + length piece.octets ≤ length u.file = (part u is index lt).within in
     let same : received ≡ kept_piece u rs index = ap (λ (r : Received). kept_with r piece.offset piece.octets) at.received in
     let less : pieces received ≤ 32 = subst (λ (r : Received). pieces r ≤ 32) (sym same) few in
-    yes (eqb u.header.destination W.config.entity) (data_came W k piece (entry_of W (id_of u.header))) (W, replied.NotForUs)
+    cond-true (eqb u.header.destination W.config.entity) (data_came W k piece (entry_of W (id_of u.header))) (W, replied.NotForUs)
     (eq-eqb u.header.destination W.config.entity at.ours)
     ∙ ap (data_came W k piece) at.here
-    ∙ yes (takes_data e.phase) (data_at W k e piece) (W, replied.Idle) (ap takes_data at.phase)
-    ∙ no (eqb (length piece.octets) 0) _ _ (not_zero (length piece.octets) (piece_some u is index lt))
-    ∙ no (ltb (limit e.phase W.config e) (piece.offset + length piece.octets)) _ _
+    ∙ cond-true (takes_data e.phase) (data_at W k e piece) (W, replied.Idle) (ap takes_data at.phase)
+    ∙ cond-false (eqb (length piece.octets) 0) _ _ (not_zero (length piece.octets) (piece_some u is index lt))
+    ∙ cond-false (ltb (limit e.phase W.config e) (piece.offset + length piece.octets)) _ _
     (le-ltb (limit e.phase W.config e) (piece.offset + length piece.octets)
     (omega (arith, fits, limit_is W u rs e is file at (omega (arith, begins)))))
-    ∙ no (ltb 32 (pieces received)) _ _ (le-ltb 32 (pieces received) less)
+    ∙ cond-false (ltb 32 (pieces received)) _ _ (le-ltb 32 (pieces received) less)
     ∙ ap (λ (p : Phase). stored p (stores W k e received) k (storing W.filestore e received)) at.phase
 
 piece_received : (W : World) (u : UploadFields) (rs : Received) (e : Entry) (index : ℕ) → IsReceiving W u rs e
@@ -182,19 +174,19 @@ end_completes W u e is file at some =
     let fits : length u.file ≤ bound W.config e.metadata =
     subst (λ (m : MetadataFields). length u.file ≤ bound W.config m) (sym at.metadata) (fits_bound W.config u is file) in
     let has : has_file e.metadata ≡ true = ap has_file at.metadata ∙ file in
-    yes (eqb u.header.destination W.config.entity) (eof_came W k (eof_of u) (entry_of W (id_of u.header))) (W, replied.NotForUs)
+    cond-true (eqb u.header.destination W.config.entity) (eof_came W k (eof_of u) (entry_of W (id_of u.header))) (W, replied.NotForUs)
     (eq-eqb u.header.destination W.config.entity at.ours)
     ∙ ap (eof_came W k (eof_of u)) at.here
-    ∙ no (not (is_live e.phase)) _ _ (ap (λ (p : Phase). not (is_live p)) at.phase)
-    ∙ no (not (is_receiving e.phase)) _ _ (ap (λ (p : Phase). not (is_receiving p)) at.phase)
-    ∙ no (eqb (length e.items) 0) _ _ (not_zero (length e.items) some)
-    ∙ no (not (has_file e.metadata)) _ _ (ap not has)
-    ∙ no (ltb (bound W.config e.metadata) (length u.file) || ltb (length u.file) (length e.received)) _ _
+    ∙ cond-false (not (is_live e.phase)) _ _ (ap (λ (p : Phase). not (is_live p)) at.phase)
+    ∙ cond-false (not (is_receiving e.phase)) _ _ (ap (λ (p : Phase). not (is_receiving p)) at.phase)
+    ∙ cond-false (eqb (length e.items) 0) _ _ (not_zero (length e.items) some)
+    ∙ cond-false (not (has_file e.metadata)) _ _ (ap not has)
+    ∙ cond-false (ltb (bound W.config e.metadata) (length u.file) || ltb (length u.file) (length e.received)) _ _
     (or_from (ltb (bound W.config e.metadata) (length u.file)) (ltb (length u.file) (length e.received))
     (le-ltb (bound W.config e.metadata) (length u.file) fits) (le-ltb (length u.file) (length e.received) (omega (arith, long))))
-    ∙ no (not (is_whole (length u.file) e.received)) _ _
+    ∙ cond-false (not (is_whole (length u.file) e.received)) _ _
     (ap (λ (r : Received). not (is_whole (length u.file) r)) at.received ∙ ap not (whole_there u.file))
-    ∙ yes (is_right_checksum e (checksum u.file)) _ _ (checked_right u e at.received)
+    ∙ cond-true (is_right_checksum e (checksum u.file)) _ _ (checked_right u e at.received)
 
 -- ---- the Metadata
 

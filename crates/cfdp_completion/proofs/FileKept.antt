@@ -3,6 +3,7 @@ use Rattle.std.proofs.Common.{◌≡◌, ℕ, zero, suc, ◌+◌, ◌-◌, ◌<�
 use Rattle.std.specs.List.{AllByRecursion, slice_get}
 use Rattle.std.proofs.lemmas.List.{get_or-take, get_or-drop}
 use Rattle.std.proofs.lemmas.Bool.{cases_lt}
+use Rattle.std.proofs.lemmas.Option.{slice_get_past, slice_get-get_or}
 use Rattle.cfdp_transactions.specs.Received.{Received, kept_with, brought}
 use Rattle.cfdp_transactions.specs.ReceivedLaws.{octet_at, or_offset}
 use Rattle.cfdp_transactions.proofs.Received.OctetsAndGaps.{first_stays}
@@ -11,7 +12,6 @@ use Rattle.cfdp_uploads.specs.Uploads.{UploadFields, IsUpload, piece_of, pieces_
 use Rattle.cfdp_uploads.specs.Laws.{IsPart}
 use Rattle.cfdp_uploads.proofs.Pieces.{part, whole}
 use Rattle.cfdp_completion.specs.Delivering.{kept_piece, kept_after, FileIsKept}
-use Rattle.cfdp_transactions.proofs.Received.Writing.{get_past_end, get_there}
 use Rattle.cfdp_transactions.proofs.Soundness.Receiving.{kept_within}
 
 -- ---- what a piece brings
@@ -42,14 +42,14 @@ brings file piece is i from to =
     let j : ℕ = i - piece.offset in
     let at : piece.offset + j ≡ i = omega arith in
     let lt : j < length piece.octets = omega arith in
-    ap (brought piece.offset piece.octets) (sym at) ∙ brought_from piece.offset j piece.octets ∙ get_there piece.octets j lt
+    ap (brought piece.offset piece.octets) (sym at) ∙ brought_from piece.offset j piece.octets ∙ slice_get-get_or piece.octets j 0 lt
     ∙ ap Some (part_octet file piece is j lt) ∙ ap (λ n. Some (get_or file n 0)) at
 
 brought_at_end : (file : List ℕ) (piece : FileDataFields) (i : ℕ) → piece.offset + length piece.octets ≤ i → IsOf file (brought piece.offset piece.octets i) i
 brought_at_end file piece i past =
     let j : ℕ = i - piece.offset in
     let at : piece.offset + j ≡ i = omega arith in
-    inl (ap (brought piece.offset piece.octets) (sym at) ∙ brought_from piece.offset j piece.octets ∙ get_past_end piece.octets j (omega arith))
+    inl (ap (brought piece.offset piece.octets) (sym at) ∙ brought_from piece.offset j piece.octets ∙ slice_get_past piece.octets j (omega arith))
 
 brought_part : (file : List ℕ) (piece : FileDataFields) → IsPart file piece → (i : ℕ) → IsOf file (brought piece.offset piece.octets i) i
 brought_part file piece is i =

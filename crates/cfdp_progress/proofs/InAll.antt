@@ -3,6 +3,7 @@ use Rattle.std.specs.Prelude.{if◌then◌else◌, is_some}
 use Rattle.std.specs.List.{AllByRecursion, flat_map}
 use Rattle.std.proofs.Common.{◌≡◌, ◌⊎◌, inl, inr, ℕ, ◌+◌, ◌<◌, ◌≤◌, Bool, true, false, not, List, [], ◌∷◌, ◌++◌, map, length, Option, Some, None, refl, sym, ap, subst, ◌∙◌, arith}
 use Rattle.std.proofs.lemmas.Bool.{cond_both}
+use Rattle.std.proofs.lemmas.List.{length_push}
 use Rattle.cfdp_status.specs.declared.transaction.TransactionId.{TransactionId}
 use Rattle.cfdp_leases.specs.Leases.{is_same}
 use Rattle.cfdp_pdus.specs.declared.eof.Eof.{Eof}
@@ -41,7 +42,7 @@ use Rattle.cfdp_progress.proofs.PieceOfAwaiting.{fits_of, few_of}
 use Rattle.cfdp_progress.proofs.Turns.{Before}
 use Rattle.cfdp_progress.proofs.Runs.{still_awaits, sound_all, distinct_all, mib_all}
 use Rattle.cfdp_progress.proofs.Openings.{open_expire, open_first}
-use Rattle.cfdp_progress.proofs.Rounds.{SoFar, Room, is_below, not_enough, round_goes, one_more, lost_more, count_more}
+use Rattle.cfdp_progress.proofs.Rounds.{SoFar, Room, is_below, not_enough, round_goes, one_more, lost_more}
 use Rattle.cfdp_progress.proofs.ClosedAfterLosses.{AreLow, IsSafeToSend, over, rounds_close, remembers_it, closed_later, closed_after, closed_before, is_lost_by}
 use Rattle.cfdp_progress.proofs.Concluding.{concluded_when_done, concluded_later}
 use Rattle.cfdp_receiver.proofs.Delivering.{takes_none}
@@ -208,7 +209,7 @@ safe_rest : (mib : Mib) (count later : ℕ) (rs : Received) (done : List Exchang
 safe_rest mib count later rs done round rounds (inl below) few = inl below.1
 safe_rest mib count later rs done round rounds (inr safe) few =
     inr (
-      omega (arith, safe.0, few, count_more done round.exchange),
+      omega (arith, safe.0, few, length_push done round.exchange),
       omega
           (arith, safe.1, lost_more done round.exchange),
       omega (arith, safe.2),
@@ -272,7 +273,7 @@ all_go laws next_sound promised whole mib R id (round ∷ rounds) e eof s rs don
           (known_all laws next_sound promised N round.rest sound_now apart known_now) left.before
           (one_more most rs eof done e left.entry naks exchange so asks is.answered.exchanged left.kept) are.1
           (safe_rest mib s.timer.count left.session.timer.count rs done round rounds safe (omega (arith, left.few is.answered.once, opened.few)))
-          (omega (arith, enough, lost_more done exchange, count_more done exchange))
+          (omega (arith, enough, lost_more done exchange, length_push done exchange))
           )
     ]
 

@@ -1,8 +1,7 @@
 -- Rounds in which an EOF PDU is held: each loses a PDU, until the Metadata PDU comes.
-use Rattle.std.specs.Prelude.{◌||◌}
 use Rattle.std.specs.List.{AllByRecursion, flat_map}
 use Rattle.std.proofs.Common.{◌≡◌, ◌⊎◌, inl, inr, ℕ, ◌+◌, ◌<◌, ◌≤◌, Bool, true, false, ◌&&◌, List, [], ◌∷◌, ◌++◌, length, Option, Some, None, refl, sym, ap, subst, ◌∙◌, arith}
-use Rattle.std.proofs.lemmas.Bool.{cases_Bool, and_parts, or_parts, both_ways}
+use Rattle.std.proofs.lemmas.Bool.{cases_Bool, and_parts, or_parts, both_ways, or_cases}
 use Rattle.cfdp_status.specs.declared.transaction.TransactionId.{TransactionId}
 use Rattle.cfdp_leases.specs.Leases.{is_same}
 use Rattle.cfdp_pdus.specs.declared.eof.Eof.{Eof}
@@ -172,13 +171,9 @@ came_here R (Finish now) is id it = absurd cc
 came_here R (CancelAsked now n) is id it = absurd cc
 came_here R ForgetAsked is id it = absurd cc
 
-one_of : (a b : Bool) → (a || b) ≡ true → (a ≡ true) ⊎ (b ≡ true)
-one_of true b h = inl refl
-one_of false b h = inr h
-
 came_in : (R : State) (inputs : List Input) (id : TransactionId) → comes R id inputs ≡ true → MetadataCame R inputs id
 came_in R [] id it = absurd cc
-came_in R (i ∷ is) id it = elim (one_of (joins_held R id i) (comes (after_input R i) id is) it) [
+came_in R (i ∷ is) id it = elim (or_cases (joins_held R id i) (comes (after_input R i) id is) it) [
   | inl here ↦ came_here R i is id here
   | inr rest ↦ came_later R i is id (came_in (after_input R i) is id rest)
 ]
@@ -189,7 +184,7 @@ came_in_rounds R [] id it = absurd cc
 came_in_rounds R (round ∷ rounds) id it =
     let M = after_all R (held_inputs round) in
     let others = flat_map held_inputs rounds in
-    elim (one_of (comes (after_input R round.opening) id round.rest) (comes_in M id rounds) it) [
+    elim (or_cases (comes (after_input R round.opening) id round.rest) (comes_in M id rounds) it) [
       | inl here ↦ came_before R (held_inputs round) others id (came_later R round.opening round.rest id
           (came_in (after_input R round.opening) round.rest id here))
       | inr rest ↦ came_after R (held_inputs round) others id (came_in_rounds M rounds id rest)

@@ -1,6 +1,7 @@
 -- Rounds in which NAK PDUs are sent and answered: what is received follows the pure rounds of the NAK procedure, until the file is delivered.
 use Rattle.std.proofs.Common.{◌≡◌, ◌⊎◌, inl, inr, ℕ, ◌+◌, ◌<◌, ◌≤◌, Bool, false, List, [], ◌∷◌, ◌++◌, length, refl, sym, ap, subst, ◌∙◌, arith}
 use Rattle.std.proofs.lemmas.Bool.{cases_Bool, cases_lt}
+use Rattle.std.proofs.lemmas.List.{length_push}
 use Rattle.cfdp_status.specs.declared.transaction.TransactionId.{TransactionId}
 use Rattle.cfdp_pdus.specs.declared.eof.Eof.{Eof}
 use Rattle.cfdp_directives.specs.Reading.{NakFields}
@@ -48,10 +49,6 @@ after_more rs (d ∷ done) round = after_more (kept_after_round rs d) done round
 pub lost_more : (done : List Exchange) (round : Exchange) → lost_in (done ++ round ∷ []) ≡ lost_in done + lost_of round
 lost_more [] round = omega arith
 lost_more (d ∷ done) round = omega (arith, lost_more done round)
-
-pub count_more : (done : List Exchange) (round : Exchange) → length (done ++ round ∷ []) ≡ length done + 1
-count_more [] round = omega arith
-count_more (d ∷ done) round = omega (arith, count_more done round)
 
 pub one_more : (most : ℕ) (rs : Received) (eof : Eof) (done : List Exchange) (e new : Entry) (naks : List NakFields) (round : Exchange) →
     SoFar most rs eof done e → requests_of_each naks ≡ asked_for most eof.size e.received → IsExchange (requests_of_each naks) round →
@@ -101,7 +98,7 @@ safe_rest : (limit count later : ℕ) (rs : Received) (done : List Exchange) (ro
     IsSafeToAsk limit count rs done (round ∷ rounds) → later ≤ count + 1 → IsSafeToAsk limit later rs (done ++ round.exchange ∷ []) rounds
 safe_rest limit count later rs done round rounds (inl below) few = inl below.1
 safe_rest limit count later rs done round rounds (inr counted) few =
-    inr (omega (arith, counted.0, few, count_more done round.exchange), omega (arith, counted.1, lost_more done round.exchange))
+    inr (omega (arith, counted.0, few, length_push done round.exchange), omega (arith, counted.1, lost_more done round.exchange))
 
 -- below the limit, or the limit is above what was lost so far
 abbrev pub Room : Bool → ℕ → ℕ → Received → List Exchange → Type 0
@@ -160,7 +157,7 @@ rounds_go next_sound promised whole mib R id (round ∷ rounds) e eof s rs done 
           (one_more most rs eof done e left.entry naks exchange so asks is.answered.exchanged left.kept) are.1
           (safe_rest mib.nak.limit s.timer.count left.session.timer.count rs done round rounds safe
           (omega (arith, left.few is.answered.once, opened.few)))
-          (omega (arith, enough, lost_more done exchange, count_more done exchange))
+          (omega (arith, enough, lost_more done exchange, length_push done exchange))
           )
     ]
 

@@ -75,11 +75,6 @@ before_apart (suc k) zero (suc j) ne e = absurd (omega arith)
 before_apart (suc k) (suc i) zero ne e = absurd (omega arith)
 before_apart (suc k) (suc i) (suc j) ne e = before_apart k i j (λ q. ne (ap suc q)) (omega arith)
 
-pub get_inside : {X : Type 0} (t : List X) (k : ℕ) (x : X) → slice_get t k ≡ Some x → k < length t
-get_inside [] k x h = absurd cc
-get_inside (y ∷ t) zero x h = omega arith
-get_inside (y ∷ t) (suc k) x h = omega (arith, get_inside t k x h)
-
 pub length_remove : {X : Type 0} (t : List X) (k : ℕ) → length (remove t k) ≤ length t
 length_remove [] zero = omega arith
 length_remove [] (suc k) = omega arith

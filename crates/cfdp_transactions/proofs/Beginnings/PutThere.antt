@@ -8,7 +8,7 @@
 use Rattle.std.proofs.Common.{◌≡◌, ◌≢◌, ℕ, ◌+◌, ◌-◌, ◌/◌, ◌%◌, min, ◌≤◌, Bool, true, false, List, [], ◌∷◌, ◌++◌, length, set, get_or, refl, ap, sym, ◌∙◌, subst, arith}
 use Rattle.std.specs.Prelude.{Option, Some, None, Result, Ok, Err, OnOk, OnErr, is_some, not, ◌==◌, nat_lt, if◌then◌else◌, replicate, slice_get}
 use Rattle.std.proofs.lemmas.Bool.{true≢false, not-false, eqb-true, ltb-false, le-ltb, and_parts}
-use Rattle.std.proofs.lemmas.List.{set-set, set-get_or, get_or-set_same, length-replicate, length-set, drop_all, append-nil}
+use Rattle.std.proofs.lemmas.List.{set-set, set-get_or, get_or-set_same, length-replicate, length-set, drop_all, append-nil, nil_from_length}
 use Rattle.cfdp_paths.specs.Paths.{Path, parent}
 use Rattle.cfdp_actions.specs.Filestore.{Node, File, Filestore, node_at, staged_in, blocks_of, weight, blocks, Becomes, Stages, changed, is_directory, is_good, parent_is_good, IsRooted}
 use Rattle.cfdp_actions.specs.Store.{Store, free_blocks, with_changes, extended, overwritten}
@@ -20,7 +20,6 @@ use Rattle.cfdp_transactions.specs.Entry.{Entry}
 use Rattle.cfdp_transactions.specs.World.{World, free, reserves}
 use Rattle.cfdp_transactions.specs.Sound.{Sound, IsVacant}
 use Rattle.cfdp_transactions.specs.Beginning.{NotPut, HasTransactions, Exists, NoParent, NoRoom, Memory, start_with, with_node, put_fault, PutIsGood, PutIsSound}
-use Rattle.cfdp_transactions.proofs.Soundness.Turning.{empty_by_length}
 use Rattle.cfdp_transactions.proofs.Options.{none_of}
 
 -- nothing is in the way --------------------------------------------------------------------
@@ -42,7 +41,7 @@ can_put W p node none =
     let three = passed (not (parent_is_good W.filestore p)) NoParent _ two.1 in
     let four = passed (nat_lt (free W) (weight (Some node))) NoRoom _ three.1 in
     record {
-      idle = empty_by_length W.table (eqb-true (length W.table) 0 (not-false _ one.0));
+      idle = nil_from_length W.table (eqb-true (length W.table) 0 (not-false _ one.0));
       absent = none_of (node_at W.filestore p) two.0;
       parent = not-false _ three.0;
       room = ltb-false _ _ four.0;

@@ -7,7 +7,7 @@ use Rattle.std.proofs.Common.{◌≡◌, ℕ, zero, suc, ◌-◌, ◌≤◌, Lis
 use Rattle.std.specs.Prelude.{Bool, true, false, ◌||◌, if◌then◌else◌, nat_lt, Option, Some, None, slice_get, slice_index_or, replicate}
 use Rattle.std.proofs.lemmas.Bool.Decides.{nat_tests}
 use Rattle.std.proofs.lemmas.List.Folds.{sum_by-replicate}
-use Rattle.std.proofs.lemmas.List.{length-map}
+use Rattle.std.proofs.lemmas.List.{length-map, nil_from_length}
 use Rattle.cfdp_paths.specs.Paths.{Path}
 use Rattle.cfdp_actions.specs.Filestore.{Node, Becomes, weight, blocks}
 use Rattle.cfdp_actions.specs.Store.{Store, free_blocks, with_changes}
@@ -19,7 +19,6 @@ use Rattle.cfdp_transactions.specs.code.Books.{IsBooked, world_of}
 use Rattle.cfdp_transactions.specs.code.CoreFields.{IsWholeCore}
 use Rattle.cfdp_transactions.specs.Beginning.{IsGoodStart, put_fault}
 use Rattle.cfdp_transactions.specs.declared.books.Books.{Books}
-use Rattle.cfdp_transactions.proofs.Soundness.Turning.{empty_by_length}
 use Rattle.cfdp_transactions.proofs.Beginnings.Starting.{good_sound}
 use Rattle.cfdp_transactions.proofs.Beginnings.PutThere.{can_put}
 
@@ -69,7 +68,7 @@ pub put_booked : (s t : Store) (b : Books) (p : Path) (node : Node) (q : Budget)
 put_booked s t b p node q booked none put is =
     let idle : table_of s.filestore b.table ≡ [] = (can_put (world_of s b) p node none).idle in
     begun_booked t (record b { quota = q })
-    (empty_by_length b.table (sym (length-map b.table (entry_in s.filestore)) ∙ ap length idle))
+    (nil_from_length b.table (sym (length-map b.table (entry_in s.filestore)) ∙ ap length idle))
     (booked.leases ∙ ap leases_of idle)
     (ap (λ (u : Store). u.capacity) put ∙ booked.capacity)
     booked.few

@@ -7,6 +7,7 @@ use Rattle.std.proofs.lemmas.Bool.{true≢false}
 use Rattle.std.specs.Prelude.{None, is_some, replicate, sum_by}
 use Rattle.std.specs.FinMap as finite
 use Rattle.std.proofs.lemmas.List.Folds.{sum_by-replicate}
+use Rattle.std.proofs.lemmas.List.{nil_from_length}
 use Rattle.cfdp_paths.specs.Paths.{Path, path_cmp}
 use Rattle.cfdp_actions.specs.Filestore.{Node, Filestore, node_at, empty_filestore, blocks_of, weights, blocks}
 use Rattle.cfdp_actions.proofs.Growth.{blocks_of-zero}
@@ -15,7 +16,6 @@ use Rattle.cfdp_transactions.specs.Config.{Config}
 use Rattle.cfdp_transactions.specs.World.{start}
 use Rattle.cfdp_transactions.specs.Sound.{Sound}
 use Rattle.cfdp_transactions.specs.Beginning.{start_with, IsGoodStart}
-use Rattle.cfdp_transactions.proofs.Soundness.Turning.{empty_by_length}
 
 none_staged : (n i : ℕ) → get_or {A = List ℕ} (replicate n []) i [] ≡ []
 none_staged zero i = refl
@@ -23,7 +23,7 @@ none_staged (suc n) zero = refl
 none_staged (suc n) (suc i) = none_staged n i
 
 pub no_entries : finite.entries (finite.empty {X = Node} {R = path_cmp}) ≡ []
-no_entries = empty_by_length _ (sym (finite.len-entries finite.empty) ∙ finite.len-empty path_cmp Node)
+no_entries = nil_from_length _ (sym (finite.len-entries finite.empty) ∙ finite.len-empty path_cmp Node)
 
 no_blocks : (es : List (Path × Node)) (n : ℕ) → es ≡ [] → weights es + sum_by (λ (octets : List ℕ). blocks_of (length octets)) (replicate n []) ≡ 0
 no_blocks es n none = rw (none, sum_by-replicate (λ (octets : List ℕ). blocks_of (length octets)) n [], blocks_of-zero) (omega arith)

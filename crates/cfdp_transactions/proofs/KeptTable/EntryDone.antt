@@ -1,6 +1,7 @@
 -- The program's table, leases and quota after a live transaction without items was done.
 use Rattle.std.proofs.Common.{◌≡◌, ℕ, zero, suc, ◌+◌, drop, List, [], refl, arith}
 use Rattle.std.specs.Prelude.{true, Some, slice_get, slice_set, IsTrue, IsFalse}
+use Rattle.std.proofs.lemmas.List.{nil_from_length}
 use Rattle.cfdp_actions.specs.Actions.{Item}
 use Rattle.cfdp_actions.specs.Store.{Store}
 use Rattle.cfdp_quota.specs.Budget.{Budget, entry_at, reserve_at, spare, closing}
@@ -15,7 +16,6 @@ use Rattle.cfdp_transactions.proofs.KeptTable.Accounts.{Adjusts}
 use Rattle.cfdp_transactions.proofs.KeptTable.Answering.{entry_is}
 use Rattle.cfdp_transactions.proofs.KeptTable.Budgets.{closed_here, closed_elsewhere, reserve_is}
 use Rattle.cfdp_transactions.proofs.KeptTable.EntryChanged.{entry_at_k, kept_entry, reserve_open, table_now, booked_now}
-use Rattle.cfdp_transactions.proofs.Soundness.Turning.{empty_by_length}
 
 none_following : (n : ℕ) → drop n (let none : List Item = [] in none) ≡ []
 none_following zero = refl
@@ -43,7 +43,7 @@ module _ (s : Store) (b : Books) (sound : Sound (world_of s b)) (booked : IsBook
       let kept = kept_entry s b sound booked k r at live in
       let none : rest e ≡ [] = drop_nothing r.phase r.items (bare e at_k) in
       let no_install : IsFalse (is_next_install (rest e)) = rw none refl in
-      empty_by_length (received_by s.filestore r) (omega (arith, kept.fits, kept.nothing no_install))
+      nil_from_length (received_by s.filestore r) (omega (arith, kept.fits, kept.nothing no_install))
 
   pub finished_world : IsDoneAt (world_of s b) (world_of s (record b { table = slice_set b.table k now })) k
   finished_world f at_f = rw (entry_is s b k r at f at_f, table_now s b sound booked k r at live [] tt now, nothing_received) refl

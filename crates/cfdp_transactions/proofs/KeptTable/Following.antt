@@ -2,6 +2,7 @@
 use Rattle.std.proofs.Common.{◌≡◌, ℕ, zero, suc, ◌<◌, ◌≤◌, List, [], ◌∷◌, length, refl, ap, sym, ◌∙◌, arith}
 use Rattle.std.specs.Prelude.{Bool, true, false, ◌==◌, if◌then◌else◌, nat_lt, nat_le, Option, Some, None, is_some, is_none, IfSome, IfNone, IsNone, IsTrue, IsFalse, slice_get}
 use Rattle.std.proofs.lemmas.Bool.{and_parts, not-true, ltb-true, leb-true, lt-ltb, le-leb, lt-leb}
+use Rattle.std.proofs.lemmas.Option.{slice_get_past}
 use Rattle.cfdp_status.specs.declared.transaction.TransactionId.{TransactionId}
 use Rattle.cfdp_pdus.specs.Values.{MetadataFields}
 use Rattle.cfdp_pdus.specs.declared.header.Header.{Header}
@@ -33,10 +34,6 @@ get_at [] k h = absurd (omega arith)
 get_at (x ∷ xs) zero h = (x, refl)
 get_at (x ∷ xs) (suc k) h = get_at xs k (omega arith)
 
-get_past : {X : Type 0} (xs : List X) → slice_get xs (length xs) ≡ None
-get_past [] = refl
-get_past (x ∷ xs) = get_past xs
-
 module _ (s : Store) (b : Books) (id : TransactionId) where
   abbrev W : World
   W = world_of s b
@@ -53,7 +50,7 @@ module _ (s : Store) (b : Books) (id : TransactionId) where
       rw (is_index, at) (answers (entry_in s.filestore here.0) at)
 
   pub absent_entry : kept_index id b.table ≡ length b.table → entry_of W id ≡ None
-  absent_entry gone = rw (index_is, gone, get_in s.filestore b.table (length b.table), get_past b.table) refl
+  absent_entry gone = rw (index_is, gone, get_in s.filestore b.table (length b.table), slice_get_past b.table (length b.table) (omega arith)) refl
 
 -- a transaction that is there and has no outcome is live
 live_by : (live : Bool) (o : Outcome) → IsNone (if live then None else Some o) → IsTrue live

@@ -1,8 +1,9 @@
 -- The program's table, leases and quota after an item of a live transaction was performed.
 use Rattle.std.proofs.Common.{◌≡◌, ◌≢◌, ℕ, zero, suc, ◌+◌, ◌-◌, ◌≤◌, ◌<◌, List, [], ◌∷◌, length, drop, take, refl, ap, sym, ◌∙◌, arith}
-use Rattle.std.proofs.lemmas.List.{length-take, length-map}
+use Rattle.std.proofs.lemmas.List.{length-take, length-map, nil_from_length}
 use Rattle.std.specs.Prelude.{Bool, true, false, ◌||◌, ◌==◌, ℤ, Some, None, slice_get, slice_set, IsTrue, IsFalse, if◌then◌else◌}
 use Rattle.std.proofs.lemmas.Bool.Decides.{nat_tests}
+use Rattle.std.proofs.lemmas.Option.{slice_get_within}
 use Rattle.cfdp_status.specs.declared.status.Status.{Status}
 use Rattle.cfdp_status.specs.declared.status.Status.TheVariants.{Successful}
 use Rattle.cfdp_paths.specs.Paths.{Path}
@@ -32,8 +33,7 @@ use Rattle.cfdp_transactions.proofs.KeptTable.Budgets.{closed_here, closed_elsew
 use Rattle.cfdp_transactions.proofs.Soundness.RowAnswers.{row_of_request, row_of_install, row_in_slot}
 use Rattle.cfdp_transactions.proofs.KeptTable.EntryChanged.{entry_at_k, kept_entry, least_spent, most_spent, reserve_open, in_use, table_now, booked_now}
 use Rattle.cfdp_transactions.proofs.Soundness.Stepping.{noted_none, noted_one, enough, succeeded_now, takes_within, steps_within, gone, honest_now, rest_is}
-use Rattle.cfdp_transactions.proofs.Soundness.Turning.{live_counted, reserve_live, empty_by_length}
-use Rattle.cfdp_transactions.proofs.Indexes.{get_inside}
+use Rattle.cfdp_transactions.proofs.Soundness.Turning.{live_counted, reserve_live}
 
 pub drop_get : {X : Type 0} (n : ℕ) (xs : List X) (x : X) → slice_get xs n ≡ Some x → drop n xs ≡ x ∷ drop (suc n) xs
 drop_get n [] x h = absurd cc
@@ -146,7 +146,7 @@ module _ (laws : LowerLaws) (s : Store) (b : Books) (sound : Sound (world_of s b
 
   -- counters
   number_below : n < length r.items
-  number_below = get_inside r.items n item there
+  number_below = slice_get_within r.items n item there
 
   pub few_items : length r.items < 256
   few_items = let h = (sound.honest k e at_k).limits in omega (arith, h.of_items, h.of_requests)
@@ -192,7 +192,7 @@ module _ (laws : LowerLaws) (s : Store) (b : Books) (sound : Sound (world_of s b
     built_same p q i j a c u v x y m l e1 e2 e3 e4 e5 e6 = rw (e1, e2, e3, e4, e5, e6) refl
 
     none_staged : staged_in G r.slot ≡ []
-    none_staged = let g = gone laws W sound k e n item items at_k executing left in g.staged ∙ ap staged_of (empty_by_length _ g.none)
+    none_staged = let g = gone laws W sound k e n item items at_k executing left in g.staged ∙ ap staged_of (nil_from_length _ g.none)
 
     spent_same : spend r.blocks_spent before later ≡ spend r.blocks_spent o.taken o.given
     spent_same = spend-free r.blocks_spent before later o.taken o.given (rw (is_before, is_later)
@@ -202,7 +202,7 @@ module _ (laws : LowerLaws) (s : Store) (b : Books) (sound : Sound (world_of s b
     entry_now =
         let g = gone laws W sound k e n item items at_k executing left in
         let following = drop_length r.items (suc n) in
-        let received = both_none (is_live now.phase) (staged_in G r.slot) none_staged ∙ sym (empty_by_length _ g.none) in
+        let received = both_none (is_live now.phase) (staged_in G r.slot) none_staged ∙ sym (nil_from_length _ g.none) in
         let all : IsTrue last → length items ≡ 0 = λ h. let q : (suc n == length r.items) ≡ true = sym is_last ∙ h in grind (arith, nat_tests, following) in
         let some : IsFalse last → length items ≢ 0 = λ h z. let q : (suc n == length r.items) ≡ false = sym is_last ∙ h in
         grind (arith, nat_tests, following, number_below) in

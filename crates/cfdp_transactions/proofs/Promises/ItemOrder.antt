@@ -6,6 +6,7 @@ use Rattle.std.proofs.Common.{◌≡◌, ℕ, suc, ◌+◌, List, [], ◌∷◌,
 use Rattle.std.specs.Prelude.{Bool, true, false, Option, Some, None, slice_get, not, ◌&&◌, ◌||◌, ◌==◌, nat_lt, nat_le, IsTrue}
 use Rattle.std.specs.List.{AllByRecursion}
 use Rattle.std.proofs.lemmas.Bool.{cond_both, not-false, eqb-true}
+use Rattle.std.proofs.lemmas.List.{nil_from_length}
 use Rattle.cfdp_actions.specs.Filestore.{Filestore, Change, Stages}
 use Rattle.cfdp_actions.specs.Actions.{Item, succeeded}
 use Rattle.cfdp_leases.specs.Laws.{NamesPaths}
@@ -28,7 +29,6 @@ use Rattle.cfdp_transactions.specs.Sound.{Each, is_counted, is_next_install}
 use Rattle.cfdp_transactions.proofs.Promises.ItemsListed.{has_install, IsListed, install_at_front, granted_listed}
 use Rattle.cfdp_transactions.proofs.Indexes.{set_each, append_each, remove_index, before, get_set_same}
 use Rattle.cfdp_transactions.proofs.Soundness.Stepping.{drop_next}
-use Rattle.cfdp_transactions.proofs.Soundness.Turning.{empty_by_length}
 
 pub record IsInOrder (e : Entry) : Type 0 where
   pub paths : AllByRecursion NamesPaths e.items
@@ -138,7 +138,7 @@ module _ (W : World) (all : Each IsInOrder W.table) where
         (λ _. cond_both (not (is_receiving e.phase)) _ _ Ordered (λ _. all)
         (λ receiving.
         let takes : IsTrue (takes_data e.phase) = receiving_takes e.phase (not-false _ receiving) in
-        cond_both (length e.items == 0) _ _ Ordered (λ none. turns_ordered Done e.eof true takes (sym (empty_by_length e.items (eqb-true _ _ none))))
+        cond_both (length e.items == 0) _ _ Ordered (λ none. turns_ordered Done e.eof true takes (sym (nil_from_length e.items (eqb-true _ _ none))))
         (λ _. cond_both (not (has_file e.metadata)) _ _ Ordered (λ _. turns_ordered (Executing 0) e.eof true takes refl)
         (λ _. cond_both (nat_lt (bound W.config e.metadata) eof.size || nat_lt eof.size (length e.received)) _ _ Ordered (λ _. ends_ordered e 6 refl refl)
         (λ _. cond_both (not (is_whole eof.size e.received)) _ _ Ordered (λ _. turns_ordered (Awaiting 0) (Some eof) e.complete takes refl)

@@ -3,6 +3,7 @@ use Rattle.std.proofs.Common.{◌≡◌, ℕ, ◌+◌, ◌-◌, max, min, ◌≤
 use Rattle.std.specs.Prelude.{nat_lt, IsTrue, IsFalse, Option, Some, None, unwrap_or}
 use Rattle.std.proofs.lemmas.Bool.{cond_both, cases_lt, ltb-true}
 use Rattle.std.proofs.lemmas.List.{get_or-map}
+use Rattle.std.proofs.lemmas.Option.{slice_get-get_or}
 use mathlib.Core.Logic.{inl, inr}
 use Rattle.cfdp_transactions.specs.Received.{Received, kept_with, brought, staged_of, pieces}
 use Rattle.cfdp_transactions.specs.ReceivedLaws.{octet_at, or_offset, AreRuns}
@@ -12,7 +13,7 @@ use Rattle.cfdp_transactions.specs.PieceLaws.{AreWithin, ArePieces, AreWritten}
 use Rattle.cfdp_transactions.proofs.Received.OctetsAndGaps.{first_stays}
 use Rattle.cfdp_transactions.proofs.Received.PieceRanges.{pieces_are_ranges}
 use Rattle.cfdp_transactions.proofs.Soundness.Turning.{length-staged_of}
-use Rattle.cfdp_transactions.proofs.Received.Writing.{length-received, received_at, none_past_end, brought_there, get_there, kept_length, range_is_added, ranges_keep}
+use Rattle.cfdp_transactions.proofs.Received.Writing.{length-received, received_at, none_past_end, brought_there, kept_length, range_is_added, ranges_keep}
 
 -- where they end ------------------------------------------------------------------------
 
@@ -99,7 +100,7 @@ module _ (ranges : Ranges) (xs : List ℕ) (at : ℕ) (octets : List ℕ) (p : A
   ]
 
   came : (j : ℕ) → j < length octets → brought at octets (at + j) ≡ Some (get_or octets j 0)
-  came j below = let z : (at + j) - at ≡ j = omega arith in brought_there at octets (at + j) (omega arith) ∙ (rw z (get_there octets j below))
+  came j below = let z : (at + j) - at ≡ j = omega arith in brought_there at octets (at + j) (omega arith) ∙ (rw z (slice_get-get_or octets j 0 below))
 
   ys_long : length ys ≡ max (length xs) (at + length octets)
   ys_long = length-staged_of rs ∙ rs_long

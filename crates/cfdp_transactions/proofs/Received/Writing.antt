@@ -3,6 +3,7 @@ use Rattle.std.proofs.Common.{◌≡◌, ℕ, zero, suc, ◌+◌, ◌-◌, max, 
 use Rattle.std.specs.Prelude.{◌||◌, ◌==◌, nat_le, nat_lt, if◌then◌else◌, Bool, true, false, IsTrue, IsFalse, Option, Some, None, is_some, slice_get, unwrap_or}
 use Rattle.std.specs.List.{list_all}
 use Rattle.std.proofs.lemmas.Bool.{cases_lt, cases_Bool, cond_both, ltb-true, ltb-false, and_from, and_parts, or_left, or_right, or_from, or_cases, eqb-true, eq-eqb}
+use Rattle.std.proofs.lemmas.Option.{slice_get_past, slice_get-get_or}
 use mathlib.Core.Logic.{inl, inr}
 use Rattle.cfdp_transactions.specs.Received.{Received, kept_with, brought, staged_of, gaps_from}
 use Rattle.cfdp_transactions.specs.ReceivedLaws.{octet_at, or_offset, AreRuns}
@@ -43,16 +44,6 @@ pub brought_before : (at : ℕ) (octets : List ℕ) (i : ℕ) → i < at → bro
 brought_before zero octets i h = absurd (omega arith)
 brought_before (suc at) octets zero h = refl
 brought_before (suc at) octets (suc i) h = brought_before at octets i (omega arith)
-
-pub get_there : (xs : List ℕ) (j : ℕ) → j < length xs → slice_get xs j ≡ Some (get_or xs j 0)
-get_there [] j h = absurd (omega arith)
-get_there (x ∷ xs) zero h = refl
-get_there (x ∷ xs) (suc j) h = get_there xs j (omega arith)
-
-pub get_past_end : (xs : List ℕ) (j : ℕ) → length xs ≤ j → slice_get xs j ≡ None
-get_past_end [] j h = refl
-get_past_end (x ∷ xs) zero h = absurd (omega arith)
-get_past_end (x ∷ xs) (suc j) h = get_past_end xs j (omega arith)
 
 pub brought_there : (at : ℕ) (octets : List ℕ) (i : ℕ) → at ≤ i → brought at octets i ≡ slice_get octets (i - at)
 brought_there zero octets i h = let z : i - 0 ≡ i = omega arith in rw z refl
@@ -142,9 +133,9 @@ kept_at ranges xs at octets ys p some w i below = elim (cases_Bool (is_in i rang
           ∙ or_left (is_inside at (at + length octets) i) (is_in i ranges) (inside_true at (at + length octets) i late inside) in
           let value : get_or ys (at + j) 0 ≡ get_or octets j 0 = w.written j (omega arith) (rw (← index) new) in
           rw now (ap (λ (k : ℕ). Some (get_or ys k 0)) index ∙ ap (λ (x : ℕ). Some x) value
-          ∙ sym (brought_there at octets i late ∙ get_there octets j (omega arith)))
+          ∙ sym (brought_there at octets i late ∙ slice_get-get_or octets j 0 (omega arith)))
       | inr past ↦ rw (gone new (outside_after at (at + length octets) i past))
-          (sym (brought_there at octets i late ∙ get_past_end octets (i - at) (omega arith)))
+          (sym (brought_there at octets i late ∙ slice_get_past octets (i - at) (omega arith)))
     ]
   ])
 ]

@@ -3,7 +3,7 @@
 use Rattle.std.proofs.Common.{◌≡◌, ◌≢◌, ℕ, ◌+◌, ◌≤◌, List, [], ◌∷◌, length, ◌⊎◌, refl, ap, sym, ◌∙◌, arith}
 use Rattle.std.specs.Prelude.{Bool, Option, Some, None, slice_get, slice_set, remove, true, false, not, IsTrue, ◌==◌, ◌||◌, nat_lt, nat_le, replicate, drop}
 use Rattle.std.proofs.lemmas.Bool.{cond_both, not-false, eqb-true, eqb-false, ltb-false, or_parts, leb-false}
-use Rattle.std.proofs.lemmas.List.{length-replicate}
+use Rattle.std.proofs.lemmas.List.{length-replicate, nil_from_length}
 use mathlib.Core.Logic.{inl, inr}
 use Rattle.cfdp_actions.specs.Filestore.{Filestore, blocks}
 use Rattle.cfdp_actions.specs.Actions.{Item, row}
@@ -23,7 +23,7 @@ use Rattle.cfdp_transactions.proofs.Indexes.{get_set_other, get_set_same, set_se
 use Rattle.cfdp_transactions.proofs.Balance.{spend-even, spend-then}
 use Rattle.cfdp_transactions.proofs.Soundness.OwnChange.{Goes, MovesTo, Moves}
 use Rattle.cfdp_transactions.proofs.Soundness.Ending.{is_ending, ends_moves}
-use Rattle.cfdp_transactions.proofs.Soundness.Turning.{length-staged_of, empty_by_length, turns_moves, done_moves}
+use Rattle.cfdp_transactions.proofs.Soundness.Turning.{length-staged_of, turns_moves, done_moves}
 use Rattle.cfdp_transactions.proofs.Soundness.Receiving.{kept_grows, kept_within}
 use Rattle.cfdp_transactions.proofs.Soundness.Storing.{stores_moves}
 use Rattle.cfdp_transactions.proofs.Soundness.Stepping.{enough, succeeded_now, step_moves}
@@ -163,7 +163,7 @@ module _ (laws : LowerLaws) where
         let all : e.items ≡ rest e = rw is refl in
         let longest_is : longest W.config e ≡ replicate (bound W.config e.metadata) 0 = rw is refl in
         cond_both (length e.items == 0) _ _ (λ (a : World × Reply). Moves false k e W a.0)
-        (λ none. (turned e Done e.eof true, done_moves laws W k e e.eof s at live (sym all ∙ empty_by_length e.items (eqb-true _ _ none))))
+        (λ none. (turned e Done e.eof true, done_moves laws W k e e.eof s at live (sym all ∙ nil_from_length e.items (eqb-true _ _ none))))
         (λ some.
         let more : rest e ≢ [] = λ q. eqb-false _ _ some (ap length (all ∙ q)) in
         cond_both (not (has_file e.metadata)) _ _ (λ (a : World × Reply). Moves false k e W a.0)

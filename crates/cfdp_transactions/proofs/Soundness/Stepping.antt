@@ -2,6 +2,7 @@
 use Rattle.std.proofs.Common.{◌≡◌, ◌≢◌, ℕ, zero, suc, ◌+◌, ◌<◌, ◌≤◌, List, [], ◌∷◌, ◌++◌, length, drop, refl, ap, sym, ◌∙◌, arith, append_assoc, length-append}
 use Rattle.std.specs.Prelude.{true, Some, slice_get, IsTrue, IsFalse, if◌then◌else◌}
 use Rattle.std.specs.List.{AllByRecursion}
+use Rattle.std.proofs.lemmas.List.{nil_from_length}
 use Rattle.cfdp_status.specs.declared.status.Status.{Status}
 use Rattle.cfdp_status.specs.declared.status.Status.TheVariants.{Successful}
 use Rattle.cfdp_status.specs.Codes.{is_successful}
@@ -23,7 +24,7 @@ use Rattle.cfdp_transactions.proofs.Soundness.RowAnswers.{HasStatus, HasNone, ro
 use Rattle.cfdp_transactions.proofs.Soundness.OwnStatuses.{own_row, begins}
 use Rattle.cfdp_transactions.proofs.Soundness.LeftAlone.{rest_within}
 use Rattle.cfdp_transactions.proofs.Soundness.OwnChange.{MovesTo, change_moves, reserve_within}
-use Rattle.cfdp_transactions.proofs.Soundness.Turning.{reserve_live, live_counted, length-staged_of, empty_by_length}
+use Rattle.cfdp_transactions.proofs.Soundness.Turning.{reserve_live, live_counted, length-staged_of}
 use Rattle.cfdp_transactions.proofs.Soundness.Storing.{stage-same}
 
 pub drop_next : {X : Type 0} (n : ℕ) (xs ys : List X) (x : X) → drop n xs ≡ x ∷ ys → drop (suc n) xs ≡ ys
@@ -86,7 +87,7 @@ staged_after prefixes F slot received (Perform request) items inside there good 
     record {
       staged = request_keeps_staged prefixes F slot slot request ∙ there;
       none = nothing refl;
-      few = rw (empty_by_length received (nothing refl)) (omega arith);
+      few = rw (nil_from_length received (nothing refl)) (omega arith);
     }
 
 live_before : (n : ℕ) (items : List Item) → IsTrue (is_live (phase_before n items)) → (items ≢ []) × (phase_before n items ≡ Executing n)
@@ -244,7 +245,7 @@ module _ (laws : LowerLaws) (W : World) (s : Sound W) (k : ℕ) (e : Entry) (n :
     };
     rooted = laws.stays_rooted c.prefixes F e.slot item s.rooted;
     kept = kept_now;
-    emptied = λ _. gone.staged ∙ ap staged_of (empty_by_length new.received gone.none);
+    emptied = λ _. gone.staged ∙ ap staged_of (nil_from_length new.received gone.none);
     honest = honest_now;
     room = room_now;
   })

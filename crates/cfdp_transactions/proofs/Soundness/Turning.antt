@@ -1,7 +1,8 @@
 -- Events that change no path: an entry moves to another phase, or is done without having had an item.
-use Rattle.std.proofs.Common.{◌≡◌, ◌≢◌, ℕ, suc, ◌≤◌, List, [], ◌∷◌, length, refl, ap, sym, ◌∙◌, arith}
+use Rattle.std.proofs.Common.{◌≡◌, ◌≢◌, ℕ, suc, ◌≤◌, [], ◌∷◌, length, refl, ap, sym, ◌∙◌, arith}
 use Rattle.std.specs.Prelude.{Option, Some, slice_get, Bool, true, false, IsTrue, IsFalse, IsSome}
 use Rattle.std.proofs.lemmas.Bool.{both_ways}
+use Rattle.std.proofs.lemmas.List.{nil_from_length}
 use Rattle.cfdp_actions.specs.Filestore.{Filestore, blocks, IsRooted}
 use Rattle.cfdp_states.specs.Alone.{stage}
 use Rattle.cfdp_transactions.specs.Config.{Config}
@@ -36,10 +37,6 @@ live_counted (Ended condition) h = absurd cc
 pub length-staged_of : (rs : Received) → length (staged_of rs) ≡ length rs
 length-staged_of [] = refl
 length-staged_of (r ∷ rs) = ap suc (length-staged_of rs)
-
-pub empty_by_length : {X : Type 0} (xs : List X) → length xs ≡ 0 → xs ≡ []
-empty_by_length [] h = refl
-empty_by_length (x ∷ xs) h = absurd (omega arith)
 
 -- turns ---------------------------------------------------------------------------
 
@@ -119,7 +116,7 @@ module _ (laws : LowerLaws) where
   done_moves W k e eof s at live none =
       let honest = s.honest k e at in
       let kept = s.live k e at live in
-      let empty : e.received ≡ [] = empty_by_length e.received (let z = kept.nothing (rw none refl) in omega (arith, kept.fits)) in
+      let empty : e.received ≡ [] = nil_from_length e.received (let z = kept.nothing (rw none refl) in omega (arith, kept.fits)) in
       change_moves laws W s false k e [] (turned e Done eof true) (record {
         at = at;
         live = live;

@@ -2,12 +2,12 @@ use Rattle.std.proofs.Common.{◌≡◌, ◌∙◌, length, refl, sym, true, fal
 use Rattle.std.proofs.lemmas.Bool.{eqb-true}
 use Rattle.std.specs.Prelude.{◌==◌}
 use Rattle.std.proofs.lemmas.Bool.Decides.{nat_tests}
+use Rattle.std.proofs.lemmas.List.{nil_from_length}
 use Rattle.cfdp_transactions.specs.Entry.{is_live, is_receiving, has_file}
 use Rattle.cfdp_transactions.specs.code.TableEntries.{entry_in}
 use Rattle.cfdp_transactions.specs.code.Books.{world_of}
 use Rattle.cfdp_transactions.proofs.KeptTable.Answering.{live_at, entry_is, carry}
 use Rattle.cfdp_transactions.proofs.KeptTable.EntryChanged.{slot_below}
-use Rattle.cfdp_transactions.proofs.Soundness.Turning.{empty_by_length}
 use Rattle.cfdp_transactions.proofs.KeptTable.EofAnswers.{eof_fault, eof_again, eof_first, eof_bare, eof_no_file, eof_size, eof_waits, eof_whole, is_wrong_size, received_size, whole_entry}
 use Rattle.cfdp_transactions.proofs.delivery.eof.Goals as goal
 
@@ -66,7 +66,7 @@ finish-requires-clause-bare g c = λ e there.
     let live : is_live r.phase ≡ true = cc in
     let same = entry_is s b k r at e there in
     let bare : (length r.items == 0) ≡ true = sym c.is_bare.ensures ∙ c.if-is_bare.true in
-    rw same (empty_by_length r.items (eqb-true _ _ bare))
+    rw same (nil_from_length r.items (eqb-true _ _ bare))
 
 pub returns-then-is_bare-clause-answer : goal.returns-then-is_bare-clause-answer
 returns-then-is_bare-clause-answer g c = λ e there.

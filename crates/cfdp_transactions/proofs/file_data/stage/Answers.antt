@@ -1,10 +1,10 @@
 use Rattle.std.proofs.Common.{◌≡◌, ap, arith}
 use Rattle.std.specs.Prelude.{length, ◌+◌}
+use Rattle.std.proofs.lemmas.Option.{slice_get_within}
 use Rattle.cfdp_pdus.specs.Values.{FileDataFields}
 use Rattle.cfdp_transactions.proofs.KeptTable.DataStored.{live, kept_is, pieces_here, zeros_here, room, reserved, can_store, stored_at, stored_sound, stored_booked}
 use Rattle.cfdp_transactions.proofs.KeptTable.EntryChanged.{slot_below}
 use Rattle.cfdp_transactions.proofs.file_data.stage.Goals as goal
-use Rattle.cfdp_transactions.proofs.Indexes.{get_inside}
 
 pub keep-requires-clause-slot : goal.keep-requires-clause-slot
 keep-requires-clause-slot g c =
@@ -183,4 +183,4 @@ returns-clause-booked g c =
     (rw c.slot-slot.ensures at c.took.ensures.taken) c.took.ensures.spare)
 
 pub store-requires-clause-within : goal.store-requires-clause-within
-store-requires-clause-within g c = get_inside c.args.books.now.table c.args.index c.at-entry.result.now c.at-entry.ensures
+store-requires-clause-within g c = slice_get_within c.args.books.now.table c.args.index c.at-entry.result.now c.at-entry.ensures

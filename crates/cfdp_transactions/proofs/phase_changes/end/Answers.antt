@@ -1,6 +1,6 @@
 use Rattle.std.proofs.Common.{arith}
+use Rattle.std.proofs.lemmas.Option.{slice_get_within}
 use Rattle.cfdp_transactions.proofs.KeptTable.EntryChanged.{live_entry, slot_below, least_spent, most_spent, in_use, blocks-unstaged}
-use Rattle.cfdp_transactions.proofs.Indexes.{get_inside}
 use Rattle.cfdp_transactions.proofs.KeptTable.EntryEnded.{ended_world, ended_booked}
 use Rattle.cfdp_transactions.proofs.phase_changes.end.Goals as goal
 
@@ -28,7 +28,7 @@ close-requires g c =
     rw c.slot-slot.ensures (slot_below s b c.requires.sound c.requires.booked c.args.index r at (live_entry s b c.args.index r c.requires.live at))
 
 pub end-requires-clause-within : goal.end-requires-clause-within
-end-requires-clause-within g c = get_inside _ _ _ c.at-entry.ensures
+end-requires-clause-within g c = slice_get_within _ _ _ c.at-entry.ensures
 
 pub end-requires-clause-least : goal.end-requires-clause-least
 end-requires-clause-least g c =
