@@ -16,7 +16,7 @@ use Rattle.cfdp_retransmission.specs.declared.timer.Timer.{Timer}
 use Rattle.cfdp_sessions.specs.Sessions.{SessionFields, session_id, found, replaced, AreDistinct}
 use Rattle.cfdp_sessions.specs.declared.session.Stage.{Stage}
 use Rattle.cfdp_sessions.specs.declared.session.Stage.TheVariants.{Held, Known, Over as OverStage, Waiting}
-use Rattle.cfdp_sessions.proofs.Names.{chosen_some, found_name, replaced_self, member_found, IsMember}
+use Rattle.cfdp_sessions.proofs.Names.{found_name, replaced_self, member_found, IsMember}
 use Rattle.cfdp_transactions.specs.Admission.{metadata_came}
 use Rattle.cfdp_transactions.specs.Delivery.{data_at, data_came, eof_without_error, eof_came}
 use Rattle.cfdp_transactions.specs.Ending.{ended, ends, cancelled}
@@ -34,6 +34,7 @@ use Rattle.cfdp_transactions.specs.declared.phase.Phase.TheVariants.{Receiving, 
 use Rattle.cfdp_transactions.specs.declared.reply.Reply.{Reply}
 use Rattle.cfdp_transactions.proofs.Finding.{found_name as entry_name}
 use Rattle.cfdp_transactions.proofs.Lookups.{set_own}
+use Rattle.cfdp_transactions.proofs.Options.{chosen_some}
 use Rattle.cfdp_receiver.specs.declared.answer.Became.TheVariants as became
 use Rattle.cfdp_receiver.specs.declared.answer.Word.TheVariants as words
 use Rattle.cfdp_receiver.specs.declared.joint_phase.JointPhase.{JointPhase}

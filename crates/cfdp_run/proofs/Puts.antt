@@ -15,7 +15,7 @@ use Rattle.cfdp_transactions.specs.Config.{Config}
 use Rattle.cfdp_transactions.specs.Restart.{put_all, CanPutAll}
 use Rattle.cfdp_transactions.specs.World.{World, free}
 use Rattle.cfdp_transactions.proofs.Beginnings.PutThere.{no_fault, grown}
-use Rattle.cfdp_transactions.proofs.Options.{none_of}
+use Rattle.cfdp_transactions.proofs.Options.{none_of, passed_over}
 use Rattle.cfdp_run.specs.Putting.{missing, as_directory, is_below_file, needed, with_put, path_wrong, room_wrong}
 use Rattle.cfdp_run.specs.declared.wrong.Wrong.TheVariants.{Taken, ParentIsFile, NoRoom}
 use Rattle.cfdp_actions.proofs.Order.{same_path-refl}
@@ -167,10 +167,6 @@ puts W (n ∷ p) node some idle absent none room =
 
 -- ---- calls
 
-passed : {A : Type 0} (b : Bool) (x : A) (o : Option A) → (if b then Some x else o) ≡ None → (b ≡ false) × (o ≡ None)
-passed true x o e = absurd cc
-passed false x o e = (refl, e)
-
 some_path : (p : Path) → IsPath p → p ≢ []
 some_path [] path = absurd (omega (arith, path.some))
 some_path (n ∷ p) path = λ e. cc
@@ -179,8 +175,8 @@ some_path (n ∷ p) path = λ e. cc
 pub puts_at : (W : World) (p : Path) (node : Node) → IsPath p → W.table ≡ [] → path_wrong W.filestore p ≡ None → needed W.filestore p node ≤ free W →
     Puts W (missing W.filestore p) p node
 puts_at W p node path idle vacant room =
-    let one = passed (is_some (node_at W.filestore p)) Taken _ vacant in
-    let two = passed (is_below_file W.filestore p) ParentIsFile None one.1 in
+    let one = passed_over (is_some (node_at W.filestore p)) Taken _ vacant in
+    let two = passed_over (is_below_file W.filestore p) ParentIsFile None one.1 in
     puts W p node (some_path p path) idle (none_of (node_at W.filestore p) one.0) two.0 room
 
 pub no_room : (W : World) (p : Path) (node : Node) → free W < needed W.filestore p node → room_wrong W p node ≡ Some NoRoom

@@ -2,7 +2,7 @@
 --     Fits mib            each value is in its range, as far as a receiver asks for it
 --     fits_none           so no fault is found in it;  none_fits: the other way
 --     command_fits        a line leaves settings that a receiver takes, where those before it are
-use Rattle.std.proofs.Common.{◌≡◌, ℕ, ◌+◌, ◌≤◌, Bool, true, false, List, [], ◌∷◌, take, drop, refl, ap, sym, ◌∙◌, subst, arith, inl, inr}
+use Rattle.std.proofs.Common.{◌≡◌, ℕ, ◌+◌, ◌≤◌, true, false, List, [], ◌∷◌, take, drop, refl, ap, sym, ◌∙◌, subst, arith, inl, inr}
 use Rattle.std.specs.Prelude.{Option, Some, None, Result, Ok, Err, ok_or, nat_le, nat_lt, ◌==◌, ◌&&◌, ◌||◌, not, if◌then◌else◌, position, bytes_eq, codes, option_map}
 use Rattle.std.proofs.lemmas.Bool.{cases_Bool, not-false, leb-true, le-ltb, ne_eqb, and_parts, or_parts}
 use Rattle.cfdp_paths.specs.Paths.{path_of}
@@ -11,7 +11,6 @@ use Rattle.cfdp_lines.specs.Words.{number_of, numbers_of, words_of}
 use Rattle.cfdp_plans.specs.Names.{name_in, path_spelled}
 use Rattle.cfdp_receiver.specs.StateMachine.{mib_fault, lacks_time, is_no_time, is_limit}
 use Rattle.cfdp_receiver.specs.declared.mib.Mib.{Mib}
-use Rattle.cfdp_receiver.specs.declared.mib.MibFault.{MibFault}
 use Rattle.cfdp_receiver.specs.declared.mib.MibFault.TheVariants as faults
 use Rattle.cfdp_run.specs.Commands.{Nothing, LineMeaning, Settings, Configure, Protect, PutDirectory, PutFile, Receive, Cancel, Get, Gaps, Phase, ListAll, Expect, End, first_then, saying, is_equals, valued, setting_at, setting, settings, settings_in, config_in, path_or_wrong, only_path, only_name, octets_spelled, before_slash, directory_or_file, content_in, put_in, input_in, at_in, line_in, says_alone, says, is_playing, in_time, begun_by, texts_say, meaning_in}
 use Rattle.cfdp_run.specs.Settings.{key_of, within_by, interval_of, limit_of, longest_of, keep_alive_of, nak_mode_of, yes_of, handler_of, with_value}
@@ -24,6 +23,7 @@ use Rattle.cfdp_run.specs.declared.words.FirstWord.{FirstWord}
 use Rattle.cfdp_run.specs.declared.words.FirstWord.TheVariants as word
 use Rattle.cfdp_run.specs.declared.wrong.Wrong.{Wrong}
 use Rattle.cfdp_run.specs.declared.wrong.Wrong.TheVariants as wrongs
+use Rattle.cfdp_transactions.proofs.Options.{passed_over}
 
 pub record Fits (mib : Mib) : Type 0 where
   pub ack : (mib.ack.interval == 0) ≡ false
@@ -38,15 +38,11 @@ pub record Fits (mib : Mib) : Type 0 where
 pub fits_none : (mib : Mib) → Fits mib → mib_fault mib ≡ None
 fits_none mib f = rw (f.ack, f.nak, f.check, f.inactivity, f.alive, f.ack_limit, f.nak_limit, f.longest) refl
 
-passed : (b : Bool) (fault : MibFault) (o : Option MibFault) → (if b then Some fault else o) ≡ None → (b ≡ false) × (o ≡ None)
-passed true fault o e = absurd cc
-passed false fault o e = (refl, e)
-
 pub none_fits : (mib : Mib) → mib_fault mib ≡ None → Fits mib
 none_fits mib none =
-    let one = passed (lacks_time mib) faults.Interval _ none in
-    let two = passed (not (is_limit mib.ack.limit && is_limit mib.nak.limit)) faults.Limit _ one.1 in
-    let three = passed (nat_lt mib.longest_nak 72) faults.LongestNak None two.1 in
+    let one = passed_over (lacks_time mib) faults.Interval _ none in
+    let two = passed_over (not (is_limit mib.ack.limit && is_limit mib.nak.limit)) faults.Limit _ one.1 in
+    let three = passed_over (nat_lt mib.longest_nak 72) faults.LongestNak None two.1 in
     let limits = and_parts _ _ (not-false _ two.0) in
     let e = or_parts ((mib.ack.interval == 0) || (mib.nak.interval == 0) || (mib.check.interval == 0) || (mib.inactivity.interval == 0))
     (is_no_time mib.keep_alive) one.0 in

@@ -1,13 +1,14 @@
 -- Sessions by their names.
-use Rattle.std.proofs.Common.{◌≡◌, ◌⊎◌, inl, inr, Bool, true, false, ◌==◌, if◌then◌else◌, List, [], ◌∷◌, ◌++◌, Option, Some, None, refl, sym, ap, subst, ◌∙◌}
+use Rattle.std.proofs.Common.{◌≡◌, ◌⊎◌, inl, inr, true, false, if◌then◌else◌, List, [], ◌∷◌, ◌++◌, Option, Some, None, refl, sym, ap, subst, ◌∙◌}
 use Rattle.std.proofs.lemmas.Bool.{cond-true, cond-false, cases_Bool, both_ways}
-use Rattle.std.proofs.lemmas.Option.{none-some, same_Some}
+use Rattle.std.proofs.lemmas.Option.{none-some}
 use Rattle.cfdp_status.specs.declared.transaction.TransactionId.{TransactionId}
 use Rattle.cfdp_leases.specs.Leases.{is_same}
 use Rattle.cfdp_sessions.specs.Sessions.{SessionFields, session_id, found, replaced, without_session, AreDistinct}
 use Rattle.cfdp_sessions.specs.code.Sessions.{IsFound}
 use Rattle.cfdp_leases.proofs.Held.{same_itself}
 use Rattle.cfdp_leases.proofs.Admitted.{same_is}
+use Rattle.cfdp_transactions.proofs.Options.{chosen_some, passed_over}
 
 -- two names differ either way round
 turned_about : (a b : TransactionId) → is_same a b ≡ false → is_same b a ≡ false
@@ -17,12 +18,6 @@ turned_about a b h = elim (cases_Bool (is_same b a)) [
 ]
 
 -- ---- a session that is found
-
--- of a choice between a session and a later one
-pub chosen_some : (b : Bool) (s t : SessionFields) (later : Option SessionFields) → (if b then Some s else later) ≡ Some t → ((b ≡ true) × (s ≡ t))
-    ⊎ ((b ≡ false) × (later ≡ Some t))
-chosen_some true s t later e = inl (refl, same_Some s t e)
-chosen_some false s t later e = inr (refl, e)
 
 pub found_first : (x : SessionFields) (xs : List SessionFields) (id : TransactionId) → is_same (session_id x) id ≡ true → IsFound (x ∷ xs) id
 found_first x xs id h = (x, cond-true (is_same (session_id x) id) (Some x) (found xs id) h)
@@ -60,29 +55,21 @@ pub found_added : (ss : List SessionFields) (new : SessionFields) (id : Transact
 found_added [] new id h = found_first new [] id h
 found_added (x ∷ xs) new id h = found_either x (xs ++ new ∷ []) id (found_added xs new id h)
 
-first_is : (b : Bool) (x s : SessionFields) (later : Option SessionFields) → b ≡ true → (if b then Some x else later) ≡ Some s → x ≡ s
-first_is true x s later h e = same_Some x s e
-first_is false x s later h e = absurd cc
-
-later_is : (b : Bool) (x s : SessionFields) (later : Option SessionFields) → b ≡ false → (if b then Some x else later) ≡ Some s → later ≡ Some s
-later_is true x s later h e = absurd cc
-later_is false x s later h e = e
-
 no_session : (id : TransactionId) → IsFound [] id → ⊥
 no_session id f = none-some f.0 f.1
 
 first_or_later : (x : SessionFields) (xs : List SessionFields) (id : TransactionId) → IsFound (x ∷ xs) id → (is_same (session_id x) id ≡ true) ⊎ IsFound xs id
-first_or_later x xs id f = elim (cases_Bool (is_same (session_id x) id)) [
-  | inl h ↦ inl h
-  | inr h ↦ inr (f.0, later_is (is_same (session_id x) id) x f.0 (found xs id) h f.1)
+first_or_later x xs id f = elim (chosen_some (is_same (session_id x) id) x f.0 (found xs id) f.1) [
+  | inl h ↦ inl h.0
+  | inr h ↦ inr (f.0, h.1)
 ]
 
 -- a session that was found has the name
 pub found_name : (ss : List SessionFields) (id : TransactionId) (s : SessionFields) → found ss id ≡ Some s → session_id s ≡ id
 found_name [] id s e = absurd cc
-found_name (x ∷ xs) id s e = elim (cases_Bool (is_same (session_id x) id)) [
-  | inl h ↦ ap session_id (sym (first_is (is_same (session_id x) id) x s (found xs id) h e)) ∙ same_is (session_id x) id h
-  | inr h ↦ found_name xs id s (later_is (is_same (session_id x) id) x s (found xs id) h e)
+found_name (x ∷ xs) id s e = elim (chosen_some (is_same (session_id x) id) x s (found xs id) e) [
+  | inl h ↦ ap session_id (sym h.1) ∙ same_is (session_id x) id h.0
+  | inr h ↦ found_name xs id s h.1
 ]
 
 pub found_replaced : (ss : List SessionFields) (new : SessionFields) (id : TransactionId) → IsFound ss id → IsFound (replaced ss new) id
@@ -149,11 +136,6 @@ added_other (x ∷ xs) new id h = ap (λ (o : Option SessionFields). if is_same 
 
 -- ---- no two of one name
 
--- nothing is found: it is not the first, nor in the rest
-none_first : (b : Bool) (x : SessionFields) (later : Option SessionFields) → (if b then Some x else later) ≡ None → (b ≡ false) × (later ≡ None)
-none_first true x later e = absurd cc
-none_first false x later e = (refl, e)
-
 none_of : (x : SessionFields) (xs : List SessionFields) (id : TransactionId) → is_same (session_id x) id ≡ false → found xs id ≡ None → found (x ∷ xs) id ≡ None
 none_of x xs id h e = cond-false (is_same (session_id x) id) (Some x) (found xs id) h ∙ e
 
@@ -163,7 +145,7 @@ named a b id e h = ap (λ (n : TransactionId). is_same n id) e ∙ h
 pub replaced_none : (ss : List SessionFields) (new : SessionFields) (id : TransactionId) → found ss id ≡ None → found (replaced ss new) id ≡ None
 replaced_none [] new id e = refl
 replaced_none (x ∷ xs) new id e =
-    let parts = none_first (is_same (session_id x) id) x (found xs id) e in
+    let parts = passed_over (is_same (session_id x) id) x (found xs id) e in
     elim (cases_Bool (is_same (session_id x) (session_id new))) [
       | inl here ↦
           ap (λ (ys : List SessionFields). found ys id) (cond-true (is_same (session_id x) (session_id new)) (new ∷ xs) (x ∷ replaced xs new) here)
@@ -187,13 +169,13 @@ replaced_distinct (x ∷ xs) new d = elim (cases_Bool (is_same (session_id x) (s
 pub added_distinct : (ss : List SessionFields) (new : SessionFields) → AreDistinct ss → found ss (session_id new) ≡ None → AreDistinct (ss ++ new ∷ [])
 added_distinct [] new d free = (refl, tt)
 added_distinct (x ∷ xs) new d free =
-    let parts = none_first (is_same (session_id x) (session_id new)) x (found xs (session_id new)) free in
+    let parts = passed_over (is_same (session_id x) (session_id new)) x (found xs (session_id new)) free in
     (added_other xs new (session_id x) (turned_about (session_id x) (session_id new) parts.0) ∙ d.0, added_distinct xs new d.1 parts.1)
 
 pub without_none : (ss : List SessionFields) (t id : TransactionId) → found ss id ≡ None → found (without_session ss t) id ≡ None
 without_none [] t id e = refl
 without_none (x ∷ xs) t id e =
-    let parts = none_first (is_same (session_id x) id) x (found xs id) e in
+    let parts = passed_over (is_same (session_id x) id) x (found xs id) e in
     elim (cases_Bool (is_same (session_id x) t)) [
       | inl here ↦ ap (λ (ys : List SessionFields). found ys id) (cond-true (is_same (session_id x) t) xs (x ∷ without_session xs t) here) ∙ parts.1
       | inr there ↦

@@ -20,7 +20,7 @@ use Rattle.cfdp_transactions.specs.Entry.{Entry}
 use Rattle.cfdp_transactions.specs.World.{World, free, reserves}
 use Rattle.cfdp_transactions.specs.Sound.{Sound, IsVacant}
 use Rattle.cfdp_transactions.specs.Beginning.{NotPut, HasTransactions, Exists, NoParent, NoRoom, Memory, start_with, with_node, put_fault, PutIsGood, PutIsSound}
-use Rattle.cfdp_transactions.proofs.Options.{none_of}
+use Rattle.cfdp_transactions.proofs.Options.{none_of, passed_over}
 
 -- nothing is in the way --------------------------------------------------------------------
 
@@ -30,16 +30,12 @@ pub record CanPut (W : World) (p : Path) (node : Node) : Type 0 where
   pub parent : parent_is_good W.filestore p ≡ true
   pub room : weight (Some node) ≤ free W
 
-passed : (b : Bool) (why : NotPut) (x : Option NotPut) → (if b then Some why else x) ≡ None → (b ≡ false) × (x ≡ None)
-passed true why x h = absurd cc
-passed false why x h = (refl, h)
-
 pub can_put : (W : World) (p : Path) (node : Node) → put_fault W p node ≡ None → CanPut W p node
 can_put W p node none =
-    let one = passed (not (length W.table == 0)) HasTransactions _ none in
-    let two = passed (is_some (node_at W.filestore p)) Exists _ one.1 in
-    let three = passed (not (parent_is_good W.filestore p)) NoParent _ two.1 in
-    let four = passed (nat_lt (free W) (weight (Some node))) NoRoom _ three.1 in
+    let one = passed_over (not (length W.table == 0)) HasTransactions _ none in
+    let two = passed_over (is_some (node_at W.filestore p)) Exists _ one.1 in
+    let three = passed_over (not (parent_is_good W.filestore p)) NoParent _ two.1 in
+    let four = passed_over (nat_lt (free W) (weight (Some node))) NoRoom _ three.1 in
     record {
       idle = nil_from_length W.table (eqb-true (length W.table) 0 (not-false _ one.0));
       absent = none_of (node_at W.filestore p) two.0;

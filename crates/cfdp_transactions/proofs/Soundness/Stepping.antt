@@ -3,6 +3,7 @@ use Rattle.std.proofs.Common.{◌≡◌, ◌≢◌, ℕ, zero, suc, ◌+◌, ◌
 use Rattle.std.specs.Prelude.{true, Some, slice_get, IsTrue, IsFalse, if◌then◌else◌}
 use Rattle.std.specs.List.{AllByRecursion}
 use Rattle.std.proofs.lemmas.List.{nil_from_length}
+use Rattle.cfdp_status.proofs.Appended.{all-append}
 use Rattle.cfdp_status.specs.declared.status.Status.{Status}
 use Rattle.cfdp_status.specs.declared.status.Status.TheVariants.{Successful}
 use Rattle.cfdp_status.specs.Codes.{is_successful}
@@ -59,13 +60,9 @@ noted_in_order prefixes F slot (Install p) items ss good = rw (noted_none ss _ (
 noted_in_order prefixes F slot (Perform request) items ss good = rw (own_row prefixes F slot request good)
     (append_assoc ss (Successful (action_in request) ∷ []) (successes items))
 
-all_with : (P : Status → Type 0) (ss : List Status) (status : Status) → AllByRecursion P ss → P status → AllByRecursion P (ss ++ status ∷ [])
-all_with P [] status h here = (here, tt)
-all_with P (x ∷ ss) status h here = (h.0, all_with P ss status h.1 here)
-
 noted_successful : (ss : List Status) (answer : Answer) → AllByRecursion (λ x. IsTrue (is_successful x)) ss → IsTrue (succeeded answer) →
     AllByRecursion (λ x. IsTrue (is_successful x)) (noted ss answer)
-noted_successful ss (Answer.Performed status) h good = all_with _ ss status h good
+noted_successful ss (Answer.Performed status) h good = all-append _ ss (status ∷ []) h (good, tt)
 noted_successful ss Answer.Installed h good = h
 noted_successful ss Answer.NotInstalled h good = h
 
