@@ -174,9 +174,7 @@ fn read_pdu<'a>(words: &[u8], room: &'a mut Vec<u8>) -> Result<Command<'a>, Line
     ensures bad { (result ≡ Err Bad) ↔ (pdu_by (octets_of_words (words_of words.now)) ≡ None) }
     ensures memory { result ≡ Err LineFault.Memory → IsPdu (pdu_by (octets_of_words (words_of words.now))) }
 {
-    if let Err(fault) = decode_words(words, room) {
-        return Err(fault);
-    }
+    decode_words(words, room)?;
     if room.is_empty() {
         return Err(LineFault::Bad);
     }
@@ -258,8 +256,6 @@ pub fn read_command<'a>(
     let Some(keyword) = keyword_of(word) else {
         return Err(LineFault::Bad);
     };
-    match read_words(keyword, rest, room) {
-        Ok(command) => Ok(Some(command)),
-        Err(fault) => Err(fault),
-    }
+    let command = read_words(keyword, rest, room)?;
+    Ok(Some(command))
 }

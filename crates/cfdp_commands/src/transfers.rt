@@ -49,9 +49,7 @@ impl Script for Transfers {
             Err(fault) => return Err(fault),
         };
         self.text.clear();
-        if let Err(fault) = self.stage.obey(alloc, command, &mut self.text) {
-            return Err(fault);
-        }
+        self.stage.obey(alloc, command, &mut self.text)?;
         Ok(out.extend_from_slice(&self.text)?)
     }
 }
