@@ -1,9 +1,11 @@
 -- What callers may use of the words of `specs/Arena.antt`.
+--     octets_at-with_..   a block after a block was set
 --     length-..           the capacity stays
 --     live_count-..       how many blocks are live after that, or where the same are live
 --     free_count-..       how many are free after that
 --     ..-vacated          the same where several were freed
 use Rattle.std.proofs.Common.{◌≡◌, ◌≢◌, ℕ, suc, zero, ◌+◌, ◌<◌, ◌≤◌, List, [], ◌∷◌, length, Some, None, is_some, refl, sym, ap, subst, arith, length-set}
+use Rattle.std.proofs.lemmas.List.{get_or-set_same, get_or-set_other}
 use Rattle.std.specs.Prelude.{All, AllPairs, IsSome}
 use Rattle.cfdp_arena.specs.Arena.{Blocks, octets_at, IsLive, live_count, free_count, with_block, without_block}
 use Rattle.cfdp_arena.specs.FreeList.{vacated}
@@ -49,6 +51,12 @@ live_count-same (Some x ∷ xs) (None ∷ ys) long same = (let e = same 0 in cc)
 live_count-same (None ∷ xs) (Some y ∷ ys) long same = (let e = same 0 in cc)
 
 module _ (arena : Blocks) (block : ℕ) (octets : List ℕ) where
+  pub octets_at-with_same : block < length arena → octets_at (with_block arena block octets) block ≡ Some octets
+  octets_at-with_same within = get_or-set_same arena block (Some octets) None within
+
+  pub octets_at-with_other : (other : ℕ) → other ≢ block → octets_at (with_block arena block octets) other ≡ octets_at arena other
+  octets_at-with_other other apart = get_or-set_other arena block other (Some octets) None apart
+
   pub length-with : length (with_block arena block octets) ≡ length arena
   length-with = length-set arena block (Some octets)
 
