@@ -547,8 +547,42 @@ static bool measure_receiver(uint32_t blocks, uint32_t longest_nak) {
     return cfdp_receiver_free(&receiver) == CFDP_ANSWER_DONE && in_use == 0 && blocks_in_use == 0 && right;
 }
 
+/* Adds the denial of a file whose path has one name: eight letters and the octets for which paths have one hash, or
+ * others. */
+static void put_denial(char letter, const char *tail) {
+    uint8_t tlv[] = {0x00, 18, 0x70, 16}, octets[16];
+    memset(octets, letter, 8);
+    memcpy(octets + 8, tail, 8);
+    put(tlv, sizeof tlv);
+    put(octets, sizeof octets);
+}
+
+/* A list comes that denies two such files, beside another transaction, and goes. */
+static bool come_with_pair(const char *tail) {
+    struct cfdp_reply reply = {0};
+    begin_list();
+    put_denial('a', tail);
+    put_denial('b', tail);
+    end_list();
+    pdu[5] = 2;
+    return cfdp_receive(&engine, pdu, length, &reply) == CFDP_ANSWER_DONE && reply.kind == CFDP_REPLY_ADMITTED &&
+        end(&engine, 2);
+}
+
+/* Two leased paths of one hash are kept in a map of their own. It is gone with their leases. */
+static bool run_one_hash(void) {
+    bool right = make_engine(64, 0) && come(1) && come_with_pair("other..1");
+    size_t before = in_use;
+    right &= come_with_pair("\x15\x7c\x4a\x7f\xb9\x79\x37\x9e");
+    right &= in_use == before;
+    printf("two paths of one hash, leased and given back beside another transaction: %zu octets are kept\n",
+        in_use - before);
+    right &= end(&engine, 1);
+    return cfdp_free(&engine) == CFDP_ANSWER_DONE && in_use == 0 && blocks_in_use == 0 && right;
+}
+
 int main(void) {
-    static const uint32_t filestores[] = {16, 64, 257, 4096, 65536};
+    static const uint32_t filestores[] = {16, 64, 256, 257, 4096, 65536};
     bool right = true;
     for (size_t i = 0; i < sizeof filestores / sizeof *filestores; i++) right &= measure(filestores[i]);
     right &= measure_receiver(16, 72) && measure_receiver(65536, 65535);
@@ -558,6 +592,7 @@ int main(void) {
     right &= run_swap();
     right &= refuse();
     right &= run_moves();
+    right &= run_one_hash();
     right &= come_and_go(FEW) && come_and_go(TRANSACTIONS);
     puts(right ? "nothing is kept after the last take" : "wrong");
     return !right;

@@ -91,7 +91,8 @@ impl<'a> SparseView<'a> {
     ///
     /// Cost: that of [`View::apply`] on what the view has. If it keeps paths by their names, it is a few searches for
     /// each name of the request's paths; a rename then moves one branch, whatever is below it, and looks at the names
-    /// beside those of its two paths. If it keeps them in path order, at most one rename moves many of them.
+    /// beside those of its two paths. If it keeps them in path order, a rename writes each path that it moves. If there
+    /// are at least 128 of them, at most one rename of the list moves many.
     pub fn apply(&mut self, request: &Request) -> Result<Option<Status>, Memory>
         ensures stated { IfOk result (λ stated. IfSome stated (λ status.
             TellsSparse self.old.view self.new.view request.now status)) }
