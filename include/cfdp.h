@@ -225,10 +225,11 @@ enum cfdp_answer cfdp_free(struct cfdp_engine *engine);
 /* Takes the octets of one whole PDU (5.1 to 5.3). Returns CFDP_ANSWER_DONE with the reply, CFDP_ANSWER_NO_ENGINE,
  * CFDP_ANSWER_NOT_OURS, or the first fault that the octets have (CFDP_ANSWER_TRUNCATED to
  * CFDP_ANSWER_REQUEST_TOO_LONG); CFDP_ANSWER_NO_MEMORY for a Metadata PDU alone. The octets are not kept.
- * Cost: one pass over the octets, and the cost of the event. File Data and EOF: docs/CONFORMANCE.md. Metadata: a few
- * searches among the leased paths for each path of its requests. For each directory with entries that its list changes
- * also some searches among the paths that it names; and, if a request renames it, one walk over what is below it (see
- * THE LONGEST CALLS). */
+ * Cost: one pass over the octets, and the cost of the event. File Data: its octets are copied and summed once; out of
+ * order also at most 3 steps for each binary digit of the offset in blocks, a sum of what it overwrites, and zeros for
+ * a gap before it. EOF: constant. Metadata: a few searches among the leased paths for each path of its requests. For
+ * each directory with entries that its list changes also some searches among the paths that it names; and, if a
+ * request renames it, one walk over what is below it (see THE LONGEST CALLS). */
 enum cfdp_answer cfdp_receive(struct cfdp_engine *engine, const uint8_t *octets, size_t length,
                               struct cfdp_reply *reply);
 

@@ -201,6 +201,7 @@ impl<S: Filestore> Core<S> {
 
     /// What is missing of a transaction's file, as starts and ends in order: between the octets that came, and once its
     /// EOF PDU came up to the size that it gave (lost segment procedures). There are none where no file data is taken.
+    /// Cost: a look-up, and a pass over the pieces that came, at most 32.
     pub fn gaps(&self, id: TransactionId) -> Option<ArrayVec<Range, MOST_GAPS>>
         ensures { option_map (λ gaps. gaps.items) result ≡ read_of gaps self.now.world id }
     {
