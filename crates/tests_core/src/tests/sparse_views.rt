@@ -205,6 +205,17 @@ fn list_of(alloc: Global, random: &mut Random, scene: &mut Scene) -> Result<List
     Ok(list)
 }
 
+/// Denials of files that do not exist are put at the end of the list. Each path has eight names, so the list sees over
+/// 128 paths: if it moves what it names, its view keeps them by their names.
+fn lengthen(alloc: Global, list: &mut List, scene: &mut Scene) -> Result<(), Memory> {
+    for number in 0..20 {
+        let path = format!(in alloc; "p/{number}/1/2/3/4/5/6")?;
+        let denial = request(alloc, Action::DenyFile, path.as_bytes(), b"")?;
+        push(list, scene, denial)?;
+    }
+    Ok(())
+}
+
 /// Whether both views describe the same need and steps.
 fn is_same(open: &View<'_>, sparse: &View<'_>) -> bool {
     open.need() == sparse.need()
@@ -288,14 +299,17 @@ fn compare(rt: &impl Abort, alloc: Global, scene: &Scene, list: &List) -> Result
     Ok(went)
 }
 
-/// Compares one list on a store that is filled by the seed.
+/// Compares one list on a store that is filled by the seed. Each second list is long.
 fn compare_one(rt: &impl Abort, alloc: Global, seed: u64) -> Result<Went, Memory> {
     let scene = filled(rt, alloc, seed)?;
     let mut after = filled(rt, alloc, seed)?;
     let mut random = Random {
         state: seed.wrapping_add(1),
     };
-    let list = list_of(alloc, &mut random, &mut after)?;
+    let mut list = list_of(alloc, &mut random, &mut after)?;
+    if seed % 2 == 1 {
+        lengthen(alloc, &mut list, &mut after)?;
+    }
     compare(rt, alloc, &scene, &list)
 }
 
