@@ -2,6 +2,7 @@
 use Rattle.std.proofs.Common.{◌≡◌, ℕ, ◌+◌, ◌<◌, ◌≤◌, ◌==◌, true, false, List, [], ◌∷◌, ◌++◌, Option, None, length, take, drop, get_or, sym, ap, subst, ◌∙◌, append_assoc, arith, length-take}
 use Rattle.std.proofs.lemmas.List.{append-nil, drop_more, take_more, take-append-drop, get_or-take}
 use Rattle.std.proofs.lemmas.List.Elements.{All-from_get_or}
+use Rattle.std.proofs.KnownBytes.{Appends-trans}
 use Rattle.std.specs.Io.KnownBytes.{Appends}
 use Rattle.cfdp_lines.specs.Answers.{AnswersLine, Adds}
 use Rattle.cfdp_lines.specs.Lines.{is_newline, line_limit, IsOneLine}
@@ -10,7 +11,7 @@ use Rattle.cfdp_lines.specs.Session.{LineReading, line_reading, Moves, StopsBad}
 use Rattle.cfdp_lines.specs.code.Session.{Breaks, RunsBad, RunsPart, RunsLost}
 use Rattle.cfdp_streams.specs.Streams.{LostWithin}
 use Rattle.cfdp_streams.specs.code.Streams.{Spills}
-use Rattle.cfdp_streams.proofs.Streaming.{Appends-more, Appends-more_or_lost}
+use Rattle.cfdp_streams.proofs.Streaming.{Appends-more_or_lost}
 use Rattle.cfdp_lines.proofs.Moving.{Moves-then, Moves-then_stops, Moves-then_breaks, StopsBad-before, StopsBad-good_line, Breaks-none, Breaks-shorter, Moves-gather, Moves-newline, StopsBad-newline, StopsBad-overlong}
 use Rattle.std.proofs.lemmas.Bool.{false_from_ne_true}
 
@@ -120,14 +121,14 @@ module _ (State : Type 0) (answer : State → List ℕ → Option (State × List
     cut = f.cut;
     moves = f.moves;
     whole = f.whole ∙ ap (λ (t : List ℕ). f.written ++ t) s.whole ∙ sym (append_assoc f.written s.written later);
-    appended = Appends-more old new newer f.written s.written f.appended s.appended;
+    appended = Appends-trans old new newer f.written s.written f.appended s.appended;
   }
 
   -- what was held back was written: all of the text was
   whole_text : (from here : LineReading State) (piece rest held : List ℕ) (old new newer : Option (List ℕ)) (f : Fed from here piece rest held old new)
       → Appends new newer held → Appends old newer f.text
   whole_text from here piece rest held old new newer f a =
-      subst (λ (s : List ℕ). Appends old newer s) (sym f.whole) (Appends-more old new newer f.written held f.appended a)
+      subst (λ (s : List ℕ). Appends old newer s) (sym f.whole) (Appends-trans old new newer f.written held f.appended a)
 
   pub Fed-stops : (from here : LineReading State) (piece rest held : List ℕ) (n : ℕ) (old new newer : Option (List ℕ))
       → Fed from here piece rest held old new → Appends new newer held → StopsBad answer here rest [] n

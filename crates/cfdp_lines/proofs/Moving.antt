@@ -6,9 +6,9 @@ use Rattle.cfdp_lines.specs.Lines.{is_newline, is_overlong, line_limit, lines_of
 use Rattle.cfdp_lines.specs.Report.{Report, report, and_then_report, wrote, stopped_at, empty_report, line_answer}
 use Rattle.cfdp_lines.specs.Session.{LineReading, line_reading, lines_by, report_at, Moves, StopsBad}
 use Rattle.cfdp_lines.specs.code.Session.{Breaks, Runs, RunsBad, Finishes, FinishesBad, FinishesLost}
+use Rattle.std.proofs.KnownBytes.{Appends-nil, Appends-trans}
 use Rattle.std.specs.Io.KnownBytes.{Appends, Keeps}
 use Rattle.cfdp_streams.specs.Streams.{LostWithin}
-use Rattle.cfdp_streams.proofs.Streaming.{Appends-none, Appends-more}
 use Rattle.cfdp_lines.proofs.LineLemmas.{lines_by-newline, lines_of-last, lines_by-begun, settled_lines-none}
 
 wrote-wrote : (a b : List ℕ) (r : Report) → wrote a (wrote b r) ≡ wrote (a ++ b) r
@@ -165,14 +165,14 @@ module _ (State : Type 0) (answer : State → List ℕ → Option (State × List
   -- some octets, others, and those after which make no difference
 
   pub Runs-none : (here : LineReading State) (old : Option (List ℕ)) → Runs answer here here [] old old
-  Runs-none here old = record { written = []; moves = Moves-none here; appended = Appends-none old }
+  Runs-none here old = record { written = []; moves = Moves-none here; appended = Appends-nil old }
 
   pub Runs-then : (p q r : LineReading State) (a b : List ℕ) (x y z : Option (List ℕ)) → Runs answer p q a x y → Runs answer q r b y z
       → Runs answer p r (a ++ b) x z
   Runs-then p q r a b x y z f g = record {
     written = f.written ++ g.written;
     moves = Moves-then p q r a b f.written g.written f.moves g.moves;
-    appended = Appends-more x y z f.written g.written f.appended g.appended;
+    appended = Appends-trans x y z f.written g.written f.appended g.appended;
   }
 
   pub Runs-then_bad : (p q : LineReading State) (a b c : List ℕ) (n : ℕ) (x y z : Option (List ℕ)) → Runs answer p q a x y
@@ -180,7 +180,7 @@ module _ (State : Type 0) (answer : State → List ℕ → Option (State × List
   Runs-then_bad p q a b c n x y z f g = record {
     written = f.written ++ g.written;
     stops = StopsBad-before p (a ++ b) c (f.written ++ g.written) n (Moves-then_stops p q a b f.written g.written n f.moves g.stops);
-    appended = Appends-more x y z f.written g.written f.appended g.appended;
+    appended = Appends-trans x y z f.written g.written f.appended g.appended;
   }
 
   -- the end of the script, with what the writer says

@@ -3,6 +3,7 @@ use Rattle.std.proofs.Common.{◌≡◌, ℕ, ◌+◌, ◌-◌, ◌<◌, ◌≤�
 use Rattle.std.specs.Prelude.{if◌then◌else◌}
 use Rattle.std.proofs.lemmas.List.{append-nil}
 use Rattle.std.proofs.Math.Seq.{take-append_seam, take-append-add}
+use Rattle.std.proofs.KnownBytes.{Appends-kept, Appends-trans, Consumes-nil, Consumes-trans, Keeps-refl}
 use Rattle.std.specs.Io.KnownBytes.{Keeps, Consumes, IsAtEnd}
 use Rattle.cfdp_lines.specs.Lines.{line_limit, input_limit, lines_of, settled_lines, IsOneLine}
 use Rattle.cfdp_lines.specs.Report.{Report, report, wrote, empty_report, stopped_at, script_report, limited_report}
@@ -11,20 +12,10 @@ use Rattle.cfdp_lines.specs.code.Session.{Runs, RunsBad, RunsPart, RunsLost, Fin
 use Rattle.cfdp_streams.specs.Streams.{KeptOrLost, Begins, ReadsOff, ReadsAtMost}
 use Rattle.cfdp_lines.specs.Outcome.{WholeRun, BadRun, LongRun, PartRun, LostRun}
 use Rattle.cfdp_lines.proofs.LineLemmas.{settled_lines-none}
-use Rattle.cfdp_streams.proofs.Streaming.{Appends-more, Appends-more_or_lost, Appends-then_keeps, KeptOrLost-same, Keeps-same}
+use Rattle.cfdp_streams.proofs.Streaming.{Appends-more_or_lost, KeptOrLost-same}
 use Rattle.cfdp_lines.proofs.Moving.{Moves-then_breaks, Runs-none, Runs-then, Runs-then_bad}
 
 -- one piece read after others
-
-Consumes-none : (a : Option (List ℕ)) → Consumes a a []
-Consumes-none None = tt
-Consumes-none (Some a) = refl
-
-Consumes-more : (a b c : Option (List ℕ)) (x y : List ℕ) → Consumes a b x → Consumes b c y → Consumes a c (x ++ y)
-Consumes-more None b c x y p q = tt
-Consumes-more (Some a) None c x y p q = absurd p
-Consumes-more (Some a) (Some b) None x y p q = absurd q
-Consumes-more (Some a) (Some b) (Some c) x y p q = p ∙ ap (λ (s : List ℕ). x ++ s) q ∙ sym (append_assoc x y c)
 
 ReadsOff-consumed : (a b : Option (List ℕ)) (x : List ℕ) → Consumes a b x → ReadsOff a b x
 ReadsOff-consumed None b x p = tt
@@ -58,7 +49,7 @@ module _ (State : Type 0) (answer : State → List ℕ → Option (State × List
   pub Running-none : (start : State) (input old : Option (List ℕ)) → Running start (line_reading 1 start []) input_limit input input old old
   Running-none start input old = record {
     octets = [];
-    consumed = Consumes-none input;
+    consumed = Consumes-nil input;
     runs = Runs-none State answer (line_reading 1 start []) old;
     within = refl;
   }
@@ -69,7 +60,7 @@ module _ (State : Type 0) (answer : State → List ℕ → Option (State × List
       → Runs answer here there piece new newer → length piece + later ≡ left → Running start there later input rest old newer
   Running-more start here there left later input unread rest old new newer piece r c g fits = record {
     octets = r.octets ++ piece;
-    consumed = Consumes-more input unread rest r.octets piece r.consumed c;
+    consumed = Consumes-trans input unread rest r.octets piece r.consumed c;
     runs = Runs-then State answer (line_reading 1 start []) here there r.octets piece old new newer r.runs g;
     within = omega (arith, length-append r.octets piece, r.within);
   }
@@ -94,7 +85,7 @@ module _ (State : Type 0) (answer : State → List ℕ → Option (State × List
     read = ReadsOff-kept_or_lost input unread rest r.octets r.consumed k;
     within = omega (arith, r.within);
     begins = begun_by start r.octets r.runs.written (report_so_far start here r.octets r.runs.written [] (r.runs.moves.goes_on true []));
-    appended = Appends-then_keeps old new newer r.runs.written r.runs.appended w;
+    appended = Appends-kept old new newer r.runs.written r.runs.appended w;
   }
 
   -- the same, when a piece was read that was not run
@@ -104,10 +95,10 @@ module _ (State : Type 0) (answer : State → List ℕ → Option (State × List
   Running-stops start here left most input unread rest old new newer piece r c w fits = record {
     octets = r.octets ++ piece;
     written = r.runs.written;
-    read = ReadsOff-consumed input rest (r.octets ++ piece) (Consumes-more input unread rest r.octets piece r.consumed c);
+    read = ReadsOff-consumed input rest (r.octets ++ piece) (Consumes-trans input unread rest r.octets piece r.consumed c);
     within = omega (arith, length-append r.octets piece, r.within);
     begins = report_so_far start here r.octets r.runs.written piece (r.runs.moves.goes_on true piece);
-    appended = Appends-then_keeps old new newer r.runs.written r.runs.appended w;
+    appended = Appends-kept old new newer r.runs.written r.runs.appended w;
   }
 
   -- a piece was read and run in part
@@ -120,10 +111,10 @@ module _ (State : Type 0) (answer : State → List ℕ → Option (State × List
       record {
         octets = r.octets ++ piece;
         written = r.runs.written ++ g.written;
-        read = ReadsOff-consumed input rest (r.octets ++ piece) (Consumes-more input unread rest r.octets piece r.consumed c);
+        read = ReadsOff-consumed input rest (r.octets ++ piece) (Consumes-trans input unread rest r.octets piece r.consumed c);
         within = omega (arith, length-append r.octets piece, r.within);
         begins = begun_by start (r.octets ++ piece) (r.runs.written ++ g.written) (breaks.begins []);
-        appended = Appends-more old new newer r.runs.written g.written r.runs.appended g.appended;
+        appended = Appends-trans old new newer r.runs.written g.written r.runs.appended g.appended;
       }
 
   pub Running-lost : (start : State) (here : LineReading State) (left : ℕ) (input unread rest old new newer : Option (List ℕ))
@@ -134,7 +125,7 @@ module _ (State : Type 0) (answer : State → List ℕ → Option (State × List
       record {
         octets = r.octets ++ piece;
         written = r.runs.written ++ g.written;
-        read = ReadsOff-consumed input rest (r.octets ++ piece) (Consumes-more input unread rest r.octets piece r.consumed c);
+        read = ReadsOff-consumed input rest (r.octets ++ piece) (Consumes-trans input unread rest r.octets piece r.consumed c);
         within = omega (arith, length-append r.octets piece, r.within);
         begins = begun_by start (r.octets ++ piece) (r.runs.written ++ g.written) (breaks.begins []);
         appended = Appends-more_or_lost old new newer r.runs.written g.written r.runs.appended g.appended;
@@ -147,7 +138,7 @@ module _ (State : Type 0) (answer : State → List ℕ → Option (State × List
       → ReadsAtMost input_limit input rest
   reads_at_most start here left input unread rest old new piece r c fits = record {
     octets = r.octets ++ piece;
-    read = ReadsOff-consumed input rest (r.octets ++ piece) (Consumes-more input unread rest r.octets piece r.consumed c);
+    read = ReadsOff-consumed input rest (r.octets ++ piece) (Consumes-trans input unread rest r.octets piece r.consumed c);
     within = omega (arith, length-append r.octets piece, r.within);
   }
 
@@ -174,7 +165,7 @@ module _ (State : Type 0) (answer : State → List ℕ → Option (State × List
   Running-bad start here left n (Some input) unread rest old new newer piece r c g fits =
       let bad = Runs-then_bad State answer (line_reading 1 start []) here r.octets piece [] n old new newer r.runs g in
       let stops : StopsBad answer (line_reading 1 start []) (r.octets ++ piece) bad.written n = rw append-nil at bad.stops in
-      let begun = Consumes-begun input rest (r.octets ++ piece) (Consumes-more (Some input) unread rest r.octets piece r.consumed c) in
+      let begun = Consumes-begun input rest (r.octets ++ piece) (Consumes-trans (Some input) unread rest r.octets piece r.consumed c) in
       let whole : script_report answer start input ≡ wrote bad.written (stopped_at n) =
       ap (script_report answer start) begun.1 ∙ stops.stops true begun.0 in
       let limited : limited_report answer start input ≡ wrote bad.written (stopped_at n) =
@@ -198,13 +189,13 @@ module _ (State : Type 0) (answer : State → List ℕ → Option (State × List
   Running-whole start here left None unread rest old new newer r c e f = tt
   Running-whole start here left (Some input) unread rest old new newer r c e f =
       let all : input ≡ r.octets =
-      Consumes-all input rest (r.octets ++ []) (Consumes-more (Some input) unread rest r.octets [] r.consumed c) e ∙ append-nil r.octets in
+      Consumes-all input rest (r.octets ++ []) (Consumes-trans (Some input) unread rest r.octets [] r.consumed c) e ∙ append-nil r.octets in
       let whole : script_report answer start input ≡ wrote r.runs.written (wrote f.written empty_report) =
       whole_report start here input r.octets r.runs.written (wrote f.written empty_report) all (r.runs.moves.goes_on true) f.is in
       rw whole (
         omega (arith, ap length all, r.within),
         refl,
-        rw append-nil (Appends-more old new newer r.runs.written f.written r.runs.appended f.appended),
+        rw append-nil (Appends-trans old new newer r.runs.written f.written r.runs.appended f.appended),
       )
 
   -- a script within the limit is run whole
@@ -219,13 +210,13 @@ module _ (State : Type 0) (answer : State → List ℕ → Option (State × List
       (reads_at_most start here left None unread rest old new [] r c (omega arith), tt)
   Running-ends_bad start here left n (Some input) unread rest old new newer r c e f =
       let all : input ≡ r.octets =
-      Consumes-all input rest (r.octets ++ []) (Consumes-more (Some input) unread rest r.octets [] r.consumed c) e ∙ append-nil r.octets in
+      Consumes-all input rest (r.octets ++ []) (Consumes-trans (Some input) unread rest r.octets [] r.consumed c) e ∙ append-nil r.octets in
       let whole : script_report answer start input ≡ wrote r.runs.written (stopped_at n) =
       whole_report start here input r.octets r.runs.written (stopped_at n) all (r.runs.moves.goes_on true) f.is in
       let limited : limited_report answer start input ≡ wrote r.runs.written (stopped_at n) =
       limited_report-whole start input (omega (arith, ap length all, r.within)) ∙ whole in (
         reads_at_most start here left (Some input) unread rest old new [] r c (omega arith),
-        rw (whole, limited) (refl, refl, rw append-nil (Appends-then_keeps old new newer r.runs.written r.runs.appended f.kept)),
+        rw (whole, limited) (refl, refl, rw append-nil (Appends-kept old new newer r.runs.written r.runs.appended f.kept)),
       )
 
   pub Running-ends_lost : (start : State) (here : LineReading State) (left : ℕ) (input unread rest old new newer : Option (List ℕ))
@@ -235,7 +226,7 @@ module _ (State : Type 0) (answer : State → List ℕ → Option (State × List
       record {
         octets = r.octets ++ [];
         written = r.runs.written ++ f.written;
-        read = ReadsOff-consumed input rest (r.octets ++ []) (Consumes-more input unread rest r.octets [] r.consumed c);
+        read = ReadsOff-consumed input rest (r.octets ++ []) (Consumes-trans input unread rest r.octets [] r.consumed c);
         within = omega (arith, length-append r.octets [], r.within);
         begins = (
           f.begins.0,
@@ -270,7 +261,7 @@ module _ (State : Type 0) (answer : State → List ℕ → Option (State × List
       → IsOneLine here.line → length here.line ≤ line_limit → LongRun answer start input old new
   Running-long start here None unread rest old new piece r c some one_line fits = tt
   Running-long start here (Some input) unread rest old new piece r c some one_line fits =
-      let begun = Consumes-begun input rest (r.octets ++ piece) (Consumes-more (Some input) unread rest r.octets piece r.consumed c) in
+      let begun = Consumes-begun input rest (r.octets ++ piece) (Consumes-trans (Some input) unread rest r.octets piece r.consumed c) in
       let same : input ≡ r.octets ++ (piece ++ begun.0) = begun.1 ∙ append_assoc r.octets piece begun.0 in
       let full : length r.octets ≡ input_limit = omega (arith, r.within) in
       let more : 0 < length (piece ++ begun.0) = omega (arith, length-append piece begun.0) in
@@ -288,4 +279,4 @@ module _ (State : Type 0) (answer : State → List ℕ → Option (State × List
       → PartRun answer start most input input old old
   PartRun-none start most input old enough =
       Running-fails start (line_reading 1 start []) input_limit most input input input old old old (Running-none start input old) (KeptOrLost-same input)
-      (Keeps-same old) enough
+      (Keeps-refl old) enough

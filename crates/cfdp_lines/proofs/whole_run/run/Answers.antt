@@ -2,13 +2,13 @@ use Rattle.std.proofs.Common.{◌≡◌, ◌<◌, [], Err, length, rules, arith,
 use Rattle.std.proofs.lemmas.Result.{err_from_is_err_and, on_ok_weaker}
 use Rattle.std.proofs.lemmas.List.{nil_from_length}
 use Rattle.cfdp_lines.specs.declared.faults.RunFault.TheVariants.{Write, Memory, BadLine}
-use Rattle.cfdp_streams.proofs.Streaming.{Keeps-same}
+use Rattle.std.proofs.KnownBytes.{Keeps-refl}
 use Rattle.cfdp_lines.proofs.Running.{Running-more, Running-fails, Running-stops, Running-part, Running-lost, Running-bad, Running-whole, Running-ends_bad, Running-long, Running-ends_lost}
 use Rattle.cfdp_lines.proofs.whole_run.run.Goals as goal
 
 pub returns-in_default-clause-begun : goal.returns-in_default-clause-begun
 returns-in_default-clause-begun g c = λ _.
-    Running-fails _ _ _ _ _ _ _ _ _ _ _ _ c.pieces.invariant.0 c.in_default.ensures.kept_or_lost (Keeps-same _) (omega arith)
+    Running-fails _ _ _ _ _ _ _ _ _ _ _ _ c.pieces.invariant.0 c.in_default.ensures.kept_or_lost (Keeps-refl _) (omega arith)
 
 pub returns-then-is_empty-clause-ok : goal.returns-then-is_empty-clause-ok
 returns-then-is_empty-clause-ok g c =
@@ -39,7 +39,7 @@ returns-then-is_empty-clause-begun_lost g c = λ fault.
 
 pub returns-then-left-eq0-clause-begun : goal.returns-then-left-eq0-clause-begun
 returns-then-left-eq0-clause-begun g c = λ _.
-    Running-stops _ _ _ _ _ _ _ _ _ _ _ _ _ c.pieces.invariant.0 c.in-Ok.ensures.octets (Keeps-same _)
+    Running-stops _ _ _ _ _ _ _ _ _ _ _ _ _ c.pieces.invariant.0 c.in-Ok.ensures.octets (Keeps-refl _)
     (omega (arith, c.in-Ok.ensures.count))
 
 pub returns-then-left-eq0-clause-read : goal.returns-then-left-eq0-clause-read

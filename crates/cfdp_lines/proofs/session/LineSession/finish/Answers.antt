@@ -1,7 +1,7 @@
 use Rattle.std.proofs.Common.{◌≡◌, ◌<◌, ◌++◌, Err, List, length, rules, ap, ◌∙◌}
 use Rattle.std.proofs.lemmas.Result.{on_ok_weaker}
 use Rattle.cfdp_lines.proofs.Moving.{Finishes-last, FinishesBad-last, FinishesLost-last}
-use Rattle.cfdp_streams.proofs.Streaming.{Keeps-same}
+use Rattle.std.proofs.KnownBytes.{Keeps-refl}
 use Rattle.cfdp_lines.proofs.session.LineSession.finish.Goals as goal
 
 pub returns-in-Ok-clause-ok : goal.returns-in-Ok-clause-ok
@@ -26,4 +26,4 @@ returns-in-Err-clause-bad g c = λ n e.
     let bad = (c.fault.ensures.bad n).0 cc in
     let number : n ≡ c.args.self.now.number = bad.0 in
     let none = rw c.octets-line.ensures.octets at (c.answer_line.ensures.bad.0 (c.in-Err.is ∙ ap Err bad.1)) in
-    rw number (FinishesBad-last _ _ _ _ _ _ _ c.octets-line.ensures.whole.one_line few none (Keeps-same _))
+    rw number (FinishesBad-last _ _ _ _ _ _ _ c.octets-line.ensures.whole.one_line few none (Keeps-refl _))
