@@ -1,4 +1,4 @@
--- What holds of each PDU that octets spell, holds of the one that a receiver learns of; and where memory is refused for it.
+-- What holds of each PDU that octets spell, holds of the one that a receiver learns of; and for which PDUs memory runs out.
 use Rattle.std.proofs.Common.{◌≡◌, List, ℕ, Option, Some, None, Result, Ok, Err, refl, ap, subst, inl, inr}
 use Rattle.std.specs.Prelude.{IfOk, IfSome}
 use Rattle.cfdp_pdus.specs.declared.pdu.Pdu.{Pdu}
@@ -41,7 +41,7 @@ not_failed : (fault : PduFault) → (failed fault ≡ failed Memory → ⊥) →
 not_failed fault never (inl same) = let why : fault ≡ Memory = cc in never (ap failed why)
 not_failed fault never (inr ran_out) = never_both (received_of (failed fault)) fault refl ran_out.1
 
--- where memory is refused, and no octets have that fault, the PDU is one that is copied
+-- where memory runs out, and no octets have that fault, the PDU is one that is copied
 pub copied : (read : Result Pdu PduFault) (result : Result (Option Pdu) PduFault) → result ≡ Err Memory → (read ≡ failed Memory → ⊥)
     → Gives Memory (λ (returned : Option Pdu). returned) result (received_of read) → (ReceivesLean read → result ≡ received_of read) → IsCopied read
 copied (Ok (pdus.Metadata header metadata)) result wanting never exact lean = tt

@@ -3,7 +3,7 @@ use Rattle.std.proofs.Common.{◌≡◌, Bool, true, false, cond, Result, Ok, Er
 use Rattle.std.specs.Prelude.{IsOk}
 use Rattle.cfdp_tlv.specs.declared.fault.TlvFault.{TlvFault}
 use Rattle.cfdp_pdus.specs.declared.fault.PduFault.{PduFault}
-use Rattle.cfdp_tlv.specs.Reading.{◌>>=◌, Answers, Fails}
+use Rattle.cfdp_tlv.specs.Reading.{◌>>=◌, Fails}
 use Rattle.cfdp_pdus.specs.Reading.{mend}
 
 -- a first step that gave no value, gives the whole none
@@ -21,10 +21,6 @@ not_refused (Ok x) whole cause refused good = refl
 not_refused (Err fault) whole cause refused good = absurd (never_both whole (cause fault) (refused fault refl) good)
 
 -- a last step that cannot fail
-pub last_err : {A B F : Type 0} (read : Result A F) (last : A → B) (fault : F) → (read >>= λ x. Ok (last x)) ≡ Err fault → read ≡ Err fault
-last_err (Ok x) last fault e = absurd cc
-last_err (Err other) last fault e = cc
-
 last_is_ok : {A B F : Type 0} (read : Result A F) (last : A → B) → IsOk read → IsOk (read >>= λ x. Ok (last x))
 last_is_ok (Ok x) last good = refl
 last_is_ok (Err fault) last good = absurd cc
@@ -33,11 +29,6 @@ pub last_fails : {A B F : Type 0} (memory fault : F) (read : Result A F) (last :
     Fails memory fault (read >>= λ x. Ok (last x))
 last_fails memory fault read last (inl same) = inl (ap (λ r. r >>= λ x. Ok (last x)) same)
 last_fails memory fault read last (inr ran_out) = inr (ran_out.0, last_is_ok read last ran_out.1)
-
--- what is answered has been read
-pub answers_ok : {X Y F : Type 0} (view : X → Y) (result : Result X F) (read : Result Y F) → Answers view result read → IsOk read → IsOk result
-answers_ok view (Ok x) read given good = refl
-answers_ok view (Err fault) read given good = absurd (never_both read fault given good)
 
 -- a test that held
 pub held_ok : {A : Type 0} (b : Bool) (fault : PduFault) (x y : A) → cond b (Ok x) (Err fault) ≡ Ok y → (b ≡ true) × (x ≡ y)

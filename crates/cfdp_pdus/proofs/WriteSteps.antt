@@ -1,7 +1,8 @@
 -- Lengths of what is written, and that there is room for it.
-use Rattle.std.proofs.Common.{◌≡◌, ℕ, zero, suc, ◌+◌, ◌*◌, ◌≤◌, ◌<◌, List, [], ◌∷◌, ◌++◌, length, take, get_or, Bool, Some, ap, arith}
+use Rattle.std.proofs.Common.{◌≡◌, ℕ, ◌+◌, ◌*◌, ◌≤◌, ◌<◌, List, ◌++◌, length, take, get_or, Bool, Some, ap, arith}
 use Rattle.std.specs.List.{flat_map}
 use Rattle.std.proofs.lemmas.List.{length-append}
+use Rattle.std.proofs.lemmas.List.Folds.{length-flat_map-take}
 use Rattle.byteorder.specs.Endian.{big_bytes}
 use Rattle.byteorder.specs.Numbers.{length-bytes_high_first}
 use Rattle.cfdp_pdus.specs.declared.header.Header.{Header}
@@ -9,15 +10,6 @@ use Rattle.cfdp_pdus.specs.Values.{FileDataFields, FinishedFields}
 use Rattle.cfdp_pdus.specs.declared.eof.Eof.{Eof}
 use Rattle.cfdp_pdus.specs.Bits.{fss}
 use Rattle.cfdp_pdus.specs.Canonical.{fault_location, finished_field, response_field, pdu_octets, names_octets, eof_field, eof_location, file_data_field}
-
--- what is before a part, and the part, are no longer than the whole
-pub part_fits : {X : Type 0} (f : X → List ℕ) (xs : List X) (i : ℕ) (d : X) → i < length xs → length (flat_map f (take i xs))
-    + length (f (get_or xs i d)) ≤ length (flat_map f xs)
-part_fits f [] i d lt = absurd (omega arith)
-part_fits f (x ∷ xs) zero d lt = omega (arith, length-append (f x) (flat_map f xs))
-part_fits f (x ∷ xs) (suc i) d lt =
-    let following = part_fits f xs i d (omega arith) in
-    omega (arith, following, length-append (f x) (flat_map f xs), length-append (f x) (flat_map f (take i xs)))
 
 pub location_len : (id_len entity : ℕ) → length (fault_location id_len (Some entity)) ≡ id_len + 2
 location_len id_len entity = omega (arith, length-bytes_high_first id_len entity)
@@ -27,12 +19,12 @@ pub finished_len : (header : Header) (finished : FinishedFields) → length (fin
 unfolding finished_field
 finished_len header finished = omega (arith, length-append (flat_map response_field finished.responses) (fault_location header.id_len finished.fault))
 
--- the same of the item at an index
+-- what is before an item, and the item, are no longer than the whole
 pub item_fits : {X : Type 0} (f : X → List ℕ) (xs : List X) (i : ℕ) (x : X) → x ≡ get_or xs i x → i < length xs → length (flat_map f (take i xs))
     + length (f x) ≤ length (flat_map f xs)
 item_fits {X = X} f xs i x is lt =
     let same : length (f x) ≡ length (f (get_or xs i x)) = ap (λ (y : X). length (f y)) is in
-    omega (arith, same, part_fits f xs i x lt)
+    omega (arith, same, length-flat_map-take f xs i x lt)
 
 -- a whole PDU is as long as its header and its data field
 pub pdu_len : (file_data : Bool) (header : Header) (field : List ℕ)

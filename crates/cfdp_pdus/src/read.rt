@@ -150,7 +150,7 @@ pub fn read_for_receiver(alloc: Global, octets: &[u8]) -> Result<Option<Pdu>, Pd
     ensures exact { Gives Memory (λ returned. returned) result (received_of (pdu_at octets.now)) }
     // An EOF PDU, a Finished PDU, and one that is not ours, are read without memory.
     ensures lean { (pdu : PduValue) → SpellsPdu octets.now pdu → IsLeanToReceive pdu → result ≡ Ok (received pdu) }
-    // Memory is refused only where a Metadata PDU or a File Data PDU is spelled.
+    // Memory runs out only where a Metadata PDU or a File Data PDU is spelled.
     ensures memory { result ≡ Err Memory → IsCopied (pdu_at octets.now) }
     // What is read can be written, and answered.
     ensures sound { IfOk result (λ returned. IfSome returned IsSound) }
