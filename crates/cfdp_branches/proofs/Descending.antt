@@ -1,8 +1,9 @@
 -- A branch by its first name.
---     below_found, below_absent     what is below a name that has a branch, or none
---     there_found                   whether there is a branch
---     if_some                       what is true of a value that may be there
-use Rattle.std.proofs.Common.{◌≡◌, refl, sym, ◌∙◌, ap, ℕ, true, false, is_some, IfSome, IsOk, OnErr, Result, Ok, Err, Option, Some, None, true≢false, List, [], ◌∷◌, ◌++◌, get_or}
+--     below_found                   what is below a first name that has a branch
+--     names_found, names_absent     the same of names that begin so, and of names whose first one has no branch
+--     names_there, absent_there     whether they have a branch
+--     first_there, ok_there         where they have one, their first name has one, and a search finds it
+use Rattle.std.proofs.Common.{◌≡◌, refl, sym, ◌∙◌, ap, ℕ, true, false, is_some, IsOk, OnErr, Result, Ok, Err, Option, Some, None, true≢false, List, [], ◌∷◌, ◌++◌, get_or}
 use Rattle.std.specs.FinMap.{find}
 use Rattle.cfdp_paths.specs.Paths.{Name, Path, path_cmp}
 use Rattle.cfdp_paths.specs.PathMaps.{IsOrdered}
@@ -13,10 +14,6 @@ use Rattle.cfdp_branches.specs.code.Twigs.{twigs_of}
 use Rattle.cfdp_branches.specs.declared.branch.Twig.{Twig}
 use Rattle.cfdp_branches.proofs.Finding.{none_below}
 use Rattle.cfdp_branches.proofs.Seeking.{below_index}
-
-pub if_some : {A : Type 0} {P Q : A → Type 0} (o : Option A) → ((a : A) → P a → Q a) → IfSome o P → IfSome o Q
-if_some None f h = h
-if_some (Some a) f h = f a h
 
 module _ {T : Type 0} (self : Branches T) (v : Option T) (ts : List (Twig T)) (s : IsOrdered (under_names (twigs_of ts))) (view : branches_of v (twigs_of ts) ≡
     self) where
