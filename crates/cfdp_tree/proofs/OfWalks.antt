@@ -4,5 +4,5 @@ pub mod NodesBelowLaws
 pub mod DeepestLaws
 pub mod ListingLaws
 pub mod InOrderLaws
-pub mod OtherLaws
+pub mod LeftOutLaws
 pub mod BesideLaws

@@ -11,7 +11,7 @@ use Rattle.cfdp_tree.specs.code.Nodes.{nodes_in}
 use Rattle.cfdp_tree.specs.code.Orders.{Rises}
 use Rattle.cfdp_tree.specs.code.Walk.{AreAtDepth}
 use Rattle.cfdp_tree.proofs.OfOrders.SortLaws.{pairs_left, pairs_right}
-use Rattle.cfdp_tree.proofs.OfWalks.OtherLaws.{any_parts, any_part, same_before, same_after, one_beside}
+use Rattle.cfdp_tree.proofs.OfWalks.LeftOutLaws.{any_parts, any_part, same_before, same_after, one_beside}
 use Rattle.cfdp_tree.proofs.OfWalks.WalkLaws.{filled, read_around, top_inside}
 use Rattle.cfdp_tree.proofs.beside.+any_beside.Goals as goal
 use Rattle.cfdp_tree.proofs.beside.+any_beside.Goals.{then-any_beside, else-any_beside}

@@ -12,7 +12,7 @@ use Rattle.cfdp_tree.specs.code.Nodes.{nodes_in}
 use Rattle.cfdp_tree.specs.code.Orders.{Rises}
 use Rattle.cfdp_tree.specs.code.Walk.{walks_at, most_names_in, IsAtDepth, AreAtDepth}
 use Rattle.cfdp_tree.proofs.OfOrders.SortLaws.{pairs_left, pairs_right}
-use Rattle.cfdp_tree.proofs.OfWalks.OtherLaws.{longest_apart, longest_few, longest_part, same_before, same_after, all_beside}
+use Rattle.cfdp_tree.proofs.OfWalks.LeftOutLaws.{longest_apart, longest_few, longest_part, same_before, same_after, all_beside}
 use Rattle.cfdp_tree.proofs.OfWalks.WalkLaws.{filled, read_around, top_inside}
 use Rattle.cfdp_tree.proofs.beside.+deepest_beside.Goals as goal
 use Rattle.cfdp_tree.proofs.beside.+deepest_beside.Goals.{then-is_empty-3, else-is_empty-3}

@@ -3,7 +3,7 @@ use Rattle.std.proofs.lemmas.Iterator.{cases_from_all, YieldsList-from_slice}
 use Rattle.std.specs.Prelude.{All, MatchBool, ⊤}
 use Rattle.std.specs.List.{AllWithin, HoldsAt}
 use Rattle.cfdp_paths.specs.Paths.{Path, parent}
-use Rattle.cfdp_tree.proofs.OfWalks.OtherLaws.{sorted_is}
+use Rattle.cfdp_tree.proofs.OfWalks.LeftOutLaws.{sorted_is}
 use Rattle.cfdp_tree.proofs.beside.are_children_in_order.Goals as goal
 
 pub returns-then-is_sorted : goal.returns-then-is_sorted

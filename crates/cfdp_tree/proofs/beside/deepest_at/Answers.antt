@@ -4,7 +4,7 @@ use Rattle.cfdp_order.proofs.TreeLaws.{no_nodes}
 use Rattle.cfdp_tree.specs.code.Nodes.{nodes_in}
 use Rattle.cfdp_tree.specs.code.Orders.{in_order}
 use Rattle.cfdp_tree.specs.code.Walk.{walks_at, most_names_in, AreAtDepth}
-use Rattle.cfdp_tree.proofs.OfWalks.OtherLaws.{longest_kept, longest_left, longest_within}
+use Rattle.cfdp_tree.proofs.OfWalks.LeftOutLaws.{longest_kept, longest_left, longest_within}
 use Rattle.cfdp_tree.proofs.OfWalks.WalkLaws.{read_below}
 use Rattle.cfdp_tree.proofs.beside.deepest_at.Goals as goal
 

@@ -2,7 +2,7 @@ use Rattle.std.proofs.Common.{rules, [], length, get_or}
 use Rattle.std.specs.Cmp.Lexicographic.{slice_cmp}
 use Rattle.std.specs.Ordering.{nat_cmp}
 use Rattle.std.proofs.lemmas.Fn.{always_returns_same}
-use Rattle.cfdp_tree.proofs.OfWalks.OtherLaws.{searched, divided}
+use Rattle.cfdp_tree.proofs.OfWalks.LeftOutLaws.{searched, divided}
 use Rattle.cfdp_tree.proofs.beside.find_child.Goals as goal
 
 pub returns-clause-found : goal.returns-clause-found

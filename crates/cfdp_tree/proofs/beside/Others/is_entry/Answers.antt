@@ -2,7 +2,7 @@ use Rattle.std.proofs.Common.{[], refl, ap, ◌∙◌, slice_index_or}
 use Rattle.std.proofs.lemmas.Bool.{both_ways}
 use Rattle.cfdp_paths.specs.Paths.{same_name}
 use Rattle.cfdp_paths.proofs.Comparing.{same_name-compared}
-use Rattle.cfdp_tree.proofs.OfWalks.OtherLaws.{entry_is, entry_other}
+use Rattle.cfdp_tree.proofs.OfWalks.LeftOutLaws.{entry_is, entry_other}
 use Rattle.cfdp_tree.proofs.beside.Others.is_entry.Goals as goal
 
 pub returns-then-is_child_of : goal.returns-then-is_child_of

@@ -1,7 +1,7 @@
 -- Paths that are left out.
 --     entry_is, entry_other     whether a path is that of an entry by its parent and its last name
 --     any_within                what passes a test is within a range
---     searched, divided         what a search by halves among children in path order tells
+--     searched, divided         what a search by halves among children in path order says
 --     sorted_is                 paths of which each is at most the next are in path order
 --     any_parts                 the same of the nodes of an order
 --     any_part, longest_part    of entries of which each is left out by both of two lists or by none
@@ -129,7 +129,7 @@ get_or-slice_range paths start end k d less = get_or-take (end - start) (drop st
 no_more : (i : ℕ) → i + 0 ≡ i
 no_more i = omega arith
 
--- what a search by halves tells
+-- what a search by halves says
 module _ (p : Path) (n : Name) (paths : List Path) (some : 1 ≤ length p) (ordered : AreChildrenInOrder p paths) where
   rises : IsNonDecreasingBy (λ q. ordering_index (slice_cmp nat_cmp (get_or q (length p) []) n)) paths
   rises i j d upto within =
@@ -266,7 +266,7 @@ turned Less le = refl
 turned Equal le = refl
 turned Greater le = cc
 
--- what a test of neighbours tells
+-- what a test of neighbours says
 pub sorted_is : (paths : List Path) → AllAdjacentBelow (λ x y. is_le (path_cmp x y) ≡ true) paths (length paths) → IsSorted path_cmp paths
 sorted_is paths each k d from within = back (get_or paths k d) (get_or paths (k + 1) d) (each k d within)
   where
