@@ -1,6 +1,6 @@
 -- A node's block with another number in it.
 --     name_kept       its name, where a number before it changes
---     fields_same, header_same   what it says, and its header, by the octets before its name
+--     fields_same     what it says, by the octets before its name
 --     fields-payload  what it says, by its payload alone
 --     blank_fields    what a blank block says
 --     length-name     how many octets its name has
@@ -9,7 +9,7 @@
 use Rattle.std.proofs.Common.{◌≡◌, ◌⊎◌, ℕ, refl, sym, ap, take, ◌++◌, append_assoc, ◌+◌, ◌*◌, ◌/◌, ◌%◌, ◌<◌, ◌≤◌, List, length, length-drop, drop, set, get_or, ◌∙◌, inl, inr, arith, length-set}
 use Rattle.std.proofs.lemmas.List.{get_or-set_same, get_or-set_other, get_or-drop, drop-set-lt, length-take-le, take_at, drop_at}
 use Rattle.cfdp_arena.specs.Blocks.{blank_block, with_part}
-use Rattle.cfdp_tree.specs.code.Block.{block_number_at, with_number, block_header, payload}
+use Rattle.cfdp_tree.specs.code.Block.{block_number_at, with_number, payload}
 use Rattle.cfdp_tree.specs.code.NodeFields.{node_fields_of, node_name}
 
 pub name_kept : (block : List ℕ) (offset number : ℕ) → offset < 31 → drop 32 (with_number block offset number) ≡ drop 32 block
@@ -43,14 +43,6 @@ module _ (a b : List ℕ) (same : (i : ℕ) → i < 32 → get_or a i 0 ≡ get_
         same_head = head k;
         sum = sum_low k + 65536 * sum_high k;
       })
-
-  pub header_same : block_header a ≡ block_header b
-  header_same =
-      let next = number_same 0 (omega arith) in
-      let owner = number_same 2 (omega arith) in
-      let rank = number_same 4 (omega arith) in
-      let kind = same 6 (omega arith) in
-      (λ k. record { next = next k; owner = owner k; rank = rank k; kind = kind k })
 
 -- by the payload
 payload_octet : (a : List ℕ) (i j : ℕ) → j ≡ 8 + i → get_or a j 0 ≡ get_or (payload a) i 0

@@ -3,7 +3,7 @@
 --     extended_octets, extended_zeros        the run is longer, and the octets are
 --     front_written, rest_written            octets are written among the first ones
 --     front_read                             and are read
---     blocks_of-within, blocks_of-some, blocks_of-none, taken_as     the blocks of a number of octets
+--     blocks_of-some, blocks_of-none, taken_as     the blocks of a number of octets
 use Rattle.std.proofs.Common.{◌≡◌, ℕ, ◌+◌, ◌-◌, ◌*◌, ◌<◌, ◌≤◌, List, ◌++◌, length, take, drop, replicate, refl, sym, ap, ◌∙◌, arith, append_assoc, length-append}
 use Rattle.std.proofs.lemmas.List.{drop-replicate, take-replicate, replicate-append-replicate, take-append-drop, length-take-le, take_at, drop_at, length-drop}
 use Rattle.std.specs.Prelude.{slice_range}
@@ -114,10 +114,6 @@ module _ (n : ℕ) where
   pub blocks_of-none : n ≡ 0 → blocks_of n ≡ 0
   unfolding blocks_of
   blocks_of-none none = omega arith
-
-  pub blocks_of-within : (i : ℕ) → i < blocks_of n → 120 * i < n
-  unfolding blocks_of
-  blocks_of-within i within = omega arith
 
 -- what is free and what is taken, where the size is said in another way
 pub taken_as : (free size was now more : ℕ) → free + blocks_of more ≡ was + blocks_of size → now ≡ more → free + blocks_of now ≡ was + blocks_of size

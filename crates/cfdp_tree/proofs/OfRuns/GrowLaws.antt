@@ -1,8 +1,8 @@
 -- A run with one more block.
---     begun_held, begun_octets, begun_stay, begun_nodes      the first block
+--     begun_stay, begun_nodes, begun_free    the first block
 --     grown_held, grown_octets, grown_others, grown_free, grown_size, grown_sequence, grown_nodes, grown_live   one more after the last
 --     taken_octets, taken_written                            the octets of a block that was just taken
-use Rattle.std.proofs.Common.{◌≡◌, ◌≢◌, ℕ, suc, ◌+◌, ◌-◌, ◌<◌, List, ◌++◌, length, Some, None, refl, sym, ap, ◌∙◌, subst, inl, inr, arith, append-nil, length-set}
+use Rattle.std.proofs.Common.{◌≡◌, ◌≢◌, ℕ, suc, ◌+◌, ◌-◌, ◌<◌, List, ◌++◌, length, Some, None, refl, sym, ap, ◌∙◌, subst, inl, inr, arith, length-set}
 use Rattle.std.proofs.lemmas.List.{get_or-set_same, get_or-set_other, set-set}
 use Rattle.std.proofs.lemmas.Bool.{cases_eq}
 use Rattle.std.specs.Prelude.{IsSome}
@@ -54,26 +54,6 @@ module _ (arena begun : Blocks) (block : ℕ) (free : octets_at arena block ≡ 
 
   pub begun_stay : (b : ℕ) → IsLive arena b → octets_at begun b ≡ octets_at arena b
   begun_stay b live = ap (λ a. octets_at a b) begun_is ∙ get_or-set_other arena block b (Some fresh) None (other_block b live)
-
-  pub begun_held : (run : Run) → run.first ≡ block → run.last ≡ block → run.count ≡ 1 → owner ≡ block → rank ≡ 0 → IsHeld begun run
-  begun_held run first_is last_is count_is owner_is rank_is =
-      let one : IsRun begun block 0 1 block = (
-        subst (λ r. IsRunPart block r (octets_at begun block)) rank_is
-            (subst (λ o. IsRunPart o rank (octets_at begun block)) owner_is fresh_part),
-        tt,
-      ) in
-      let none : run.count - 1 ≡ 0 = omega arith in
-      record {
-        parts = subst (λ n. IsRun begun run.first 0 n run.first) (sym count_is) (subst (λ b. IsRun begun b 0 1 b) (sym first_is) one);
-        last = (λ some. last_is ∙ sym first_is ∙ ap (nth begun run.first) (sym none));
-      }
-
-  pub begun_octets : (run : Run) → run.first ≡ block → run.count ≡ 1 → octets_of_run begun run ≡ payload blank_block
-  begun_octets run first_is count_is =
-      (λ k. run_octets begun (count_is k) (first_is k))
-      ∙ append-nil (payload (octets (octets_at begun block)))
-      ∙ ap (λ entry. payload (octets entry)) fresh_at
-      ∙ zeros
 
   pub begun_free : free_count begun + 1 ≡ free_count arena
   begun_free = ap (λ a. free_count a + 1) begun_is ∙ free_count-taken arena block fresh inside free

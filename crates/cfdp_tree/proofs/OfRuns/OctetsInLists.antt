@@ -1,6 +1,6 @@
 -- Octets that replace others, in a list that is two lists joined.
 --     overwritten-left, overwritten-right     in the first of them, in the second
---     overwritten-join, overwritten-none      one part after another, and no octets
+--     overwritten-join                        one part after another
 --     overwritten-extended                    octets put after a list that was lengthened by zeros
 --     take-front, slice-first                 the first octets, before the part;  a slice of first octets that are the same
 --     take_parts, slice_is, slice_join        the first octets in two parts;  a slice, and two of them joined
@@ -45,11 +45,6 @@ overwritten-join xs part more at j within e =
     (λ k. take_at front back j long k ++ more ++ drop-right front back (length more) (j + length more) (omega arith) k)
     ∙ (λ k. append_assoc (take at xs) part more k ++ drop-drop (length more) (at + length part) xs k)
     ∙ ap (λ n. take at xs ++ (part ++ more) ++ drop n xs) end
-
-pub overwritten-none : (xs : List ℕ) (at : ℕ) → overwritten xs at [] ≡ xs
-overwritten-none xs at =
-    let none : at + 0 ≡ at = omega arith in
-    (λ k. append-nil (take at xs) k ++ drop (none k) xs) ∙ take-append-drop at xs
 
 pub overwritten-extended : (xs ys : List ℕ) (n j : ℕ) → length xs ≡ n → j ≡ n + length ys → overwritten (extended xs j) n ys ≡ xs ++ ys
 overwritten-extended xs ys n j long e =

@@ -1,22 +1,10 @@
 -- What stays where octets of a run are written, at once or one part after the other.
---     writes_nothing      nothing is written
 --     writes_then         the second write after the first one
-use Rattle.std.proofs.Common.{refl, ◌∙◌}
+use Rattle.std.proofs.Common.{◌∙◌}
 use Rattle.cfdp_arena.specs.Arena.{Blocks}
 use Rattle.cfdp_tree.specs.code.Frames.{WritesOnly}
-use Rattle.cfdp_tree.specs.code.Runs.{IsHeld}
 use Rattle.cfdp_tree.specs.declared.runs.Run.{Run}
 use Rattle.cfdp_tree.proofs.OfRuns.HeldLaws.{others_then}
-
-pub writes_nothing : (arena : Blocks) (run : Run) → IsHeld arena run → WritesOnly arena arena run
-writes_nothing arena run held = record {
-  held = held;
-  sequence = (λ k within. refl);
-  free = refl;
-  size = refl;
-  others = (λ block live other. refl);
-  nodes = refl;
-}
 
 pub writes_then : (first second third : Blocks) (run : Run) → WritesOnly first second run → WritesOnly second third run → WritesOnly first third run
 writes_then first second third run before after = record {

@@ -1,13 +1,13 @@
 -- A file or a directory is made.
 --     entry_none, name_good, target_few     under the name of a path at which nothing is there is no node
---     tree_made, index_made, entry_made     a node for it
+--     tree_made, index_made     a node for it
 --     make_view, make_store                 the store once it is in the index
 use Rattle.std.proofs.Common.{◌≡◌, ℕ, ◌+◌, ◌<◌, ◌≤◌, true, List, [], ◌∷◌, ◌++◌, length, take, get_or, Option, Some, None, refl, sym, ap, ◌∙◌, subst, inl, inr, arith}
 use Rattle.std.proofs.lemmas.List.{get_or-set_same, get_or-set_other, length-map, length-take-le, take_more, take_all}
 use Rattle.std.proofs.lemmas.Bool.{cases_eq}
 use Rattle.std.proofs.Math.ListN.{get_or-map}
 use Rattle.std.specs.FinMap as finite
-use Rattle.std.specs.Prelude.{IsSome, IfSome, IfNone, unwrap_or}
+use Rattle.std.specs.Prelude.{IfSome, IfNone, unwrap_or}
 use Rattle.std.proofs.lemmas.Option.{none-some}
 use Rattle.cfdp_paths.specs.Paths.{Name, Path, IsName, IsPath}
 use Rattle.cfdp_arena.specs.Arena.{Blocks, octets_at, octets_of, with_block, free_count}
@@ -137,9 +137,6 @@ module _ (arena : Blocks) (heads : Heads) (slots : List Slot) {ways : List Way} 
 
     here : octets_at made b ≡ Some block
     here = get_or-set_same nodes b (Some block) None inside
-
-    pub entry_made : IsEntry (nodes_in one) directory name b
-    entry_made = record { node = subst (λ ns. IsNode ns b) (sym one_is) (subst IsSome (sym here) refl); there = there; named = named }
 
     module _ (later : Blocks) (links : Relinked (nodes_in one) (nodes_in later)) (heads_now : Heads) (index : IsIndex (nodes_in later) heads_now None)
         (runs : RunsStay arena later) (long_now : length later ≡ length arena) (taken : free_count later + 1 ≡ free_count arena) where

@@ -1,5 +1,5 @@
 -- A store in which there is nothing.
---     head_none, contents_none      what means nothing
+--     head_none                     what means nothing
 --     filled_up                     a list that is filled up with one thing
 --     new_view, new_store           the store
 use Rattle.std.proofs.Common.{◌≡◌, ℕ, zero, suc, ◌-◌, ◌*◌, ◌<◌, ◌≤◌, true, List, [], ◌∷◌, ◌++◌, length, map, take, get_or, replicate, sum_by, Option, None, refl, sym, ap, ◌∙◌, subst, inl, inr, arith}
@@ -37,14 +37,6 @@ use Rattle.cfdp_tree.proofs.OfNodes.NodeLaws.{no_live}
 
 pub head_none : (head : ListHead) → head.first ≡ 0 → head.listed ≡ 0 → head.unlisted ≡ 0 → head ≡ no_head
 head_none head first listed unlisted = (λ k. record { first = first k; listed = listed k; unlisted = unlisted k })
-
-pub contents_none : (contents : Contents) → contents.run.first ≡ 0 → contents.run.last ≡ 0 → contents.run.count ≡ 0 → contents.size ≡ 0 → contents.sum ≡ 0 →
-    contents ≡ no_contents
-contents_none contents first last count size sum = (λ k. record {
-  run = record { first = first k; last = last k; count = count k };
-  size = size k;
-  sum = sum k;
-})
 
 -- one thing, again and again
 

@@ -33,7 +33,7 @@ use Rattle.cfdp_tree.specs.code.Ways.{HasWays}
 use Rattle.cfdp_tree.specs.code.Tree.{IsNode, path_of_node}
 use Rattle.cfdp_tree.specs.code.Index.{Heads}
 use Rattle.cfdp_tree.specs.code.Kept.{no_contents, contents_of_fields, file_in, holdings, node_with, node_of, Shows, store_of}
-use Rattle.cfdp_tree.specs.code.Slots.{lists_staged, IsSoundSlot, IsStore}
+use Rattle.cfdp_tree.specs.code.Slots.{lists_staged, IsStore}
 use Rattle.cfdp_tree.proofs.OfRuns.ContentsLaws.{length-contents}
 use Rattle.cfdp_tree.proofs.OfNodes.TreeLaws.{node_entry, node_octets}
 use Rattle.cfdp_tree.proofs.OfStore.ShowLaws.{tree_shows}
@@ -186,9 +186,6 @@ module _ (arena : Blocks) (heads : Heads) (slots : List Slot) {ways : List Way} 
         pub size_fits : size ≤ 7864320
         unfolding blocks
         size_fits = blocks_of-bound size (omega (arith, room, seen_free, seen_blocks, lists-each now.filestore.staged i, store.kept.small))
-
-      pub slot_sound : IsSoundSlot arena slot
-      slot_sound = subst (IsSoundSlot arena) (sym is) (store.sound i slot slot_there)
 
   -- what each slot holds
   pub slot_at_held : (j : ℕ) (d : Slot) → j < length slots → get_or (holdings (nodes_in arena) (lists_staged slots)) j no_contents ≡ (get_or slots j d).contents
