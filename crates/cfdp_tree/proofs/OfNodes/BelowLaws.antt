@@ -4,7 +4,7 @@
 --     order_some, order_none, absent_none     by the order of a path's node
 use Rattle.std.proofs.Common.{◌≡◌, ℕ, zero, suc, ◌+◌, ◌<◌, ◌≤◌, ◌==◌, Bool, true, false, not, cond, [], ◌∷◌, ◌++◌, length, length-append, take, drop, get_or, Option, Some, None, refl, sym, ap, ◌∙◌, subst, inl, inr, arith}
 use Rattle.std.proofs.lemmas.Bool.{cases_lt}
-use Rattle.std.proofs.lemmas.List.{take_all, take_at, take_more}
+use Rattle.std.proofs.lemmas.List.{take_all, take_at, take_more, same_from_push}
 use Rattle.std.specs.Prelude.{Contains}
 use Rattle.std.specs.FinMap as finite
 use Rattle.std.specs.FinMap.{get-empty, len-empty, empty_of_len, same_map}
@@ -24,7 +24,6 @@ use Rattle.cfdp_tree.specs.code.Tree.{IsNode, name_at, home, path_of_node, IsTre
 use Rattle.cfdp_tree.specs.code.Orders.{order_at, in_order, IsInOrders}
 use Rattle.cfdp_tree.specs.code.Directories.{path_at}
 use Rattle.cfdp_tree.specs.code.Kept.{node_of, Shows}
-use Rattle.cfdp_tree.proofs.OfNodes.TreeLaws.{last_same}
 use Rattle.cfdp_tree.proofs.OfNodes.ClimbLaws.{path_by_home, same_bucket, beginning}
 use Rattle.cfdp_tree.proofs.OfOrders.OrderLaws.{member_at}
 use Rattle.cfdp_actions.proofs.StoreLaws.{some_more}
@@ -73,7 +72,7 @@ module _ (nodes : Blocks) (tree : IsTree nodes) where
             absurd (parts.1 (sym (take_all (length p) q past) ∙ front))
       ] in
       let entry = beginning nodes tree c (length p + 1) other (omega arith) (omega (arith, less)) in
-      let same = last_same (path_at nodes (home nodes entry.0)) p (name_at nodes entry.0) (get_or q (length p) [])
+      let same = same_from_push (path_at nodes (home nodes entry.0)) p (name_at nodes entry.0) (get_or q (length p) [])
       (sym (path_by_home nodes tree entry.0 entry.1) ∙ entry.2 ∙ take_more q (length p) [] less ∙ ap (λ x. x ++ get_or q (length p) [] ∷ []) front) in (
         entry.0,
         entry.1,

@@ -7,13 +7,13 @@
 --     beginning                 each beginning of a node's path is the path of a node
 use Rattle.std.proofs.Common.{◌≡◌, ℕ, suc, zero, ◌<◌, ◌≤◌, [], ◌∷◌, ◌++◌, length, length-append, take, Option, Some, None, refl, sym, ap, ◌∙◌, subst, inl, inr, arith}
 use Rattle.std.proofs.lemmas.Bool.{cases_lt}
-use Rattle.std.proofs.lemmas.List.{take_all, take-append-le}
+use Rattle.std.proofs.lemmas.List.{take_all, take-append-le, same_from_push}
 use Rattle.std.specs.Option.{option_map_or}
 use Rattle.cfdp_arena.specs.Arena.{Blocks}
 use Rattle.cfdp_paths.specs.Paths.{Name, Path}
 use Rattle.cfdp_tree.specs.code.Tree.{IsNode, name_at, home, climb, most_names, path_of_node, Ends, IsEntry, IsTree}
 use Rattle.cfdp_tree.specs.code.Directories.{path_at, IsAtPath}
-use Rattle.cfdp_tree.proofs.OfNodes.TreeLaws.{last_same, same_node}
+use Rattle.cfdp_tree.proofs.OfNodes.TreeLaws.{same_node}
 
 pub most_is : most_names ≡ suc 7
 unfolding most_names
@@ -80,7 +80,7 @@ module _ (nodes : Blocks) (tree : IsTree nodes) where
   pub entry_at : (directory : Option ℕ) (p : Path) (name : Name) (b : ℕ) → IsAtPath nodes directory p → IsNode nodes b → path_of_node nodes b ≡ p ++ name ∷ [] →
       IsEntry nodes directory name b
   entry_at directory p name b exists node e =
-      let parts = last_same (path_at nodes (home nodes b)) p (name_at nodes b) name (sym (path_by_home b node) ∙ e) in
+      let parts = same_from_push (path_at nodes (home nodes b)) p (name_at nodes b) name (sym (path_by_home b node) ∙ e) in
       record {
         node = node;
         there = same_bucket (home nodes b) directory (λ d there. (tree.homes b d node there).node) exists.node (parts.0 ∙ sym exists.path);

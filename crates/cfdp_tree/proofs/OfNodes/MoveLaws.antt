@@ -3,7 +3,7 @@
 --     moved_path        what was below the old path is below the new one
 --     stayed_path       the others are where they were
 use Rattle.std.proofs.Common.{◌≡◌, ◌≢◌, ℕ, zero, suc, ◌+◌, ◌-◌, ◌≤◌, Bool, true, false, List, [], ◌∷◌, ◌++◌, length, length-append, take, drop, append_assoc, Option, Some, None, is_some, refl, sym, ap, ◌∙◌, subst, inl, inr, arith}
-use Rattle.std.proofs.lemmas.List.{take_at, drop_all, length-drop, append-nil}
+use Rattle.std.proofs.lemmas.List.{take_at, drop_all, drop-append-le, length-drop, append-nil}
 use Rattle.std.proofs.lemmas.Bool.{both_ways, cases_eq}
 use Rattle.std.specs.Option.{option_map_or}
 use Rattle.std.specs.Prelude.{unwrap_or}
@@ -28,11 +28,6 @@ front_below x n p below other =
     let long : length whole - 1 ≡ length x = omega (arith, length-append x (n ∷ [])) in
     let front : parent whole ≡ x = parent-take whole ∙ ap (λ k. take k whole) long ∙ take_at x (n ∷ []) (length x) refl in
     ap (λ y. is_at_or_below y p) (sym front) ∙ below_parent whole p ((is_below-Decides whole p).1 (below, other))
-
-drop_front : (k : ℕ) (xs ys : Path) → k ≤ length xs → drop k (xs ++ ys) ≡ drop k xs ++ ys
-drop_front zero xs ys within = refl
-drop_front (suc k) [] ys within = absurd (omega arith)
-drop_front (suc k) (x ∷ xs) ys within = drop_front k xs ys (omega arith)
 
 module _ (old : Blocks) (b : ℕ) (block : List ℕ) (node : IsNode old b) (tree : IsTree old) (named : IsNamed block)
     (kind : kind_of_octet (node_fields_of block).kind ≡ kind_of_octet (node_fields_at old b).kind)
@@ -133,7 +128,7 @@ module _ (old : Blocks) (b : ℕ) (block : List ℕ) (node : IsNode old b) (tree
         ∙ ap (λ x. option_map_or (λ e. climb new k e) x [] ++ name_at old c ∷ []) there
         ∙ ap (λ x. x ++ name_at old c ∷ []) way.1
         ∙ append_assoc q (drop (length p) (path_of_node old d)) (name_at old c ∷ [])
-        ∙ ap (λ x. q ++ x) (sym (drop_front (length p) (path_of_node old d) (name_at old c ∷ []) long))
+        ∙ ap (λ x. q ++ x) (sym (drop-append-le (length p) (path_of_node old d) (name_at old c ∷ []) long))
         ∙ ap (λ x. rebased p q x) (sym (under_home c d was there)),
   )
 

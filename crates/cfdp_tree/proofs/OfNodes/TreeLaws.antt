@@ -1,8 +1,8 @@
 -- The nodes of an arena, and the tree that they make.
 --     node_there, node_entry, node_live, node_octets, node_kind     a node's block is what the arena has there
---     last_same           paths that end in a name each
 --     same_node           a path has one node at most
-use Rattle.std.proofs.Common.{◌≡◌, ℕ, suc, zero, Bool, true, false, List, [], ◌∷◌, ◌++◌, length, length-append, Option, Some, None, refl, sym, ap, ◌∙◌, subst, arith}
+use Rattle.std.proofs.Common.{◌≡◌, ℕ, suc, zero, Bool, true, false, List, [], ◌∷◌, length, length-append, Option, Some, None, refl, sym, ap, ◌∙◌, subst, arith}
+use Rattle.std.proofs.lemmas.List.{same_from_push}
 use Rattle.std.proofs.Math.ListN.{get_or-map}
 use Rattle.std.specs.Option.{option_map_or}
 use Rattle.std.specs.Cmp.{unsigned_Decides}
@@ -10,7 +10,7 @@ use Rattle.std.specs.Prelude.{◌==◌, IsSome, if◌then◌else◌}
 use Rattle.cfdp_arena.specs.Arena.{Blocks, octets_at, octets_of, IsLive}
 use Rattle.cfdp_tree.specs.code.Block.{block_header}
 use Rattle.cfdp_tree.specs.code.Nodes.{is_node, only_node, nodes_in}
-use Rattle.cfdp_paths.specs.Paths.{Name, Path}
+use Rattle.cfdp_paths.specs.Paths.{Path}
 use Rattle.cfdp_tree.specs.code.Tree.{IsNode, name_at, home, climb, most_names, path_of_node, Ends, IsTree}
 
 chosen_kind : (k : ℕ) (block : List ℕ) → IsSome (if k == 2 then Some block else None) → k ≡ 2
@@ -47,17 +47,6 @@ module _ (arena : Blocks) (b : ℕ) (node : IsNode (nodes_in arena) b) where
       octets_same : octets_at (nodes_in arena) b ≡ Some shown → octets_of (nodes_in arena) b ≡ shown
       octets_same e = cc
 
--- two paths that end in a name
-pub last_same : (p q : Path) (m n : Name) → p ++ m ∷ [] ≡ q ++ n ∷ [] → (p ≡ q) × (m ≡ n)
-last_same [] [] m n e = (refl, cc)
-last_same [] (y ∷ q) m n e = absurd (omega (arith, ap length e, length-append q (n ∷ [])))
-last_same (x ∷ p) [] m n e = absurd (omega (arith, ap length e, length-append p (m ∷ [])))
-last_same (x ∷ p) (y ∷ q) m n e =
-    let rest : p ++ m ∷ [] ≡ q ++ n ∷ [] = cc in
-    let first : x ≡ y = cc in
-    let same = last_same p q m n rest in
-    ((λ k. first k ∷ same.0 k), same.1)
-
 module _ (nodes : Blocks) (tree : IsTree nodes) where
   -- the climb of a node has its name
   some_climb : (n d : ℕ) → Ends nodes n d → climb nodes n d ≡ [] → ⊥
@@ -79,7 +68,7 @@ module _ (nodes : Blocks) (tree : IsTree nodes) where
   same_climb zero b c node other ends stops e = absurd ends
   same_climb (suc n) b c node other ends stops e =
       let above : ℕ → Path = λ d. option_map_or (λ h. climb nodes n h) (home nodes d) [] in
-      let parts = last_same (above b) (above c) (name_at nodes b) (name_at nodes c) e in
+      let parts = same_from_push (above b) (above c) (name_at nodes b) (name_at nodes c) e in
       tree.unique b c node other
       (same_home n (same_climb n) (home nodes b) (home nodes c)
       (λ d here. ((tree.homes b d node here).node, ends d here)) (λ d here. ((tree.homes c d other here).node, stops d here)) parts.0)

@@ -1,9 +1,10 @@
 -- What a store is seen as after a slot and a path have changed twice.
---     set_twice, insert_twice      the later one stays
+--     insert_twice      the later one stays
 --     made_there        a file that was made is there
 --     staged_twice      a slot that was given other octets is emptied
 --     made_over         a file that was made gets other octets
-use Rattle.std.proofs.Common.{◌≡◌, ℕ, zero, suc, Bool, true, false, cond, List, [], ◌∷◌, set, Option, Some, None, refl, sym, ap, ◌∙◌}
+use Rattle.std.proofs.Common.{◌≡◌, ℕ, Bool, true, false, cond, List, [], ◌∷◌, set, Option, Some, None, refl, sym, ap, ◌∙◌}
+use Rattle.std.proofs.lemmas.List.{set-set}
 use Rattle.std.specs.FinMap as finite
 use Rattle.std.specs.FinMap.{get-insert, same_map}
 use Rattle.cfdp_paths.specs.Paths.{Path, path_cmp, same_path}
@@ -11,11 +12,6 @@ use Rattle.cfdp_paths.proofs.Comparing.{same_path-Decides, path_cmp-total}
 use Rattle.cfdp_paths.proofs.InOrder.{path_antisym}
 use Rattle.cfdp_actions.specs.Filestore.{Node, File, Becomes, Stages, node_at, is_file}
 use Rattle.cfdp_actions.specs.Store.{Store, with_changes}
-
-set_twice : {A : Type 0} (xs : List A) (i : ℕ) (a b : A) → set (set xs i a) i b ≡ set xs i b
-set_twice [] i a b = refl
-set_twice (x ∷ xs) zero a b = refl
-set_twice (x ∷ xs) (suc i) a b = ap (λ ys. x ∷ ys) (set_twice xs i a b)
 
 insert_twice : (m : finite.FinMap path_cmp Node) (p : Path) (a b : Node) → finite.insert (finite.insert m p a) p b ≡ finite.insert m p b
 insert_twice m p a b = same_map path_cmp-total path_antisym (finite.insert (finite.insert m p a) p b) (finite.insert m p b)
@@ -38,13 +34,13 @@ module _ (s : Store) (p : Path) where
   staged_twice slot a b None = (λ k. record s {
     filestore = record s.filestore {
       nodes = finite.remove s.filestore.nodes p;
-      staged = set_twice s.filestore.staged slot a b k;
+      staged = set-set s.filestore.staged slot a b k;
     };
   })
   staged_twice slot a b (Some found) = (λ k. record s {
     filestore = record s.filestore {
       nodes = finite.insert s.filestore.nodes p found;
-      staged = set_twice s.filestore.staged slot a b k;
+      staged = set-set s.filestore.staged slot a b k;
     };
   })
 

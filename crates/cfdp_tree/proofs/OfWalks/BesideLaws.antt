@@ -4,7 +4,7 @@
 --     any_is, absent_any        whether anything is there
 --     longest_is, absent_longest    the longest path
 use Rattle.std.proofs.Common.{◌≡◌, ℕ, zero, suc, ◌+◌, ◌-◌, ◌<◌, ◌≤◌, ◌&&◌, Bool, true, false, not, cond, is_some, List, [], ◌∷◌, ◌++◌, length, length-append, take, drop, get_or, Option, Some, None, refl, sym, ap, ◌∙◌, subst, arith}
-use Rattle.std.proofs.lemmas.List.{take_at, take-append-drop}
+use Rattle.std.proofs.lemmas.List.{append-nil, take_at, take-append-drop}
 use Rattle.std.proofs.lemmas.List.Elements.{All-weaker, All-head, All-tail}
 use Rattle.std.proofs.lemmas.List.Folds.{Any-from_list_any, list_any_at}
 use Rattle.std.specs.List.{filter, list_any}
@@ -158,12 +158,8 @@ module _ (nodes : Blocks) (tree : IsTree nodes) (arena : Blocks) (F : Filestore)
       itself : (e : ℕ) → IsNode nodes e → IsUnder nodes (path_of_node nodes e) e
       itself e entry = record {
         node = entry;
-        below = at_or_below_from_append (path_of_node nodes e) (path_of_node nodes e) [] (sym (append_none (path_of_node nodes e)));
+        below = at_or_below_from_append (path_of_node nodes e) (path_of_node nodes e) [] (sym (append-nil (path_of_node nodes e)));
       }
-        where
-          append_none : (x : Path) → x ++ [] ≡ x
-          append_none [] = refl
-          append_none (n ∷ x) = ap (λ y. n ∷ y) (append_none x)
 
       pub any_is : list_any (is_entry_beside p others nodes) (in_order orders (Some b)) ≡ has_beside F p others
       any_is = by_any (list_any (is_entry_beside p others nodes) own) refl

@@ -12,10 +12,10 @@
 --     longest_kept, longest_left, longest_within    that of one node, by whether it is left out
 use Rattle.std.proofs.Common.{◌≡◌, ℕ, suc, ◌+◌, ◌-◌, ◌<◌, ◌≤◌, ◌||◌, ◌==◌, nat_lt, max, cond, Bool, true, false, inl, inr, List, [], ◌∷◌, ◌++◌, length, take, drop, get_or, Some, Result, Ok, Err, refl, sym, ap, ◌∙◌, subst, arith}
 use Rattle.std.proofs.Math.Bool.{or-false, or-true}
-use Rattle.std.proofs.lemmas.Bool.{cases_Bool, eqb-true, ltb-true, ltb-false}
+use Rattle.std.proofs.lemmas.Bool.{cases_Bool, false_from_ne_true, eqb-true, ltb-true, ltb-false}
 use Rattle.std.proofs.lemmas.Bool.Decides.{same_from_decides}
 use Rattle.std.proofs.lemmas.Cmp.{nat_list_cmp_total}
-use Rattle.std.proofs.lemmas.List.{take_all, take_more, take-append-drop, get_or-take, get_or-drop, length-take-le, length-drop}
+use Rattle.std.proofs.lemmas.List.{take_all, take_more, take-append-drop, get_or-take, get_or-drop, length-take-le, length-drop, same_from_push}
 use Rattle.std.proofs.lemmas.List.Elements.{All-head, All-tail, All-weaker, filter-append}
 use Rattle.std.proofs.lemmas.List.Folds.{drop_split, list_any-append, list_any_at, list_any_none, Any-from_list_any}
 use Rattle.std.proofs.lemmas.List.Sorted.{searchable_from_sorted}
@@ -38,7 +38,6 @@ use Rattle.cfdp_tree.specs.code.Tree.{path_of_node}
 use Rattle.cfdp_tree.specs.code.Orders.{in_order, Rises}
 use Rattle.cfdp_tree.specs.code.Walk.{walk, walks_at, most_names_in, IsAtDepth}
 use Rattle.cfdp_tree.specs.code.Beside.{AreChildrenInOrder, DividesAt, is_entry_beside, entries_beside}
-use Rattle.cfdp_tree.proofs.OfNodes.TreeLaws.{last_same}
 use Rattle.cfdp_tree.proofs.OfOrders.SortLaws.{pairs_front, pairs_back}
 use Rattle.cfdp_tree.proofs.OfWalks.WalkLaws.{few_names, longest-append, longest_parts, names_few}
 
@@ -61,7 +60,7 @@ child_is p q some above =
 pub entry_is : (p : Path) (n : Name) (q : Path) → 1 ≤ length p → parent q ≡ p → same_name (get_or q (length p) []) n ≡ same_path (p ++ n ∷ []) q
 entry_is p n q some above = same_from_decides (same_name (get_or q (length p) []) n) (same_path (p ++ n ∷ []) q) (same_name-Decides (get_or q (length p) []) n)
     (let test = same_path-Decides (p ++ n ∷ []) q in (
-      (λ e. sym (last_same p p n (get_or q (length p) []) (test.0 e ∙ child_is p q some above)).1),
+      (λ e. sym (same_from_push p p n (get_or q (length p) []) (test.0 e ∙ child_is p q some above)).1),
       (λ e. test.1 (ap (λ m. p ++ m ∷ []) (sym e) ∙ sym (child_is p q some above))),
     ))
 
@@ -101,14 +100,10 @@ any_within test paths start end upto within inside =
     whole : paths ≡ take start paths ++ (slice_range paths start end ++ drop end paths)
     whole = sym (take-append-drop start paths) ∙ ap (λ x. take start paths ++ x) (drop_split paths start end upto)
 
-    fails : (b : Bool) → (b ≡ true → ⊥) → b ≡ false
-    fails true never = absurd (never refl)
-    fails false never = refl
-
     none_before : All (λ x. test x ≡ false) (take start paths)
     none_before k d less =
         let low : k < start = omega (arith, less, length-take-le start paths (omega (arith, upto, within))) in
-        fails (test (get_or (take start paths) k d)) (λ e. absurd (omega (
+        false_from_ne_true (test (get_or (take start paths) k d)) (λ e. absurd (omega (
           arith,
           low,
           (inside k d (omega (arith, low, upto, within))
@@ -118,7 +113,10 @@ any_within test paths start end upto within inside =
     none_after : All (λ x. test x ≡ false) (drop end paths)
     none_after k d less =
         let high : end + k < length paths = omega (arith, less, length-drop end paths) in
-        fails (test (get_or (drop end paths) k d)) (λ e. absurd (omega (arith, (inside (end + k) d high (sym (ap test (get_or-drop end paths k d)) ∙ e)).1)))
+        false_from_ne_true (test (get_or (drop end paths) k d)) (λ e. absurd (omega (
+          arith,
+          (inside (end + k) d high (sym (ap test (get_or-drop end paths k d)) ∙ e)).1,
+        )))
 
 length-slice_range : (paths : List Path) (start end : ℕ) → start ≤ end → end ≤ length paths → length (slice_range paths start end) ≡ end - start
 length-slice_range paths start end upto within = length-take-le (end - start) (drop start paths) (omega (arith, length-drop start paths, upto, within))

@@ -1,10 +1,11 @@
-use Rattle.std.proofs.Common.{◌≡◌, None, ℕ, ◌+◌, get_or, set, sym, ap, ◌∙◌, subst, arith}
+use Rattle.std.proofs.Common.{◌≡◌, None, get_or, set, sym, ap, ◌∙◌, subst, arith}
 use Rattle.cfdp_actions.specs.Filestore.{staged_in, blocks_of}
 use Rattle.cfdp_actions.specs.Store.{extended}
 use Rattle.cfdp_actions.proofs.RowLaws.{blocks_of-mono}
 use Rattle.std.proofs.lemmas.List.{with_items_is}
 use Rattle.cfdp_tree.specs.code.Ways.{HasWays, KeepsWays}
 use Rattle.cfdp_tree.specs.code.Slots.{IsStore}
+use Rattle.cfdp_tree.proofs.OfRuns.Filling.{taken_as}
 use Rattle.cfdp_tree.proofs.OfStore.SeenLaws.{seen_staged, slot_filled, slot_ways, staged_size, room_there, size_fits}
 use Rattle.cfdp_tree.proofs.OfStore.SlotLaws.{slot_changes, slot_store}
 use Rattle.cfdp_tree.specs.code.Orders.{IsInOrders}
@@ -56,10 +57,6 @@ overflow_sub-result c =
     let more = blocks_of-mono slot.contents.size c.args.size (omega (arith, size, c.requires.longer)) in
     omega (arith, filled.blocks, c.extend.ensures.only.filled.blocks, ap blocks_of c.extend.ensures.size, more)
 
--- the blocks that are taken
-taken : (free was size now more : ℕ) → free + blocks_of size ≡ was + blocks_of more → now ≡ size → free + blocks_of now ≡ was + blocks_of more
-taken free was size now more e same = ap (λ n. free + blocks_of n) same ∙ e
-
 pub invariant_of-self : goal.invariant_of-self
 invariant_of-self c =
     let after = c.extend.ensures in
@@ -70,7 +67,7 @@ invariant_of-self c =
           (omega (arith, c.from.ensures, c.requires.slot))
           c.index_mut-slot.result.now c.index_mut-slot.ensures.value c.extend.new.self
           after.only.nodes after.only.capacity after.only.spares after.only.filled after.sound
-          (taken _ _ _ _ _ after.taken after.size)
+          (taken_as _ _ _ _ _ after.taken after.size)
           c.extend.new.ways after.only.ways
           (subst (λ ws. KeepsWays c.self.inside.arena c.extend.new.arena ws c.extend.new.ways c.index_mut-slot.result.now.contents.run)
           c.deref_mut.ensures.value after.only.other_ways));
@@ -94,6 +91,6 @@ returns-clause-extended c =
     slot_changes c.self.inside.arena c.extend.new.arena c.self.inside.heads.items c.self.inside.slots.items c.self.invariant.store c.from.result
     (omega (arith, c.from.ensures, c.requires.slot))
     slot c.index_mut-slot.ensures.value c.extend.new.self after.only.nodes after.only.capacity after.only.spares after.only.filled after.sound
-    (taken _ _ _ _ _ after.taken after.size)
+    (taken_as _ _ _ _ _ after.taken after.size)
     c.args.self.now c.self.view_is c.args.slot c.from.ensures (extended (staged_in c.args.self.now.filestore c.args.slot) c.args.size)
     (after.octets ∙ ap (λ octets. extended octets c.args.size) (sym was))
