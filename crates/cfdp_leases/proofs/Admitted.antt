@@ -24,11 +24,8 @@ use Rattle.cfdp_leases.specs.Leases.{Grants, is_same, holds, without_grant, AreA
 use Rattle.cfdp_leases.specs.code.Holders.{when, holders_of, holders_at, others}
 use Rattle.cfdp_leases.proofs.Sets.{union_cases}
 use Rattle.cfdp_leases.proofs.Conflict.{reaches_at}
-use Rattle.cfdp_leases.proofs.Apart.{is_same-symm}
+use Rattle.cfdp_leases.proofs.Apart.{Grant, is_same-symm}
 use Rattle.cfdp_leases.proofs.Held.{same_itself, left, unleased}
-
-abbrev Grant : Type 0
-Grant = TransactionId × Footprint
 
 -- ---- names
 

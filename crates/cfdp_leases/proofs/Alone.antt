@@ -15,12 +15,9 @@ use Rattle.cfdp_leases.specs.Footprint.{Footprint, leased, is_conflict, reaches}
 use Rattle.cfdp_leases.specs.Leases.{Grants, is_same, AreApart, first_conflict}
 use Rattle.cfdp_leases.specs.code.Holders.{holders_of, holders_at, others}
 use Rattle.cfdp_leases.proofs.Conflict.{reaches_at}
-use Rattle.cfdp_leases.proofs.Apart.{none_first}
+use Rattle.cfdp_leases.proofs.Apart.{Grant, none_first}
 use Rattle.cfdp_leases.proofs.Admitted.{nobody_of, all_go, same_of, all_of}
 use Rattle.cfdp_leases.proofs.Kept.{all_found}
-
-abbrev Grant : Type 0
-Grant = TransactionId × Footprint
 
 -- what an exclusive path does not reach does not lease it
 unreached : (A B : Footprint) (p : Path) → set.contains A.exclusive p ≡ true → reaches A B ≡ false → set.contains (leased B) p ≡ false

@@ -1,4 +1,5 @@
 -- Grants that are apart stay so.
+--     Grant            a transaction with its footprint
 --     apart_push       with one more that conflicts with none and whose transaction holds none
 --     apart_filter     with some taken away
 use Rattle.std.proofs.Common.{◌≡◌, refl, ◌∙◌, ap, Bool, true, false, cond, ◌||◌, ◌&&◌, List, [], ◌∷◌, ◌++◌}
@@ -13,7 +14,7 @@ use Rattle.cfdp_status.proofs.Appended.{all-append}
 use Rattle.cfdp_leases.specs.Footprint.{Footprint, is_conflict}
 use Rattle.cfdp_leases.specs.Leases.{Grants, is_same, first_conflict, holds, IsApartFrom, AreApart}
 
-abbrev Grant : Type 0
+abbrev pub Grant : Type 0
 Grant = TransactionId × Footprint
 
 pub is_same-symm : (a b : TransactionId) → is_same a b ≡ is_same b a
