@@ -15,6 +15,9 @@ use Rattle.cfdp_states.specs.Laws.{SucceedByStatuses, Appended, OnlyLeased, View
 pub grouped : (a b c : ℕ) → a + (b + c) ≡ (a + b) + c
 grouped a b c = omega arith
 
+pub only_one : (a b : Answer) → a ∷ [] ≡ b ∷ [] → a ≡ b
+only_one a b e = cc
+
 pub appended : Appended
 unfolding reached statuses peak steps
 appended prefixes F slot [] item = (refl, refl, refl, omega arith)
@@ -107,10 +110,7 @@ module _ (leased : OnlyLeased) where
       let start = blocks (alone (only fp F) []) in
       let stated = tells (alone (only fp F) []) start start 0 x h refl in
       let same = leased v.prefixes fp F x (Install p ∷ []) (within, tt) in
-      sym (stated.0 ∙ head (row v.prefixes H 0 (Install p)).answer (row v.prefixes (alone F x) 0 (Install p)).answer same.0)
-    where
-      head : (a b : Answer) → a ∷ [] ≡ b ∷ [] → a ≡ b
-      head a b e = cc
+      sym (stated.0 ∙ only_one (row v.prefixes H 0 (Install p)).answer (row v.prefixes (alone F x) 0 (Install p)).answer same.0)
 
 size_is : (a : Option Node) → size_of (extent_in a) ≡ length_in a
 size_is None = refl

@@ -7,7 +7,7 @@
 use Rattle.std.proofs.Common.{◌≡◌, ◌≢◌, refl, sym, ◌∙◌, ap, subst, Bool, true, false, cond, not, ◌||◌, nat_lt, Option, Some, None, is_some, IsSome, ℕ, suc, ◌+◌, ◌-◌, ◌<◌, ◌≤◌, ◌^◌, List, [], ◌∷◌, ◌++◌, length, drop, length-append, true≢false, lt-ltb, ltb-true, ◌⊎◌, inl, inr, arith}
 use Rattle.std.proofs.lemmas.Bool.{cases_lt}
 use Rattle.std.proofs.lemmas.Float.{T_from_true}
-use Rattle.std.proofs.lemmas.List.{append-nil, nil_from_length}
+use Rattle.std.proofs.lemmas.List.{append-nil, drop_all, nil_from_length}
 use Rattle.std.specs.List.{list_any}
 use Rattle.std.specs.FinMap.{empty, entries, entries-insert, get, get-empty, get-entries, get-insert, get-remove, insert, remove, len, len-entries, len-insert, find}
 use Rattle.std.specs.FinMap as finite
@@ -429,8 +429,4 @@ shallow_there m p q r shallow some = by_length (cases_lt 8 (length q + length r)
 pub room_at : (p : Path) (es fs : Branches Extent) → Exchanged p (([], None) ∷ []) es fs → has_branch fs p ≡ true
 room_at p es fs exchanged =
     ap is_some (exchanged p) ∙ ap (λ b. is_some (cond b (find path_cmp (drop (length p) p) (([], None) ∷ [])) (find path_cmp p es))) (at_or_below-itself p)
-    ∙ ap (λ r. has_branch {X = Extent} (([], None) ∷ []) r) (drop_all_of p)
-  where
-    drop_all_of : (p : Path) → drop (length p) p ≡ []
-    drop_all_of [] = refl
-    drop_all_of (n ∷ p) = drop_all_of p
+    ∙ ap (λ r. has_branch {X = Extent} (([], None) ∷ []) r) (drop_all (length p) p (omega arith))

@@ -10,6 +10,7 @@
 use Rattle.std.proofs.Common.{◌≡◌, refl, sym, ◌∙◌, ap, subst, inl, inr, Bool, true, false, cond, if◌then◌else◌, not, ◌||◌, ◌&&◌, is_some, Some, None, ℕ, zero, suc, ◌+◌, ◌<◌, ◌≤◌, List, [], ◌∷◌, length, length-take, take, take_all, get_or, true≢false, arith}
 use Rattle.std.proofs.Math.Bool.{or_assoc}
 use Rattle.std.proofs.lemmas.Bool.{cases_lt, cases_Bool, or_cases, or_left, or_right, and_parts, and_from}
+use Rattle.std.proofs.lemmas.List.{take-take}
 use Rattle.std.proofs.lemmas.List.Folds.{list_any_more}
 use Rattle.std.specs.List.{list_any}
 use Rattle.std.specs.FinMap.{get, get-retain_keys}
@@ -33,7 +34,7 @@ use Rattle.cfdp_states.proofs.Fillers.{prefix_take}
 use Rattle.cfdp_states.proofs.Surveys.{adds_none}
 use Rattle.cfdp_states.proofs.Entries.{found-has_entries}
 use Rattle.cfdp_states.proofs.SparseLists.{take-at_or_below, front_above, shows_from, shows-parts}
-use Rattle.cfdp_states.proofs.SparseSurveys.{as_sparse, stepped, take_take, same_front}
+use Rattle.cfdp_states.proofs.SparseSurveys.{as_sparse, stepped, same_front}
 use Rattle.cfdp_states.proofs.SparseFillers.{same_long, none_covered}
 use Rattle.cfdp_states.proofs.SparsePaths.{shown_entries}
 use Rattle.cfdp_paths.proofs.InOrder.{path_antisym}
@@ -160,7 +161,7 @@ module _ (known : Path → Bool) (paths : List Path) (F : Filestore) (m : Extent
             ] in
             or_left (is_at_or_below (take k s) x) (same_path x (take (k + 1) s))
             (subst (λ y. is_at_or_below (take k s) y ≡ true) (take_all k x short)
-            (subst (λ y. is_at_or_below y (take k x) ≡ true) (take_take k (k + 1) s (omega arith)) (take-at_or_below k (take (k + 1) s) x at)))
+            (subst (λ y. is_at_or_below y (take k x) ≡ true) (take-take k (k + 1) s (omega arith)) (take-at_or_below k (take (k + 1) s) x at)))
       ])
       (λ h. elim (or_cases (is_at_or_below (take k s) x) (same_path x (take (k + 1) s)) h) [
         | inl up ↦ at_or_below-trans (take (k + 1) s) (take k s) x (prefix_take s k (k + 1) (omega arith)) up

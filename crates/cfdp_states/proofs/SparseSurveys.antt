@@ -1,7 +1,7 @@
 -- What is at visible paths, put into a map of extents, with one directory for what is hidden below each of them.
 --     nothing_sparse, as_sparse       no path;  the same test
 --     stepped                         one more path
---     take_take, same_front           one more name of a path
+--     same_front                      one more name of a path
 --     sparse_view                     the view of what was put in
 use Rattle.std.proofs.Common.{◌≡◌, refl, sym, ◌∙◌, ap, subst, ◌⊎◌, inl, inr, ◌↔◌, Bool, true, false, cond, ◌||◌, ◌&&◌, is_some, Option, Some, None, ℕ, zero, suc, ◌<◌, ◌≤◌, List, [], ◌∷◌, length, length-take, take, take_all, if◌then◌else◌, true≢false, arith}
 use Rattle.std.proofs.lemmas.Bool.{cases_lt, cases_Bool, or_parts, or_right, and_parts, false_from_ne_true}
@@ -269,12 +269,6 @@ module _ (known visible : Path → Bool) where
     }
 
 -- ---- one more name of a path
-
-pub take_take : (k n : ℕ) (x : Path) → k ≤ n → take k (take n x) ≡ take k x
-take_take zero n x le = refl
-take_take (suc k) zero x le = absurd (omega arith)
-take_take (suc k) (suc n) [] le = refl
-take_take (suc k) (suc n) (m ∷ x) le = ap (λ y. m ∷ y) (take_take k n x (omega arith))
 
 pub same_front : (n : ℕ) (x p : Path) → is_at_or_below x p ≡ true → n ≤ length p → is_at_or_below (take n x) (take n p) ≡ true
 same_front zero x p at le = refl
