@@ -2,14 +2,14 @@
 --     whole_is       a whole PDU at the front: it and what is after it are the stream, and more octets after that change nothing
 --     enough         more PDUs than there are octets are never cut
 --     pieces_do_not_matter, none_is_lost, each_is_whole      the laws
-use Rattle.std.proofs.Common.{◌≡◌, refl, sym, ◌∙◌, ap, subst, ℕ, zero, suc, ◌+◌, ◌*◌, ◌/◌, ◌%◌, ◌==◌, ◌<◌, ◌≤◌, Bool, true, false, cond, List, [], ◌∷◌, ◌++◌, length, take, drop, append_assoc, Option, Some, None, arith, length-append}
+use Rattle.std.proofs.Common.{◌≡◌, refl, sym, ◌∙◌, ap, subst, ℕ, zero, suc, ◌+◌, ◌*◌, ◌/◌, ◌%◌, ◌==◌, ◌<◌, ◌≤◌, Bool, true, false, cond, List, [], ◌∷◌, ◌++◌, length, take, drop, append_assoc, arith, length-append}
 use Rattle.std.specs.Prelude.{nat_lt}
 use Rattle.std.specs.List.{AllByRecursion, flat_map}
 use Rattle.std.proofs.lemmas.Bool.{ltb-false, le-ltb}
 use Rattle.std.proofs.lemmas.List.{drop-append-le, length-take-le, take-append-drop, take-append-le}
 use Rattle.std.proofs.Math.Seq.{take-length, drop-length}
 use Rattle.cfdp_crc.specs.Seal.{header_len}
-use Rattle.cfdp_cutter.specs.Cutting.{First, Whole, Open, Lost, first_by, first_pdu, pdu_len, Cut, cut, cut_next, cut_some, followed, uncut}
+use Rattle.cfdp_cutter.specs.Cutting.{First, Whole, Open, Lost, first_pdu, Cut, cut, cut_next, cut_some, followed, uncut}
 use Rattle.cfdp_cutter.specs.Laws.{PiecesDoNotMatter, NoneIsLost, EachIsWhole}
 
 -- ---- the front
@@ -85,30 +85,7 @@ whole_is (a ∷ b ∷ []) p r e = absurd (no_whole (a / 32 == 1) p r e)
 whole_is (a ∷ b ∷ c ∷ []) p r e = absurd (no_whole (a / 32 == 1) p r e)
 whole_is (a ∷ b ∷ c ∷ d ∷ rest) p r e = whole_here a b c d rest p r e
 
-lost_by : (version : Bool) (front : First) → (front ≡ Lost → ⊥) → cond version front Lost ≡ Lost → version ≡ false
-lost_by true front not_lost e = absurd (not_lost e)
-lost_by false front not_lost e = refl
-
-some_or_open : (o : Option ℕ) (s : List ℕ) → first_by o s ≡ Lost → ⊥
-some_or_open None s e = cc e
-some_or_open (Some n) s e = elim (nat_lt (length s) n) as (λ short. cond short Open (Whole (take n s) (drop n s)) ≡ Lost → ⊥) [
-  | true ↦ λ f. cc f
-  | false ↦ λ f. cc f
-] e
-
--- more octets do not mend it
-pub lost_stays : (s more : List ℕ) → first_pdu s ≡ Lost → first_pdu (s ++ more) ≡ Lost
-unfolding first_pdu
-lost_stays [] more e = absurd (cc e)
-lost_stays (a ∷ rest) more e =
-    let bad : (a / 32 == 1) ≡ false = lost_by (a / 32 == 1) (first_by (pdu_len (a ∷ rest)) (a ∷ rest)) (some_or_open (pdu_len (a ∷ rest)) (a ∷ rest)) e in
-    ap (λ version. cond version (first_by (pdu_len (a ∷ rest ++ more)) (a ∷ rest ++ more)) Lost) bad
-
 -- ---- all of a stream
-
--- what is cut of a stream that begins with a whole PDU
-cut_whole : Cut → List ℕ → Cut
-cut_whole later p = record { pdus = p ∷ later.pdus; rest = later.rest }
 
 shorter : (s p r : List ℕ) → WholeAt s p r → length r < length s
 shorter s p r w = omega (arith, w.some, length-append p r, ap length w.splits)

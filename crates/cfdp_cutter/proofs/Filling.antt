@@ -25,10 +25,6 @@ begins_front : (b o : List ℕ) → begins_pdu (b ++ o) ≡ true → begins_pdu 
 begins_front [] o e = refl
 begins_front (x ∷ b) o e = e
 
-begins_more : (b o : List ℕ) → b ≡ [] ⊎ (0 < length b) → begins_pdu b ≡ true → (b ≡ [] → begins_pdu o ≡ true) → begins_pdu (b ++ o) ≡ true
-begins_more [] o some e f = f refl
-begins_more (x ∷ b) o some e f = e
-
 -- ---- the length
 
 pub len-least : (b : List ℕ) (n : ℕ) → pdu_len b ≡ Some n → (4 ≤ length b) × (7 ≤ n)
