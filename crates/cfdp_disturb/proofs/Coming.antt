@@ -1,17 +1,14 @@
 -- What is true of each script.
 --     quiet_is_same, others_part, each_comes      the laws
-use Rattle.std.proofs.Common.{◌≡◌, refl, sym, ◌∙◌, ap, ℕ, ◌+◌, Bool, true, false, cond, ◌&&◌, List, [], ◌∷◌, ◌++◌, append_assoc, arith}
+use Rattle.std.proofs.Common.{◌≡◌, refl, sym, ◌∙◌, ap, ℕ, ◌+◌, Bool, true, false, cond, List, [], ◌∷◌, ◌++◌, append_assoc, arith}
 use Rattle.std.specs.Prelude.{bytes_eq, if◌then◌else◌}
 use Rattle.cfdp_disturb.specs.declared.draws.Copies.TheVariants.{Lost, Once, Twice}
 use Rattle.cfdp_disturb.specs.Disturbing.{Copies, Drawn, both, copies_of, disturbed, is_held, is_pdu_line, said}
 use Rattle.cfdp_disturb.proofs.TakenLines.{alone}
 use Rattle.cfdp_disturb.specs.Laws.{IsQuiet, QuietIsSame, OthersPart, EachComes, count_of, times_of_line, times_drawn}
-use Rattle.std.proofs.lemmas.Bool.{and_right}
+use Rattle.std.proofs.lemmas.Bool.{and_left, and_right}
 
 -- nothing happens --------------------------------------------------------------------
-
-not_held : (swapped : Bool) (b : Bool) → swapped ≡ false → (swapped && b) ≡ false
-not_held swapped b e = ap (λ s. s && b) e
 
 once_by : (pdu : Bool) (copies : Copies) (line : List ℕ) → copies ≡ Once → cond pdu (copies_of copies line) (line ∷ []) ≡ line ∷ []
 once_by true copies line e = ap (λ c. copies_of c line) e
@@ -23,7 +20,7 @@ said_once a quiet = once_by (is_pdu_line a.0) a.1.copies a.0 quiet.once
 
 free : (a : Drawn) → IsQuiet a → is_held a ≡ false
 unfolding is_held
-free a quiet = not_held a.1.swapped (is_pdu_line a.0) quiet.in_turn
+free a quiet = and_left a.1.swapped (is_pdu_line a.0) quiet.in_turn
 
 pub quiet_is_same : QuietIsSame
 unfolding disturbed
