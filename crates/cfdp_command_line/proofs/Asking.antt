@@ -1,15 +1,14 @@
 -- What the matches of a command ask for.
-use Rattle.std.proofs.Common.{◌≡◌, ◌∙◌, List, [], Option, None, Some, ap, codes, map, option_map, refl, sym}
-use Rattle.std.specs.Prelude.{Box, Vec, option_and_then, unwrap_or}
-use Rattle.std.specs.declared.alloc.Global.{Global}
+use Rattle.std.proofs.Common.{◌≡◌, ◌∙◌, List, Option, None, Some, ap, codes, option_map, refl, sym}
+use Rattle.std.specs.Prelude.{Box, option_and_then}
 use Rattle.std.specs.Borrow.{Bor}
 use Rattle.std.specs.Box.{box_value}
-use Rattle.clap.specs.Words.{Row, Text, all_of, first_of, subcommand_name_of, subcommand_rows, subcommand_rows_of}
+use Rattle.clap.specs.Words.{Row, Text, first_of, subcommand_name_of, subcommand_rows, subcommand_rows_of}
 use Rattle.clap.specs.declared.parser.matches.ArgMatches.{ArgMatches}
 use Rattle.clap.specs.declared.parser.matches.ArgMatches.TheViews.{out-ArgMatches, out-SubCommand}
 use Rattle.clap.specs.declared.parser.matches.SubCommand.{SubCommand}
 use Rattle.cfdp_command_line.specs.Words.{IsAsked}
-use Rattle.cfdp_command_line.specs.declared.words.Asked.TheVariants.{Links, Plain, Replay}
+use Rattle.cfdp_command_line.specs.declared.words.Asked.TheVariants.{Replay}
 
 -- the name of the command that was entered is beside its rows
 name_of_rows : {Z : Type 0} (entered : Option (Box SubCommand Z))
@@ -35,18 +34,3 @@ asked_to_replay m rows file name found first = (
   first
       ∙ sym (of_rows (first_of (codes "FILE")) (subcommand_rows_of m) ∙ ap (option_and_then (first_of (codes "FILE"))) found),
 )
-
-pub asked_to_link : (m : ArgMatches) (rows : List Row) (files : Vec (Bor Text) Global) → subcommand_name_of m ≡ Some (codes "links")
-    → option_map (λ named. named.1) (subcommand_rows_of m) ≡ Some rows
-    → map (λ name. name.now) files.items ≡ unwrap_or (all_of (codes "FILE") rows) []
-    → IsAsked (subcommand_rows_of m) (Links files)
-asked_to_link m rows files name found all = (
-  named_as m ∙ name,
-  all
-      ∙ ap (λ o. unwrap_or o [])
-      (sym (of_rows (all_of (codes "FILE")) (subcommand_rows_of m) ∙ ap (option_and_then (all_of (codes "FILE"))) found)),
-)
-
-pub asked_for_plain : (m : ArgMatches) → (subcommand_name_of m ≡ Some (codes "replay") → ⊥)
-    → (subcommand_name_of m ≡ Some (codes "links") → ⊥) → IsAsked (subcommand_rows_of m) Plain
-asked_for_plain m replay links = (λ e. replay (sym (named_as m) ∙ e), λ e. links (sym (named_as m) ∙ e))

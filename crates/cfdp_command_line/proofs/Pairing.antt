@@ -1,6 +1,5 @@
 -- Lists whose elements are paired, in order.
-use Rattle.std.proofs.Common.{◌≡◌, ℕ, List, [], ◌∷◌, ◌++◌, length, append-nil, ap, arith, refl, subst, suc}
-use Rattle.std.specs.Prelude.{Result, Ok, Err, IfOk}
+use Rattle.std.proofs.Common.{◌≡◌, List, [], ◌∷◌, ◌++◌, length, append-nil, ap, arith, refl, subst, suc}
 use Rattle.cfdp_command_line.specs.Files.{AllPaired}
 
 -- once nothing is left
@@ -23,7 +22,3 @@ paired_through P Q R joined [] (y ∷ ys) zs p q = absurd p
 paired_through P Q R joined (x ∷ xs) [] zs p q = absurd p
 paired_through P Q R joined [] [] (z ∷ zs) p q = absurd q
 paired_through P Q R joined (x ∷ xs) (y ∷ ys) [] p q = absurd q
-
-pub if_ok : {T E : Type 0} (P Q : T → Type 0) (r : Result T E) → ((x : T) → P x → Q x) → IfOk r P → IfOk r Q
-if_ok P Q (Ok x) f p = f x p
-if_ok P Q (Err e) f p = tt
