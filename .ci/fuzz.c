@@ -1,5 +1,5 @@
 /* Calls made at random, of an engine and of a receiver, with PDUs that are those of a corpus with octets changed, cut
- * or put in, and with memory that is refused now and then. Each buffer is as long as the call says. The sanitizers see
+ * or put in, and out of memory now and then. Each buffer is as long as the call says. The sanitizers see
  * all that this file does, and of the library, which is compiled without them, its calls of memcpy, memmove, memset and
  * the functions for memory. That no octet after what a call writes changes is tested here (is_filled).
  *   fuzz SECONDS SEED FILE..
@@ -182,7 +182,7 @@ static bool is_fault(enum cfdp_answer answer) {
     return answer >= CFDP_ANSWER_TRUNCATED && answer <= CFDP_ANSWER_REQUEST_TOO_LONG;
 }
 
-/* Opens an engine with some files; it may have none where memory is refused or a number is out of range. */
+/* Opens an engine with some files; it may have none when out of memory or where a number is out of range. */
 static enum cfdp_answer open_engine(struct cfdp_engine *engine) {
     const struct cfdp_config config = some_config();
     const struct cfdp_path boot = some_path();
