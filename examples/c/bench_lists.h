@@ -331,7 +331,7 @@ static void prepare_asks(uint32_t others) {
     receive(CFDP_WAITING);
 }
 
-/* Each call that only tells something of a transaction, or writes a fixed line, and a check below its limit. */
+/* Each call that only says something about a transaction, or writes a fixed line, and a check below its limit. */
 static uint32_t ask(uint32_t others) {
     static uint8_t text[32];
     struct cfdp_transaction transaction;

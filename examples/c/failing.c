@@ -98,7 +98,7 @@ static int run(void) {
 static uint8_t list_pdu[sizeof metadata], eof_pdu[sizeof eof];
 static uint8_t ack_pdu[] = {0x20, 0x00, 0x03, 0x00, 0x01, 0x01, 0x02, 0x06, 0x51, 0x02};
 
-/* A receiver over a new engine. Where its memory is refused the engine is freed, and both are made again. */
+/* A receiver over a new engine. When out of memory the engine is freed, and both are made again. */
 static void open_receiver(struct cfdp_receiver *receiver) {
     static const struct cfdp_config config = {.entity = 2, .cap = 2400, .blocks = 64, .checks = 2};
     static const struct cfdp_mib mib = {.ack_interval = 50,
