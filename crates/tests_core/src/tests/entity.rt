@@ -253,7 +253,7 @@ fn hand_in<S: Filestore>(
         );
         assert!(rt;
             before == after && may_lack_memory(core, event),
-            "an event that was refused memory"
+            "an event that was out of memory"
         );
         return Ok(apply(rt, core, event, twice));
     }

@@ -133,7 +133,7 @@ fn accept(
     if matches!(reply, Reply::Memory | Reply::JournalFull) {
         assert!(rt;
             seen(alloc, journaled)? == before,
-            "an event that was refused memory or room in the journal"
+            "an event that was out of memory or of room in the journal"
         );
     }
     Ok(reply)

@@ -65,7 +65,7 @@ fn grant_one(
     if hold(rt, leases, id(number), footprint).is_err() {
         assert!(rt;
             answers(leases, probes) == before,
-            "{number}: refused memory"
+            "{number}: out of memory"
         );
         assert!(rt;
             hold(rt, leases, id(number), again).is_ok(),

@@ -169,7 +169,7 @@ fn memory(rt: HostRuntime) -> Result<(), Memory> {
         if done == Err(NotPut::Memory) {
             assert!(&rt;
                 before == (core.store().listing(alloc)?, core.spare()),
-                "refused memory: {}",
+                "out of memory: {}",
                 name.escape_ascii()
             );
             done = put_in(&mut core, &path, &octets);

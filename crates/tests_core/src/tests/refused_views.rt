@@ -50,7 +50,7 @@ fn install(rt: &impl Abort, view: &mut View<'_>, paths: &[Path; 3]) -> Result<bo
         Err(_) => {
             assert!(rt;
                 answers(view, paths) == before,
-                "an install that was refused memory"
+                "an install that was out of memory"
             );
             view.install(&paths[0], 120)
         }
@@ -70,7 +70,7 @@ fn apply(
         Err(_) => {
             assert!(rt;
                 answers(view, paths) == before,
-                "a request that was refused memory"
+                "a request that was out of memory"
             );
             view.apply(request)
         }

@@ -154,7 +154,7 @@ fn judge(rt: &impl Abort, alloc: Global, scene: &Scene, row: &Row) -> Result<Str
     match scene.judge(rt, alloc, file, tlvs) {
         Ok(replied) => Ok(replied),
         Err(_) => {
-            assert!(rt; seen(rt, alloc, scene)? == before, "refused memory: {said}");
+            assert!(rt; seen(rt, alloc, scene)? == before, "out of memory: {said}");
             scene.judge(rt, alloc, file, tlvs)
         }
     }

@@ -239,7 +239,7 @@ fn all_hold<R: Abort + Print>(
         assert_eq!(rt; written, *text, "step {number}");
         assert!(rt;
             !actor.has_changed,
-            "step {number} changed something before it was refused memory"
+            "step {number} changed something before it was out of memory"
         );
     }
     Ok(())

@@ -95,10 +95,10 @@ impl<'a> Run<'a> {
         if !ran.was_refused() {
             return ran;
         }
-        let _ = println!(rt; "a run was refused memory, or its writer");
+        let _ = println!(rt; "a run was out of memory, or its writer");
         assert!(rt;
             ran.reports_that_alone(self.report),
-            "a run that was refused memory"
+            "a run that was out of memory"
         );
         self.once(alloc)
     }
@@ -132,7 +132,7 @@ fn is_text_at_last<R: Print>(
 ) -> Result<bool, RunFault> {
     match is_text(alloc, kind, script, report) {
         Err(RunFault::Memory) => {
-            let _ = println!(rt; "a text was refused memory");
+            let _ = println!(rt; "a text was out of memory");
             is_text(alloc, kind, script, report)
         }
         answer => answer,

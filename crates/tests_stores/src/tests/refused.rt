@@ -30,7 +30,7 @@ fn picture_of<S: Filestore>(alloc: Global, store: &S) -> Result<Picture, Memory>
     })
 }
 
-/// Whether the step, which was refused memory, may want it, and left the store as it was.
+/// Whether the step, which was out of memory, may want it, and left the store as it was.
 fn leaves<S: Filestore>(
     alloc: Global,
     store: &S,
@@ -41,7 +41,7 @@ fn leaves<S: Filestore>(
     Ok(may_want && picture_of(alloc, store)? == *before)
 }
 
-/// Takes a step: whether all is as it says. Where it is refused memory, that is reported, and it is taken once more.
+/// Takes a step: whether all is as it says. Where it is out of memory, that is reported, and it is taken once more.
 fn holds_at_last<S: Filestore, R: Abort + Print>(
     rt: &R,
     alloc: Global,
@@ -51,7 +51,7 @@ fn holds_at_last<S: Filestore, R: Abort + Print>(
     let before = picture_of(alloc, store)?;
     match step.holds(alloc, store, &Protected::new()) {
         Err(AllocError) => {
-            let _ = println!(rt; "the step was refused memory");
+            let _ = println!(rt; "the step was out of memory");
             Ok(leaves(alloc, store, step, &before)? && step.holds(alloc, store, &Protected::new())?)
         }
         answer => answer,
@@ -227,7 +227,7 @@ const WRITES_OUT_OF_ORDER: &[Step<'static>] = &[
 fn larger_store<R: Print>(rt: &R, alloc: Global) -> Result<TreeStore, Memory> {
     match TreeStore::new(alloc, MORE_BLOCKS) {
         Err(AllocError) => {
-            let _ = println!(rt; "the store was refused memory");
+            let _ = println!(rt; "the store was out of memory");
             TreeStore::new(alloc, MORE_BLOCKS)
         }
         answer => answer,
