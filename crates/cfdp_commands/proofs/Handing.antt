@@ -1,6 +1,6 @@
 -- What may be handed in to an entity, and that the reply to octets that came can be written.
 use Rattle.std.proofs.Common.{◌≡◌, ◌∙◌, sym, ◌++◌, append-nil, ℕ, List, Bool, true, false, true≢false, Option, Some, None, Result, Ok, Err, refl, ap, subst}
-use Rattle.std.specs.Prelude.{OnOk, if◌then◌else◌}
+use Rattle.std.specs.Prelude.{if◌then◌else◌}
 use Rattle.cfdp_status.specs.declared.transaction.TransactionId.{TransactionId}
 use Rattle.cfdp_pdus.specs.First.{pdu_at}
 use Rattle.cfdp_pdus.specs.declared.pdu.Pdu.{Pdu}
@@ -78,7 +78,3 @@ heard_stated W V octets event id reply before after same named follows written =
       ∙ ap (λ (n : TransactionId). (Running V, reply_line n reply)) (sym named),
   written,
 )
-
-pub where_ok : {T E P Q : Type 0} (result : Result T E) → OnOk result P → (P → Q) → OnOk result Q
-where_ok (Ok value) holds so = so holds
-where_ok (Err why) holds so = tt

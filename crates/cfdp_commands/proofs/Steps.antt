@@ -15,9 +15,6 @@ pub record Steps (left : ℕ) (start W : World) (all : ℕ) (before text : List 
   pub writes : text ++ reply_lines (steps_from left W) (replies W (steps_from left W))
       ≡ before ++ reply_lines (steps_from all start) (replies start (steps_from all start))
 
-pub steps_start : (all : ℕ) (W : World) (text : List ℕ) → Steps all W W all text text
-steps_start all W text = record { ends = refl; writes = refl }
-
 unrolled : (more : ℕ) (W : World) (id : TransactionId) → next_runnable W.table ≡ Some id
     → steps_from (suc more) W ≡ Step id ∷ steps_from more (next W (Step id)).0
 unfolding steps_from

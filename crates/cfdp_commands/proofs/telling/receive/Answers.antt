@@ -1,4 +1,5 @@
-use Rattle.cfdp_commands.proofs.Handing.{heard_fits, heard_stated, where_ok}
+use Rattle.std.proofs.lemmas.Result.{on_ok_weaker}
+use Rattle.cfdp_commands.proofs.Handing.{heard_fits, heard_stated}
 use Rattle.cfdp_commands.proofs.telling.receive.Goals as goal
 
 pub write_reply-requires : goal.write_reply-requires
@@ -9,6 +10,7 @@ write_reply-requires c =
 pub returns-in-Ok : goal.returns-in-Ok
 returns-in-Ok c =
     let stated = c.in-Ok.ensures.ok in
-    where_ok c.write_reply.result c.write_reply.ensures.ok
+    on_ok_weaker c.write_reply.result
     (λ written. heard_stated c.args.entity.now c.receive.new.self c.args.octets.now stated.0 c.in-Ok.id c.in-Ok.reply
     c.args.text.now.items c.write_reply.new.text.items stated.1 stated.2 stated.3 written)
+    c.write_reply.ensures.ok
