@@ -1,16 +1,12 @@
 -- What a worker hands in, message after message.
-use Rattle.std.proofs.Common.{◌≡◌, ℕ, ◌+◌, ◌≤◌, List, [], ◌∷◌, ◌++◌, min, ◌-◌, ◌^◌, refl, ap, sym, ◌∙◌, subst, append_assoc, append-nil, arith, length-append}
-use Rattle.std.specs.Prelude.{IsTrue, true, false, if◌then◌else◌}
+use Rattle.std.proofs.Common.{◌≡◌, ℕ, ◌+◌, List, [], ◌∷◌, ◌++◌, min, ◌-◌, ◌^◌, refl, ap, sym, ◌∙◌, subst, append_assoc, append-nil, arith}
+use Rattle.std.specs.Prelude.{true, false, if◌then◌else◌}
 use Rattle.std.specs.Option.{option_to_list}
 use Rattle.std.specs.Arc.{arc_value}
-use Rattle.std.specs.List.{AllByRecursion}
-use Rattle.cfdp_status.specs.declared.transaction.TransactionId.{TransactionId}
-use Rattle.cfdp_transactions.specs.Beside.{is_step}
 use Rattle.cfdp_transactions.specs.declared.event.Event.{Event}
-use Rattle.cfdp_transactions.specs.declared.event.Event.TheVariants.{Step}
 use Rattle.cfdp_engine.specs.Seats.{Seated, Receipt}
 use Rattle.cfdp_engine.specs.Sharing.{IsReceived, AddsReceipts, receipt_events}
-use Rattle.cfdp_engine.specs.Working.{Message, AreSteps, Brings, BringAll, BeginAll, event_in, is_passed_over, passed_over}
+use Rattle.cfdp_engine.specs.Working.{Message, Brings, BringAll, BeginAll, event_in, is_passed_over, passed_over}
 use Rattle.cfdp_engine.specs.code.Working.{BeginsOne}
 use Rattle.cfdp_engine.specs.declared.message.Message.TheVariants as messages
 
@@ -43,46 +39,12 @@ adds_one P old new index event r p = record {
   events = p;
 }
 
--- steps --------------------------------------------------------------------------
-
-all_steps : (es : List Event) (id : TransactionId) → AllByRecursion (λ e. IsTrue (is_step e)) es → AllByRecursion (λ e. IsTrue (is_step e))
-    (es ++ Step id ∷ [])
-all_steps [] id all = (refl, tt)
-all_steps (e ∷ es) id all = (all.0, all_steps es id all.1)
-
-no_steps : AreSteps 0 []
-no_steps = record { steps = tt; few = omega arith }
-
-pub adds_no_step : (s : Seated) → AddsReceipts (AreSteps 0) s s
-adds_no_step s = adds_none (AreSteps 0) s no_steps
-
-one_step : (most : ℕ) (es : List Event) (id : TransactionId) → AreSteps most es → AreSteps (most + 1) (es ++ Step id ∷ [])
-one_step most es id steps = record { steps = all_steps es id steps.steps; few = rw length-append (let few = steps.few in omega arith) }
-
-pub adds_step : (most : ℕ) (old mid new : Seated) (index : ℕ) (id : TransactionId) → AddsReceipts (AreSteps most) old mid → IsReceived mid new index (Step id) →
-    AddsReceipts (AreSteps (most + 1)) old new
-adds_step most old mid new index id before received =
-    adds_both (AreSteps most) (λ es. es ≡ Step id ∷ []) (AreSteps (most + 1)) old mid new
-    (λ es fs steps one. subst (λ (xs : List Event). AreSteps (most + 1) (es ++ xs)) (sym one) (one_step most es id steps))
-    before (adds_one (λ es. es ≡ Step id ∷ []) mid new index (Step id) received refl)
-
-pub adds_fewer : (few most : ℕ) (old new : Seated) → few ≤ most → AddsReceipts (AreSteps few) old new → AddsReceipts (AreSteps most) old new
-adds_fewer few most old new less a = record {
-  added = a.added;
-  number = a.number;
-  receipts = a.receipts;
-  events = record { steps = a.events.steps; few = let h = a.events.few in omega arith };
-}
-
 -- messages -----------------------------------------------------------------------
 
 pub bring_more : (ms : List Message) (m : Message) (es first : List Event) → BringAll ms es → Brings m first → BringAll (ms ++ m ∷ []) (es ++ first)
 bring_more [] m es first all one = (first, [], rw (all, append-nil) refl, one, refl)
 bring_more (n ∷ ms) m es first all one =
     (all.0, all.1 ++ first, ap (λ (xs : List Event). xs ++ first) all.2 ∙ append_assoc all.0 all.1 first, all.3, bring_more ms m all.1 first all.4 one)
-
-pub begin_all : (ms : List Message) (es : List Event) → BringAll ms es → BeginAll ms es
-begin_all ms es all = record { more = []; bring = subst (BringAll ms) (sym (append-nil es)) all }
 
 pub begin_more : (ms : List Message) (m : Message) (es first : List Event) → BringAll ms es → BeginsOne m first → BeginAll (ms ++ m ∷ []) (es ++ first)
 begin_more ms m es first all one = record {

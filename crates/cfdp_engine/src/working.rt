@@ -92,7 +92,7 @@ fn run<S: Filestore, R: Wait>(
 }
 
 /// Hands in what a message brings. It returns whether the message is a PDU without an event, which is passed over and
-/// counted: such a PDU never stops the worker, unless memory for its copy was refused.
+/// counted: such a PDU never stops the worker, unless the copy runs out of memory.
 fn serve<S: Filestore, R: Wait>(
     rt: &R,
     alloc: Global,
