@@ -12,10 +12,6 @@ use denote.Shadow.{shadow, makes_shadow}
 use denote.Struct.Struct.{Struct}
 use Rattle.core.proofs.cell.Inside.{Good}
 
-pub ptr_typed : (p : Ptr) → Good ty_ptr (ptr_val p)
-ptr_typed (block_ptr b o) = (tt, tt)
-ptr_typed null_ptr = (tt, record { fits = lit< tt })
-
 abbrev pub slot_val : Ptr → Val
 slot_val p = vstruct (vcons (ptr_val p) vnil)
 

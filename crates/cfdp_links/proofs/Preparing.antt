@@ -8,7 +8,7 @@ use Rattle.cfdp_commands.specs.Commands as command
 use Rattle.cfdp_lines.specs.Lines.{is_overlong, is_comment, lines_of}
 use Rattle.cfdp_lines.specs.declared.faults.LinkFault.{LinkFault}
 use Rattle.cfdp_links.specs.Linked.{IsBadFile, IsHeard}
-use Rattle.cfdp_links.specs.Links.{Said, Reading, Files, said_by, link_said, link_answer, read_then, read_from, file_said, files_then, files_from, link_files, running}
+use Rattle.cfdp_links.specs.Links.{Said, Reading, Files, said_by, link_said, link_answer, read_then, read_from, file_said, files_from, link_files}
 use Rattle.cfdp_commands.specs.Replay.{ReplayStage, configured, protected, without_text}
 use Rattle.cfdp_lines.specs.Report.{line_answer}
 use Rattle.cfdp_commands.proofs.Handing.{local_readable}
@@ -91,19 +91,6 @@ read_from-heard number reading (line ∷ lines) heard =
 pub file_heard : (stage : ReplayStage) (script : List ℕ) (reading : Reading) → file_said stage script ≡ Ok reading → AllByRecursion IsHeard reading.said
 file_heard stage script reading read =
     subst IsHeardOf read (read_from-heard 1 (record { stage = stage; said = [] }) (lines_of script) tt)
-
--- a file without a bad line, and those after it
-pub files_from-more : (file : ℕ) (stage : ReplayStage) (said : List (List Said)) (script : List ℕ) (scripts : List (List ℕ)) (reading : Reading)
-    → file_said stage script ≡ Ok reading
-    → files_from file stage said (script ∷ scripts) ≡ files_from (file + 1) (running reading.stage) (said ++ reading.said ∷ []) scripts
-files_from-more file stage said script scripts reading read =
-    ap (λ (r : Result Reading ℕ). files_then file said r (λ after more. files_from (file + 1) after more scripts)) read
-
--- the first one that has a bad line
-pub files_from-bad : (file : ℕ) (stage : ReplayStage) (said : List (List Said)) (script : List ℕ) (scripts : List (List ℕ)) (line : ℕ)
-    → file_said stage script ≡ Err line → files_from file stage said (script ∷ scripts) ≡ Err (file, line)
-files_from-bad file stage said script scripts line read =
-    ap (λ (r : Result Reading ℕ). files_then file said r (λ after more. files_from (file + 1) after more scripts)) read
 
 -- a bad line in the file that comes next is the first one
 pub bad_following : {X : Type 0} (octets : X → List ℕ) (file : ℕ) (stage : ReplayStage) (said : List (List Said)) (all : List X) (one : X)

@@ -133,9 +133,6 @@ module _ (files : List ℕ → Option (List ℕ)) where
 
   -- ---- the script ends
 
-  pub ends_empty : (n : ℕ) (s : ScriptStage) (text : List ℕ) → EndsScript files (line_reading n s []) text text
-  ends_empty n s text = record { written = []; is = refl; appended = sym (append-nil text) }
-
   pub ends_line : (n : ℕ) (s after : ScriptStage) (line before text : List ℕ) → IsOneLine line → 0 < length line → Leads
       (line_step files s line) after before text →
       EndsScript files (line_reading n s line) before text
