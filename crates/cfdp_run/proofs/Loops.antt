@@ -14,9 +14,6 @@ pub record Left (R : State) (inputs : List Input) (start : State) (all : List In
   pub ends : after_all R inputs ≡ after_all start all
   pub writes : text ++ played R inputs ≡ before ++ played start all
 
-pub left_start : (R : State) (all : List Input) (text : List ℕ) → Left R all R all text text
-left_start R all text = record { ends = refl; writes = refl }
-
 -- some of them are played
 pub left_next : (R : State) (some more : List Input) (start : State) (all : List Input) (before text : List ℕ) (N : State) (later : List ℕ) →
     Left R (some ++ more) start all before text → Plays R some N text later → Left N more start all before later

@@ -2,13 +2,13 @@
 use Rattle.std.proofs.Common.{◌≡◌, ℕ, suc, ◌+◌, ◌<◌, ◌≤◌, List, [], ◌∷◌, length, map, drop, get_or, refl, ap, sym, ◌∙◌, subst, arith}
 use Rattle.std.proofs.Math.Seq.{drop-cons}
 use Rattle.std.proofs.lemmas.List.{get_or-map, drop_all}
-use Rattle.std.specs.Prelude.{Some, None, replicate}
+use Rattle.std.specs.Prelude.{Some, replicate}
 use Rattle.std.specs.FinMap as finite
 use Rattle.cfdp_paths.specs.Paths.{Path}
 use Rattle.cfdp_actions.specs.Filestore.{Node, Directory, Filestore, node_at}
 use Rattle.cfdp_actions.specs.Store.{listing_entry, listing_of}
 use Rattle.cfdp_actions.specs.declared.kind.Entry.{Entry}
-use Rattle.cfdp_transactions.specs.Beginning.{start_with, with_node, put_fault}
+use Rattle.cfdp_transactions.specs.Beginning.{start_with, with_node}
 use Rattle.cfdp_transactions.specs.Config.{Config}
 use Rattle.cfdp_transactions.specs.Restart.{put_all, CanPutAll, PutBackIsSame}
 use Rattle.cfdp_transactions.specs.Sound.{Sound}
@@ -44,9 +44,6 @@ leaves_all W c sound back idle staged same =
 
 pub leaves_none : (W end : World) (es : List (Path × Node)) → es ≡ [] → Leaves W es end → W ≡ end
 leaves_none W end es none left = ap (put_all W) (sym none) ∙ left.leads
-
-pub leaves_first : (W : World) (e : Path × Node) (es : List (Path × Node)) (end : World) → Leaves W (e ∷ es) end → put_fault W e.0 e.1 ≡ None
-leaves_first W e es end left = left.can.0
 
 pub leaves_next : (W V : World) (e : Path × Node) (es : List (Path × Node)) (end : World) → Leaves W (e ∷ es) end → V ≡ with_node W e.0 e.1 → Leaves V es end
 leaves_next W V e es end left put = subst (λ (U : World). Leaves U es end) (sym put) (record { can = left.can.1; leads = left.leads })
