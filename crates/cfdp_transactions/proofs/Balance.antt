@@ -18,9 +18,6 @@ left-spend g s taken given h room =
     let r = left_is g (spend s taken given) (spend_within g s taken given h room) in
     omega (arith, ints)
 
-pub left-fresh : (g : ℕ) → blocks_left g (pos 0) ≡ g
-left-fresh g = omega arith
-
 pub fresh_within : (g : ℕ) → pos 0 ≤ℤ pos g
 fresh_within g = omega (arith, ints)
 

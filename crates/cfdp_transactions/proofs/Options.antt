@@ -1,4 +1,4 @@
--- What a test tells of an optional value.
+-- What a test says of an optional value.
 --     none_of       what is not some value is none
 --     unless_some   what is some value unless a test holds is that value
 --     chosen_some   a choice between a value and a later one: which of them it is

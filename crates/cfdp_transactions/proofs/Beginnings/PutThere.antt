@@ -4,7 +4,7 @@
 --     file_weight           the blocks of a file
 --     put_good, put_sound   a filestore to begin with stays one;  an entity stays sound
 --     put_keeps             an entity is sound after a call
---     file_put, none_put    a file whose octets come to its path by way of a slot;  or nothing
+--     file_put              a file whose octets come to its path by way of a slot
 use Rattle.std.proofs.Common.{◌≡◌, ◌≢◌, ℕ, ◌+◌, ◌-◌, ◌/◌, ◌%◌, min, ◌≤◌, Bool, true, false, List, [], ◌∷◌, ◌++◌, length, set, get_or, refl, ap, sym, ◌∙◌, subst, arith}
 use Rattle.std.specs.Prelude.{Option, Some, None, Result, Ok, Err, OnOk, OnErr, is_some, not, ◌==◌, nat_lt, if◌then◌else◌, replicate, slice_get}
 use Rattle.std.proofs.lemmas.Bool.{true≢false, not-false, eqb-true, ltb-false, le-ltb, and_parts}
@@ -149,7 +149,7 @@ module _ (s : Store) (p : Path) (octets : List ℕ) where
   abbrev F : Filestore
   F = s.filestore
 
-  -- the zeros are there, then the octets, and then the file;  or the octets are dropped
+  -- the zeros are there, then the octets, and then the file
   abbrev zeroed : Store
   zeroed = with_changes s (Stages 0 (extended (staged_in F 0) (length octets)) ∷ [])
 
@@ -158,9 +158,6 @@ module _ (s : Store) (p : Path) (octets : List ℕ) where
 
   abbrev installed : Store → Store
   installed u = with_changes u (Stages 0 [] ∷ Becomes p (Some (File (staged_in u.filestore 0))) ∷ [])
-
-  abbrev dropped : Store → Store
-  dropped u = with_changes u (Stages 0 [] ∷ [])
 
   module _ (slots : length F.staged ≡ 64) (empty : staged_in F 0 ≡ []) where
     abbrev a : List ℕ
@@ -190,9 +187,6 @@ module _ (s : Store) (p : Path) (octets : List ℕ) where
     whole : installed (written zeroed) ≡ with_changes s (Becomes p (Some (File octets)) ∷ [])
     whole = ap (λ (xs : List ℕ). with_file xs (set (set (set F.staged 0 a) 0 b) 0 [])) holds ∙ ap (with_file octets) as_before
 
-    none : dropped (written zeroed) ≡ s
-    none = ap with_staged as_before
-
     both_written : written zeroed ≡ with_changes s (Stages 0 octets ∷ [])
     both_written = ap with_staged (set-set F.staged 0 a b ∙ ap (set F.staged 0) b_is)
 
@@ -209,7 +203,3 @@ module _ (s : Store) (p : Path) (octets : List ℕ) where
       s1 ≡ zeroed → s2 ≡ written s1 → weight (Some (File octets)) ≤ free_blocks s → 1 ≤ free_blocks s2
   room_for_file s1 s2 slots empty one two room =
       subst (λ (u : Store). 1 ≤ free_blocks u) (sym (two ∙ ap written one)) (room_left slots empty room)
-
-  -- out of memory
-  pub none_put : (s1 s2 t : Store) → length F.staged ≡ 64 → staged_in F 0 ≡ [] → s1 ≡ zeroed → s2 ≡ written s1 → t ≡ dropped s2 → t ≡ s
-  none_put s1 s2 t slots empty one two three = three ∙ ap dropped two ∙ ap (λ (u : Store). dropped (written u)) one ∙ none slots empty

@@ -1,7 +1,7 @@
 -- The responses of a Finished PDU, one after another, as octets in a buffer.
-use Rattle.std.proofs.Common.{◌≡◌, ℕ, suc, ◌+◌, ◌-◌, ◌≤◌, ◌<◌, List, [], ◌∷◌, ◌++◌, length, take, drop, true, refl, ap, sym, ◌∙◌, arith, get_or, add-one}
+use Rattle.std.proofs.Common.{◌≡◌, ℕ, suc, ◌+◌, ◌-◌, ◌≤◌, ◌<◌, List, [], ◌∷◌, length, drop, true, refl, ap, sym, ◌∙◌, arith, get_or, add-one}
 use Rattle.std.specs.List.{flat_map, list_all}
-use Rattle.std.proofs.lemmas.List.{length-append, take-append-drop}
+use Rattle.std.proofs.lemmas.List.{length-append}
 use Rattle.std.proofs.Math.Seq.{drop-cons}
 use Rattle.std.proofs.lemmas.Bool.{and_parts}
 use Rattle.cfdp_status.specs.declared.status.Status.{Status}
@@ -37,9 +37,6 @@ pub one_more : (out new buffer : List ℕ) (at end next : ℕ) (x : ResponseFiel
 one_more out new buffer at end next x rest all within whole is_new same =
     let octets = flat_map response_field rest in
     ap (λ (t : List ℕ). with_octets_at t next octets) is_new ∙ overwritten-overwritten out (response_field x) octets end next within same ∙ whole
-
-pub nothing_more : (out : List ℕ) (end : ℕ) → with_octets_at out end [] ≡ out
-nothing_more out end = let e : end + 0 ≡ end = omega arith in ap (λ (n : ℕ). take end out ++ drop n out) e ∙ take-append-drop end out
 
 -- lengths -----------------------------------------------------------------------------
 

@@ -1,8 +1,7 @@
 -- The entries of a budget after blocks were taken and given back, and after a slot was closed.
-use Rattle.std.proofs.Common.{◌≡◌, ◌≢◌, ℕ, zero, suc, ◌+◌, ◌-◌, ◌≤◌, ◌<◌, List, [], ◌∷◌, length, refl, ap, ◌∙◌, arith, get_or-set_same, get_or-set_other}
+use Rattle.std.proofs.Common.{◌≡◌, ◌≢◌, ℕ, zero, suc, ◌+◌, ◌-◌, ◌<◌, List, [], ◌∷◌, length, refl, ◌∙◌, arith, get_or-set_same, get_or-set_other}
 use Rattle.std.specs.Prelude.{Option, Some, None, slice_set, slice_index_or}
 use Rattle.cfdp_quota.specs.Budget.{Budget, entry_at, reserve_at, spare, giving, taking, closing, reserving}
-use Rattle.cfdp_transactions.specs.code.Books.{BooksSlot}
 
 inside : (xs : List (Option ℕ)) (i m : ℕ) → slice_index_or xs i None ≡ Some m → i < length xs
 inside [] i m h = absurd cc
@@ -39,24 +38,3 @@ closed_elsewhere q slot other ne = get_or-set_other q.reserves slot other None N
 
 pub reserved_elsewhere : (q : Budget) (slot n other : ℕ) → other ≢ slot → entry_at (reserving q slot n) other ≡ entry_at q other
 reserved_elsewhere q slot n other ne = get_or-set_other q.reserves slot other (Some n) None ne
-
--- this many blocks were free before, and this many are after -------------------------------
-
-module _ (q p : Budget) (slot before after : ℕ) (opened : entry_at q slot ≡ Some (reserve_at q slot)) (apart : spare p ≡ spare q) where
-  pub booking_given : before ≤ after → p ≡ giving q slot (after - before) → BooksSlot q p slot before after
-  booking_given more is = record {
-    all = rw is refl;
-    unused = rw is (omega arith);
-    apart = apart;
-    here = rw is (given_here q slot (reserve_at q slot) opened (after - before) ∙ ap (λ (n : ℕ). Some n) (omega arith));
-    elsewhere = λ other ne. rw is (given_elsewhere q slot (after - before) other ne);
-  }
-
-  pub booking_taken : after ≤ before → before ≡ q.free → p ≡ taking q slot (before - after) → BooksSlot q p slot before after
-  booking_taken fewer unused is = record {
-    all = rw is refl;
-    unused = rw is (omega arith);
-    apart = apart;
-    here = rw is (taken_here q slot (reserve_at q slot) opened (before - after) ∙ ap (λ (n : ℕ). Some n) (omega arith));
-    elsewhere = λ other ne. rw is (taken_elsewhere q slot (before - after) other ne);
-  }

@@ -93,9 +93,6 @@ module _ (s : Store) (b : Books) (booked : IsBooked s b) (k : ℕ) (r : TableEnt
       let table : remove W.table k ≡ table_of s.filestore (remove b.table k) = sym (remove_in s.filestore b.table k) in
       rw (same, over, table, is) refl
 
-  pub idle_not : IsTrue (is_live r.phase) → ⊥
-  idle_not live = both_ways (is_live r.phase) over live
-
   abbrev V : World
   V = record W { table = remove W.table k }
 

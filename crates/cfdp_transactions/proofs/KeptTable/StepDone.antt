@@ -1,6 +1,6 @@
 -- The program's table, leases and quota after an item of a live transaction was performed.
 use Rattle.std.proofs.Common.{◌≡◌, ◌≢◌, ℕ, zero, suc, ◌+◌, ◌-◌, ◌≤◌, ◌<◌, List, [], ◌∷◌, length, drop, take, refl, ap, sym, ◌∙◌, arith}
-use Rattle.std.proofs.lemmas.List.{length-take, length-map, nil_from_length}
+use Rattle.std.proofs.lemmas.List.{length-drop, length-take, length-map, nil_from_length}
 use Rattle.std.specs.Prelude.{Bool, true, false, ◌||◌, ◌==◌, ℤ, Some, None, slice_get, slice_set, IsTrue, IsFalse, if◌then◌else◌}
 use Rattle.std.proofs.lemmas.Bool.Decides.{nat_tests}
 use Rattle.std.proofs.lemmas.Option.{slice_get_within}
@@ -14,7 +14,7 @@ use Rattle.cfdp_actions.specs.Store.{Store, free_blocks, with_changes}
 use Rattle.cfdp_quota.specs.Budget.{Budget, entry_at, reserve_at, spare, used, closing}
 use Rattle.cfdp_leases.specs.Leases.{without_grant}
 use Rattle.cfdp_transactions.specs.Received.{Received, staged_of}
-use Rattle.cfdp_transactions.specs.Pieces.{Ranges, received_in}
+use Rattle.cfdp_transactions.specs.Pieces.{received_in}
 use Rattle.cfdp_transactions.specs.Entry.{Phase, Executing, Done, is_live, Entry, reserve, blocks_left, spend}
 use Rattle.cfdp_transactions.specs.Execution.{is_install, noted, phase_before, entry_after, replied, stepped}
 use Rattle.cfdp_transactions.specs.Events.{Reply}
@@ -39,12 +39,6 @@ pub drop_get : {X : Type 0} (n : ℕ) (xs : List X) (x : X) → slice_get xs n �
 drop_get n [] x h = absurd cc
 drop_get zero (y ∷ xs) x h = let q : y ≡ x = cc in rw q refl
 drop_get (suc n) (y ∷ xs) x h = drop_get n xs x h
-
-drop_length : {X : Type 0} (xs : List X) (n : ℕ) → length (drop n xs) ≡ length xs - n
-drop_length [] zero = omega arith
-drop_length [] (suc n) = omega arith
-drop_length (x ∷ xs) zero = omega arith
-drop_length (x ∷ xs) (suc n) = omega (arith, drop_length xs n)
 
 -- the last item, and what is after it
 following_last : (n : ℕ) (items : List Item) (last : Bool) → (IsTrue last → length items ≡ 0) → (IsFalse last → length items ≢ 0) →
@@ -73,9 +67,6 @@ counted_request (Perform request) items h = refl
 both_none : (b : Bool) (xs : List ℕ) → xs ≡ [] → (if b then received_in [] xs else []) ≡ []
 both_none true xs is = rw is refl
 both_none false xs is = refl
-
-staged_none : (ranges : Ranges) (xs : List ℕ) → xs ≡ [] → received_in ranges xs ≡ []
-staged_none ranges xs is = rw is refl
 
 module _ (laws : LowerLaws) (s : Store) (b : Books) (sound : Sound (world_of s b)) (booked : IsBooked s b) (k : ℕ) (r : TableEntryFields)
     (at : slice_get b.table k ≡ Some r)
@@ -201,7 +192,7 @@ module _ (laws : LowerLaws) (s : Store) (b : Books) (sound : Sound (world_of s b
     entry_now : entry_in G now ≡ entry_after e n item items o
     entry_now =
         let g = gone laws W sound k e n item items at_k executing left in
-        let following = drop_length r.items (suc n) in
+        let following = length-drop (suc n) r.items in
         let received = both_none (is_live now.phase) (staged_in G r.slot) none_staged ∙ sym (nil_from_length _ g.none) in
         let all : IsTrue last → length items ≡ 0 = λ h. let q : (suc n == length r.items) ≡ true = sym is_last ∙ h in grind (arith, nat_tests, following) in
         let some : IsFalse last → length items ≢ 0 = λ h z. let q : (suc n == length r.items) ≡ false = sym is_last ∙ h in

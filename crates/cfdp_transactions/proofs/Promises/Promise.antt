@@ -2,14 +2,14 @@
 use Rattle.std.proofs.Common.{◌≡◌, ℕ, zero, suc, List, [], ◌∷◌, drop, ◌⊎◌, refl, ap, sym, ◌∙◌, append-nil}
 use Rattle.cfdp_transactions.specs.Config.{Config}
 use Rattle.std.specs.Prelude.{map, Option, Some, None, slice_get, true, not, IsTrue, IsFalse}
-use Rattle.std.proofs.lemmas.Bool.{both_ways, cases_eq, and_parts, not-true}
+use Rattle.std.proofs.lemmas.Bool.{both_ways, and_parts, not-true}
 use mathlib.Core.Logic.{inl, inr}
 use Rattle.cfdp_status.specs.declared.status.Status.TheVariants.{Successful}
 use Rattle.cfdp_status.specs.declared.transaction.TransactionId.{TransactionId}
 use Rattle.cfdp_actions.specs.Filestore.{after}
 use Rattle.cfdp_actions.specs.Actions.{Item, succeeded}
 use Rattle.cfdp_tlv.specs.Values.{RequestFields, ResponseFields}
-use Rattle.cfdp_transactions.specs.Entry.{Phase, Receiving, Awaiting, Executing, Refused, Done, Ended, is_executing, is_receiving, Entry, name_of}
+use Rattle.cfdp_transactions.specs.Entry.{Phase, Receiving, Awaiting, Executing, Refused, Done, Ended, is_executing, is_receiving, Entry}
 use Rattle.cfdp_transactions.specs.Events.{Event, MetadataCame, DataCame, EofCame, Step, Cancel, Check, Take, Reply}
 use Rattle.cfdp_transactions.specs.Outcome.{answered, responses_of}
 use Rattle.cfdp_transactions.specs.World.{World, index_of, entry_of, change_at}
@@ -19,7 +19,7 @@ use Rattle.cfdp_transactions.specs.code.LowerLaws.{LowerLaws}
 use Rattle.cfdp_transactions.specs.Sound.{all_successful, IsHonest, Sound}
 use Rattle.cfdp_transactions.specs.Headline.{IsPerformed, IsSuccessful, Promised, AtEach}
 use Rattle.cfdp_transactions.proofs.Indexes.{set_cases, get_same}
-use Rattle.cfdp_transactions.proofs.Finding.{found_name, absent_name}
+use Rattle.cfdp_transactions.proofs.Finding.{found_name}
 use Rattle.cfdp_transactions.proofs.Lookups.{set_own}
 use Rattle.cfdp_transactions.proofs.Promises.Carried.{next_carried, next_others}
 use Rattle.cfdp_transactions.proofs.Promises.Admissions.{next_admitted}
@@ -45,16 +45,6 @@ get_drop zero [] ys x h = absurd cc
 get_drop zero (z ∷ xs) ys x h = cc
 get_drop (suc n) [] ys x h = absurd cc
 get_drop (suc n) (z ∷ xs) ys x h = get_drop n xs ys x h
-
--- an entry is where its name is found
-index_there : (W : World) → Sound W → (k : ℕ) (e : Entry) → slice_get W.table k ≡ Some e → (o : Option Entry) → slice_get W.table (index_of W (name_of e)) ≡ o →
-    k ≡ index_of W (name_of e)
-index_there W s k e at None none = absurd (absent_name W.table (name_of e) none k e at refl)
-index_there W s k e at (Some d) there = elim (cases_eq k (index_of W (name_of e)))
-    [ inl same ↦ same | inr other ↦ absurd (s.names k (index_of W (name_of e)) e d at there other (sym (found_name W.table (name_of e) d there))) ]
-
-found_itself : (W : World) → Sound W → (k : ℕ) (e : Entry) → slice_get W.table k ≡ Some e → k ≡ index_of W (name_of e)
-found_itself W s k e at = index_there W s k e at (slice_get W.table (index_of W (name_of e))) refl
 
 -- steps ------------------------------------------------------------------------------
 

@@ -1,5 +1,5 @@
 -- Octets that come: one gap more is filled, and what is kept once all are.
-use Rattle.std.proofs.Common.{◌≡◌, ℕ, ◌+◌, ◌-◌, max, ◌≤◌, ◌<◌, List, [], ◌∷◌, length, drop, get_or, refl, ap, sym, ◌∙◌, arith, length-drop, length-append, get_or-set_same, length-set}
+use Rattle.std.proofs.Common.{◌≡◌, ℕ, ◌+◌, ◌-◌, max, ◌≤◌, ◌<◌, List, [], ◌∷◌, length, drop, get_or, refl, ap, sym, ◌∙◌, arith, length-drop, length-append, get_or-set_same}
 use Rattle.std.proofs.lemmas.List.{length-replicate, get_or-map}
 use Rattle.std.specs.Prelude.{◌⊎◌, IsTrue, IsFalse, replicate, if◌then◌else◌, Option, Some, None, unwrap_or}
 use Rattle.std.specs.List.{slice_range}
@@ -25,9 +25,6 @@ staged_anew s slot x h = get_or-set_same s.filestore.staged slot x [] h
 pub staged_twice : (s : Store) (slot : ℕ) (x y : List ℕ) → with_changes (with_changes s (Stages slot x ∷ [])) (Stages slot y ∷ [])
     ≡ with_changes s (Stages slot y ∷ [])
 staged_twice s slot x y = ap (λ (staged : List (List ℕ)). record s { filestore = record s.filestore { staged = staged } }) (set-set s.filestore.staged slot x y)
-
-pub slots_stay : (s : Store) (slot : ℕ) (x : List ℕ) → length (with_changes s (Stages slot x ∷ [])).filestore.staged ≡ length s.filestore.staged
-slots_stay s slot x = length-set s.filestore.staged slot x
 
 -- one gap more -------------------------------------------------------------------------------
 

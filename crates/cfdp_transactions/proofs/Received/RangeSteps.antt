@@ -27,16 +27,6 @@ runs_drop zero from rs h = h
 runs_drop (suc k) from [] h = h
 runs_drop (suc k) from (r ∷ rs) h = runs_drop k from rs (runs_sooner (r.1 + 1) from rs (omega (arith, h.0, h.1)) h.2)
 
--- joining: the range that comes is before the pending one, touches it, or is after it
-pub joins_apart : (a b : ℕ) (r : ℕ × ℕ) (rs : Ranges) → r.1 < a → with_range a b (r ∷ rs) ≡ r ∷ with_range a b rs
-joins_apart a b r rs h = rw (lt-ltb r.1 a h) refl
-
-pub joins_touching : (a b : ℕ) (r : ℕ × ℕ) (rs : Ranges) → a ≤ r.1 → r.0 ≤ b → with_range a b (r ∷ rs) ≡ with_range (min a r.0) (max b r.1) rs
-joins_touching a b r rs h k = rw (le-ltb r.1 a h, le-ltb b r.0 k) refl
-
-pub joins_following : (a b : ℕ) (r : ℕ × ℕ) (rs : Ranges) → a ≤ r.1 → b < r.0 → with_range a b (r ∷ rs) ≡ (a, b) ∷ r ∷ rs
-joins_following a b r rs h k = rw (le-ltb r.1 a h, lt-ltb b r.0 k) refl
-
 -- the gaps: one more where the range does not begin at once
 pub gap_before : (at : ℕ) (r : ℕ × ℕ) (rs : Ranges) (limit : ℕ) → at < r.0 → between at (r ∷ rs) limit ≡ (at, r.0) ∷ between r.1 rs limit
 gap_before at r rs limit h = rw (lt-ltb at r.0 h) refl
@@ -87,16 +77,6 @@ gap_found ranges from at to r left h room s = record {
         ∙ or_left _ _ (inside_true r.0 r.1 r.0 (omega arith) s.runs.1)))
     | inr later ↦ inl (omega arith)
   ];
-}
-
-pub last_gap : (ranges : Ranges) (from at to : ℕ) → at < to → IsSearched ranges from at [] → IsNextGap ranges from to (at, to)
-last_gap ranges from at to room s = record {
-  from = s.reached;
-  some = room;
-  to = omega arith;
-  before = s.all;
-  missing = λ i lo hi. s.later i lo;
-  longest = inl refl;
 }
 
 pub all_found : (ranges : Ranges) (from at to : ℕ) (left : Ranges) → to ≤ at → IsSearched ranges from at left → HasAll ranges from to

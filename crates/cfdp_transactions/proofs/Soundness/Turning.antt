@@ -1,6 +1,6 @@
 -- Events that change no path: an entry moves to another phase, or is done without having had an item.
 use Rattle.std.proofs.Common.{◌≡◌, ◌≢◌, ℕ, suc, ◌≤◌, [], ◌∷◌, length, refl, ap, sym, ◌∙◌, arith}
-use Rattle.std.specs.Prelude.{Option, Some, slice_get, Bool, true, false, IsTrue, IsFalse, IsSome}
+use Rattle.std.specs.Prelude.{Option, Some, slice_get, Bool, true, false, IsTrue, IsSome}
 use Rattle.std.proofs.lemmas.Bool.{both_ways}
 use Rattle.std.proofs.lemmas.List.{nil_from_length}
 use Rattle.cfdp_actions.specs.Filestore.{Filestore, blocks, IsRooted}
@@ -22,9 +22,6 @@ use Rattle.cfdp_transactions.proofs.Soundness.OwnChange.{MovesTo, change_moves}
 
 pub reserve_live : (e : Entry) → IsTrue (is_live e.phase) → reserve e ≡ blocks_left e.blocks_granted e.blocks_spent
 reserve_live e live = rw live
-
-pub reserve_final : (e : Entry) → IsFalse (is_live e.phase) → reserve e ≡ 0
-reserve_final e final = rw final
 
 pub live_counted : (phase : Phase) → IsTrue (is_live phase) → IsTrue (is_counted phase)
 live_counted Receiving h = refl
