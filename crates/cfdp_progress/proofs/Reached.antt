@@ -142,9 +142,6 @@ stored_own W id e received Done here is lacks = stores_own W id e received here 
 stored_own W id e received (Ended condition) here is lacks =
     stores_own W id e received here (λ checks q. let never : Ended condition ≡ Awaiting checks = sym is ∙ q in absurd cc)
 
-same_own : (W : World) (id : TransactionId) (reply : Reply) → LacksAt W.config W id → OwnLacks W id (W, reply)
-same_own W id reply lacks = lacks
-
 data_own : (W : World) (id : TransactionId) (piece : FileDataFields) (o : Option Entry) → LacksAt W.config W id → entry_of W id ≡ o →
     OwnLacks W id (data_came W (index_of W id) piece o)
 data_own W id piece None lacks here = lacks

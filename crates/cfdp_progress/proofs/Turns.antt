@@ -140,11 +140,6 @@ unmoved_eof W h eof other e a none =
     cond_both (h.destination == W.config.entity) (eof_came W k other (entry_of W (id_of h))) (W, Reply.NotForUs) (λ (b : World × Reply). b.0 ≡ W)
     (λ q. ap (λ (o : Option Entry). (eof_came W k other o).0) a.here ∙ same) (λ q. refl)
 
--- by the session that is found, which is known
-abbrev QuietBy : State → TransactionId → SessionFields → (Option SessionFields → List Event) → (Option SessionFields → List SessionFields) →
-    Option SessionFields → Type 0
-QuietBy R id s es ss o = Quiet R.world id s false (run R.world (es o)) (ss o)
-
 quiet_metadata_stage : (R L : State) (U : World) (rs : List Reply) (h : Header) (m : MetadataFields) (e : Entry) (s : SessionFields) (stage : Stage) →
     session_of R (id_of h) ≡ Some s → entry_of R.world (id_of h) ≡ Some e → L.sessions ≡ R.sessions →
     stage ≡ Known →

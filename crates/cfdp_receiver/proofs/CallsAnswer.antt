@@ -1,6 +1,6 @@
 -- What the calls of a receiver do.
 use Rattle.std.specs.Prelude.{slice_get, max, map, is_some, IfSome, IfNone, IfOk, OnErr, Result, Ok, Err}
-use Rattle.std.proofs.Common.{◌≡◌, ℕ, zero, suc, ◌≤◌, ◌<◌, List, [], ◌∷◌, length, true, false, Option, Some, None, refl, sym, ap, subst, ◌∙◌, arith}
+use Rattle.std.proofs.Common.{◌≡◌, ℕ, zero, suc, ◌<◌, List, [], ◌∷◌, length, true, false, Option, Some, None, refl, sym, ap, subst, ◌∙◌, arith}
 use Rattle.cfdp_sessions.specs.Sessions.{SessionFields}
 use Rattle.cfdp_transactions.specs.Entry.{Entry, name_of}
 use Rattle.cfdp_transactions.specs.World.{World}
@@ -62,10 +62,6 @@ some_there (Some index) ss first some here none = sym (ap is_some some ∙ some_
 pub none_named : (es : List Entry) → is_some (slice_get (map name_of es) 0) ≡ false → es ≡ []
 none_named [] none = refl
 none_named (e ∷ es) none = absurd cc
-
-pub some_named : (es : List Entry) → is_some (slice_get (map name_of es) 0) ≡ true → 1 ≤ length es
-some_named [] some = absurd cc
-some_named (e ∷ es) some = omega arith
 
 -- ---- octets that come
 

@@ -27,7 +27,7 @@ use Rattle.cfdp_transactions.specs.declared.outcome.Outcome.{Outcome}
 use Rattle.cfdp_transactions.specs.declared.reply.Reply.{Reply}
 use Rattle.cfdp_transactions.specs.declared.reply.Reply.TheVariants as Replies
 use Rattle.cfdp_transactions.proofs.Options.{none_of, unless_some}
-use Rattle.cfdp_receiver.specs.declared.answer.Became.TheVariants.{Nothing, Said}
+use Rattle.cfdp_receiver.specs.declared.answer.Became.TheVariants.{Said}
 use Rattle.cfdp_receiver.specs.declared.answer.Conclusion.{Conclusion}
 use Rattle.cfdp_receiver.specs.declared.answer.Indication.TheVariants as tells
 use Rattle.cfdp_receiver.specs.declared.answer.Word.{Word}
@@ -126,13 +126,6 @@ over_stage R s first stage =
     ]
 
 -- ---- the turn
-
-pub finish_none : (M : StateMachineFields) (a : AnswerParts) (now : ℕ) → first_over M.state.world M.state.sessions ≡ None → a ≡ silent Nothing →
-    Turns (at_moment now M) (at_moment now M) a (Finish now)
-finish_none M a now none said =
-    let L = at_moment now M in
-    turns_by L L a (Finish now) [] (λ (V : World) (rs : List Reply). Turning.keeps L.state (Turning.quiet Nothing))
-    (ap take_of none) (λ (V : World) (rs : List Reply). ap (Turning.finish_parts L.state) none) refl refl refl refl refl (ap (answer_in L) said)
 
 taken_in : (W : World) (ss : List SessionFields) (s : SessionFields) (stage : Stage) → first_over W ss ≡ Some s → s.stage ≡ stage →
     take_of (first_over W ss) ≡ where_known stage (Take (session_id s) ∷ [])

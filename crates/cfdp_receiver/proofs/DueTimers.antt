@@ -21,7 +21,6 @@ use Rattle.cfdp_receiver.specs.State.{State, JointPhase, At_held, At_receiving, 
 use Rattle.cfdp_receiver.specs.Due.{IsSet, expiry_by, has_passed, is_receiving_at, terms_at, Due, Nothing_due, due_by, expiry_of, first_due, is_alive_due}
 use Rattle.cfdp_receiver.specs.StateMachine.{is_any_due}
 use Rattle.cfdp_receiver.specs.code.StateMachine.{IsTaking, is_expired, timer_of}
-use Rattle.std.proofs.Math.Bool.{or-false}
 
 -- ---- the first that is due
 
@@ -79,11 +78,6 @@ any_more R ss i s before after stage alive e was of_stage of_alive both =
     ∙ either_of before stage alive (is_any_due later)
     ∙ ap (λ (b : Bool). b || is_any_due later) (sym both)
 
-pub any_of_all : (R : State) (ss : List SessionFields) (i : ℕ) (come : Bool) → length ss ≤ i →
-    is_any_due (first_due R ss) ≡ (come || is_any_due (first_due R (drop i ss))) → come ≡ is_any_due (first_due R ss)
-any_of_all R ss i come over was =
-    sym (was ∙ ap (λ (due : Due). come || is_any_due due) (at_drop_all (first_due R) ss i over) ∙ or-false come)
-
 -- ---- what a timer that is due says of its session
 
 phase_is_taking : (phase : Phase) → is_receiving_at (at_phase phase) ≡ true → IsTrue (takes_data phase)
@@ -100,13 +94,6 @@ stage_is_taking stages.Known None e = absurd cc
 stage_is_taking stages.Known (Some x) e = phase_is_taking x.phase e
 stage_is_taking (stages.Over ending) entry e = absurd cc
 stage_is_taking stages.Waiting entry e = absurd cc
-
--- the core knows a transaction that is in Receiving
-pub receiving_is_known : (stage : Stage) (entry : Option Entry) → is_receiving_at (at_stage stage entry) ≡ true → stage ≡ stages.Known
-receiving_is_known (stages.Held eof) entry e = absurd cc
-receiving_is_known stages.Known entry e = refl
-receiving_is_known (stages.Over ending) entry e = absurd cc
-receiving_is_known stages.Waiting entry e = absurd cc
 
 -- a Keep Alive PDU is due while file data is taken
 pub alive_is_taking : (R : State) (s : SessionFields) → is_alive_due R s ≡ true → IsTaking (entry_of R.world (session_id s))

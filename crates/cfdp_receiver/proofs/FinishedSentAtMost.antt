@@ -102,10 +102,6 @@ waits_if : (R : State) (id : TransactionId) (s : SessionFields) (b : Bool) (p q 
 waits_if R id s true p q hp hq = hp
 waits_if R id s false p q hp hq = hq
 
-same_keeps : (R : State) (id : TransactionId) (s : SessionFields) (a : AnswerFields) → found R.sessions id ≡ Some s → a.finished ≡ [] →
-    Waits R id s (Turning.keeps R a)
-same_keeps R id s a e q = Same e q
-
 -- a PDU of this transaction, where its session waits
 ours_waits : (R : State) (h : Header) (s : SessionFields) (p : Turning.Parts) → found R.sessions (id_of h) ≡ Some s → Waits R (id_of h) s p →
     Waits R (id_of h) s (Turning.where_ours R h p)

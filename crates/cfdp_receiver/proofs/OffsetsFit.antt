@@ -1,5 +1,5 @@
 -- The offsets of a file that is received fit 32 bits, since its blocks fit the filestore.
-use Rattle.std.specs.Prelude.{replicate, unwrap_or, nat_le, if◌then◌else◌, All, IsTrue}
+use Rattle.std.specs.Prelude.{replicate, nat_le, if◌then◌else◌, All, IsTrue}
 use Rattle.std.proofs.Common.{◌≡◌, inl, inr, ℕ, ◌+◌, ◌-◌, ◌^◌, ◌≤◌, ◌<◌, Bool, true, false, List, [], ◌∷◌, length, Option, Some, None, refl, sym, ap, subst, arith}
 use Rattle.std.specs.Option.{option_map}
 use Rattle.std.specs.List.{filter}
@@ -101,10 +101,6 @@ pub progress_fits : (W : World) (id : TransactionId) (entry : Option Entry) → 
     (large : Bool) → progress_at entry < 256 ^ fss large
 progress_fits W id None sound few here taking large = fits_any large 0 (omega arith)
 progress_fits W id (Some e) sound few here taking large = fits_any large (progress e) (small W id e sound few here taking).0
-
-pub read_progress : (entry : Option Entry) → unwrap_or (option_map progress entry) 0 ≡ progress_at entry
-read_progress None = refl
-read_progress (Some e) = refl
 
 pub missing_fit : (W : World) (id : TransactionId) (low : ℕ) (entry : Option Entry) (rs : List SegmentRequest) → Sound W → W.config.blocks ≤ 65536 →
     entry_of W id

@@ -11,7 +11,6 @@ use Rattle.std.proofs.lemmas.Bool.{cases_lt, cond-true, lt-leb, false≢true}
 use Rattle.std.proofs.lemmas.List.{take_at, take-append-le, drop-append-le, take-append-drop, drop-drop, length-append, length-take, length-drop, length-map}
 use Rattle.std.proofs.lemmas.Nat.{div-mul-add}
 use Rattle.std.proofs.lemmas.List.Elements.{All-take, All-drop, All-get_or}
-use Rattle.std.proofs.lemmas.Option.{slice_get_past}
 use Rattle.cfdp_crc.specs.Seal.{plain_len, sealed}
 use Rattle.cfdp_crc.specs.declared.sealing.SealFault.{SealFault}
 use Rattle.cfdp_crc.specs.declared.sealing.SealFault.TheVariants.{NotAPdu, HasCrc, TooLong, NoRoom}
@@ -66,16 +65,6 @@ naks_next most low high rs some long =
     ∙ next_one (length rs) most low high rs long
     ∙ ap (λ (tail : List Nak). record { scope = (low, front_end most rs); requests = take most rs } ∷ tail)
     (same_fuel (length rs) (1 + length (drop most rs)) most (front_end most rs) high (drop most rs) some (omega (arith, length-drop most rs)) (omega arith))
-
-pub part_first : (most low high : ℕ) (rs requests : List SegmentRequest) (scope : SegmentRequest) → scope ≡ scope_of most low high rs → requests ≡ take most rs
-    →
-    slice_get (naks most low high rs) 0 ≡ Some (record { scope = scope; requests = requests })
-part_first most low high rs requests scope s r = rw (s, r, fueled most low high rs) refl
-
-pub part_past : (most low high number : ℕ) (rs : List SegmentRequest) → 1 ≤ number → length rs ≤ most → slice_get (naks most low high rs) number ≡ None
-part_past most low high number rs later short =
-    ap (λ (xs : List Nak). slice_get xs number) (fueled most low high rs ∙ last_one (length rs) most low high rs short)
-    ∙ slice_get_past (record { scope = (low, high); requests = rs } ∷ []) number (omega arith)
 
 get_next : {X : Type 0} (x : X) (xs : List X) (n : ℕ) → 1 ≤ n → slice_get (x ∷ xs) n ≡ slice_get xs (n - 1)
 get_next x xs zero h = absurd (omega arith)
