@@ -11,6 +11,27 @@ use std::error::Error;
 use std::fmt;
 use std::marker::Model;
 
+/// The fewest blocks of a filestore.
+const LEAST_BLOCKS: u32 = 16;
+
+/// The most blocks of a filestore.
+const MOST_BLOCKS: u32 = 65_536;
+
+/// The highest cap: the payload of the most blocks.
+const MOST_CAP: u64 = 7_864_320;
+
+/// The lowest check limit.
+const LEAST_CHECKS: u32 = 1;
+
+/// The highest check limit.
+const MOST_CHECKS: u32 = 1_000;
+
+/// The fewest entries of a journal.
+const LEAST_JOURNAL: u32 = 16;
+
+/// The most entries of a journal.
+const MOST_JOURNAL: u32 = 1_000_000;
+
 /// What CCSDS 727.0-B-5 §8 leaves to the management information base of a receiving entity. All numbers are within
 /// their limits. Contracts see its values.
 #[derive(Debug, Drop)]
@@ -136,16 +157,16 @@ impl Config {
         ensures ok { OnOk result (config_fault blocks cap checks journal ≡ None) }
         ensures err { IfErr result (λ fault. config_fault blocks cap checks journal ≡ Some fault) }
     {
-        if blocks < 16 || 65_536 < blocks {
+        if blocks < LEAST_BLOCKS || MOST_BLOCKS < blocks {
             return Err(ConfigFault::BadBlocks);
         }
-        if 7_864_320 < cap {
+        if MOST_CAP < cap {
             return Err(ConfigFault::BadCap);
         }
-        if checks < 1 || 1_000 < checks {
+        if checks < LEAST_CHECKS || MOST_CHECKS < checks {
             return Err(ConfigFault::BadChecks);
         }
-        if journal < 16 || 1_000_000 < journal {
+        if journal < LEAST_JOURNAL || MOST_JOURNAL < journal {
             return Err(ConfigFault::BadJournal);
         }
         Ok(Config {
