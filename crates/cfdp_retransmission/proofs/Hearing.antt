@@ -1,6 +1,6 @@
 -- Rounds in which the sender may miss some of the NAK PDUs. Whatever it hears, its pieces end by the limit; and where none of them is lost, none is
 -- passed over either, so that no more parts are there than before.
-use Rattle.std.specs.Prelude.{⊤, if◌then◌else◌, ◌||◌, nat_lt, Bool, true, false, None, is_some}
+use Rattle.std.specs.Prelude.{if◌then◌else◌, ◌||◌, nat_lt, Bool, true, false, None, is_some}
 use Rattle.std.specs.List.{AllByRecursion, flat_map}
 use Rattle.std.proofs.Common.{◌≡◌, ◌⊎◌, inl, inr, ℕ, zero, suc, ◌+◌, ◌-◌, ◌<◌, ◌≤◌, List, [], ◌∷◌, ◌++◌, map, length, refl, sym, ap, subst, ◌∙◌, arith}
 use Rattle.std.proofs.lemmas.Bool.{cond_both, cases_lt, cases_Bool, lt-ltb}
@@ -8,8 +8,8 @@ use Rattle.cfdp_transactions.specs.Received.{Received, kept_with, brought, piece
 use Rattle.cfdp_transactions.specs.ReceivedLaws.{octet_at, IsIn, AreRuns}
 use Rattle.cfdp_transactions.proofs.Received.OctetsAndGaps.{first_stays, gaps_are_missing, gaps_are_runs}
 use Rattle.cfdp_retransmission.specs.Naks.{SegmentRequest, Nak, naks}
-use Rattle.cfdp_retransmission.specs.Coming.{Piece, keep, keep_all, continues, zero_missing, all_asked}
-use Rattle.cfdp_retransmission.specs.Rounds.{Asking, Sending, Exchange, heard_requests, Covers, AnswersInOrder, IsExchange, arrived, lost, is_any_lost, lost_of, kept_after_round, asked_for, AreRounds, after_rounds, lost_in, spare_round, WholeAfterLosses}
+use Rattle.cfdp_retransmission.specs.Coming.{Piece, keep, keep_all, continues, zero_missing}
+use Rattle.cfdp_retransmission.specs.Rounds.{Asking, Sending, Exchange, heard_requests, Covers, AnswersInOrder, IsExchange, arrived, lost, is_any_lost, lost_of, kept_after_round, asked_for, AreRounds, after_rounds, spare_round, WholeAfterLosses}
 use Rattle.cfdp_retransmission.proofs.Sequences.{asks_for_all}
 use Rattle.cfdp_retransmission.proofs.Arriving.{kept_is, stays, room, whole_from, comes}
 use Rattle.cfdp_retransmission.proofs.Losing.{holes, few_parts, no_hole, brings_some, spare_is, no_spare, covers_rise, arrived_both, lost_both, from_start, in_rest, there_or_not, one_round}
@@ -375,106 +375,3 @@ whole_after_losses most limit rs (round ∷ rounds) some few short all enough =
       | inl whole ↦ whole_stays most limit after rounds some whole all.1
       | inr less ↦ whole_after_losses most limit after rounds some fit.few fit.short all.1 (omega (arith, less, enough))
     ]
-
--- ---- two cases of the law
-
--- at most the PDUs that are lost are counted
-abbrev naks_lost : List Asking → ℕ
-naks_lost [] = 0
-naks_lost (a ∷ more) = one_if a.is_lost + naks_lost more
-
-any_by : (b : Bool) (rest : Bool) (n : ℕ) → one_if rest ≤ n → one_if (b || rest) ≤ one_if b + n
-any_by true rest n h = omega arith
-any_by false rest n h = omega (arith, h)
-
-any_at_most : (asking : List Asking) → one_if (is_any_lost asking) ≤ naks_lost asking
-any_at_most [] = omega arith
-any_at_most (a ∷ more) = any_by a.is_lost (is_any_lost more) (naks_lost more) (any_at_most more)
-
-counts_pdus : (round : Exchange) → lost_of round ≤ lost round.sent + lost round.sent_again + naks_lost round.asking
-counts_pdus round = omega (arith, any_at_most round.asking)
-
--- where the sender gets every NAK PDU, pieces alone are counted
-abbrev AreAnswered : ℕ → ℕ → Received → List (List Sending) → Type 0
-AreAnswered most limit rs [] = ⊤
-AreAnswered most limit rs (sent ∷ rounds) = AnswersInOrder (all_asked most limit rs) sent × AreAnswered most limit (keep_all rs (arrived sent)) rounds
-
-abbrev after_pieces : Received → List (List Sending) → Received
-after_pieces rs [] = rs
-after_pieces rs (sent ∷ rounds) = after_pieces (keep_all rs (arrived sent)) rounds
-
-abbrev pieces_lost : List (List Sending) → ℕ
-pieces_lost [] = 0
-pieces_lost (sent ∷ rounds) = lost sent + pieces_lost rounds
-
-abbrev each_heard_of : List (List SegmentRequest) → List Asking
-each_heard_of naks = map (λ (requests : List SegmentRequest). record { requests = requests; is_lost = false }) naks
-
-abbrev none_heard_of : List (List SegmentRequest) → List Asking
-none_heard_of naks = map (λ (requests : List SegmentRequest). record { requests = requests; is_lost = true }) naks
-
-same_again : (naks : List (List SegmentRequest)) → map (λ (a : Asking). a.requests) (none_heard_of naks) ≡ naks
-same_again [] = refl
-same_again (nak ∷ naks) = ap (λ (rest : List (List SegmentRequest)). nak ∷ rest) (same_again naks)
-
-none_of_them : (naks : List (List SegmentRequest)) → heard_requests (none_heard_of naks) ≡ []
-none_of_them [] = refl
-none_of_them (nak ∷ naks) = none_of_them naks
-
-abbrev exchanges : ℕ → ℕ → Received → List (List Sending) → List Exchange
-exchanges most limit rs [] = []
-exchanges most limit rs (sent ∷ rounds) =
-    record {
-      asking = each_heard_of (asked_for most limit rs);
-      sent = sent;
-      asking_again = none_heard_of (asked_for most limit rs);
-      sent_again = [];
-    } ∷ exchanges most limit (keep_all rs (arrived sent)) rounds
-
-same_requests : (naks : List (List SegmentRequest)) → map (λ (a : Asking). a.requests) (each_heard_of naks) ≡ naks
-same_requests [] = refl
-same_requests (nak ∷ naks) = ap (λ (rest : List (List SegmentRequest)). nak ∷ rest) (same_requests naks)
-
-all_of_them : (naks : List (List SegmentRequest)) → heard_requests (each_heard_of naks) ≡ flat naks
-all_of_them [] = refl
-all_of_them (nak ∷ naks) = ap (λ (rest : List SegmentRequest). nak ++ rest) (all_of_them naks)
-
-none_lost : (naks : List (List SegmentRequest)) → is_any_lost (each_heard_of naks) ≡ false
-none_lost [] = refl
-none_lost (nak ∷ naks) = none_lost naks
-
-are_rounds : (most limit : ℕ) (rs : Received) (rounds : List (List Sending)) → AreAnswered most limit rs rounds →
-    AreRounds most limit rs (exchanges most limit rs rounds)
-are_rounds most limit rs [] are = tt
-are_rounds most limit rs (sent ∷ rounds) are =
-    let asks : all_asked most limit rs ≡ heard_requests (each_heard_of (asked_for most limit rs)) =
-    sym (flat_is (λ (nak : Nak). nak.requests) (naks most 0 limit (gaps_below limit rs))) ∙ sym (all_of_them (asked_for most limit rs)) in (
-      record {
-        asks = same_requests (asked_for most limit rs);
-        in_order = subst (λ (requests : List SegmentRequest). AnswersInOrder requests sent) asks are.0;
-        asks_again = same_again (asked_for most limit rs);
-        in_order_again = subst (λ (requests : List SegmentRequest). AnswersInOrder requests []) (sym (none_of_them (asked_for most limit rs))) refl;
-      },
-      are_rounds most limit (keep_all rs (arrived sent)) rounds are.1,
-    )
-
-lost_same : (most limit : ℕ) (rs : Received) (rounds : List (List Sending)) → lost_in (exchanges most limit rs rounds) ≡ pieces_lost rounds
-lost_same most limit rs [] = refl
-lost_same most limit rs (sent ∷ rounds) =
-    omega (arith, ap one_if (none_lost (asked_for most limit rs)), lost_same most limit (keep_all rs (arrived sent)) rounds)
-
-length_same : (most limit : ℕ) (rs : Received) (rounds : List (List Sending)) → length (exchanges most limit rs rounds) ≡ length rounds
-length_same most limit rs [] = refl
-length_same most limit rs (sent ∷ rounds) = omega (arith, length_same most limit (keep_all rs (arrived sent)) rounds)
-
-after_same : (most limit : ℕ) (rs : Received) (rounds : List (List Sending)) →
-    after_rounds rs (exchanges most limit rs rounds) ≡ after_pieces rs rounds
-after_same most limit rs [] = refl
-after_same most limit rs (sent ∷ rounds) = after_same most limit (keep_all rs (arrived sent)) rounds
-
-pub where_all_are_heard : (most limit : ℕ) (rs : Received) (rounds : List (List Sending)) → 1 ≤ most → pieces rs ≤ 32 → length rs ≤ limit →
-    AreAnswered most limit rs rounds → pieces_lost rounds + spare_round rs < length rounds → gaps_below limit (after_pieces rs rounds) ≡ []
-where_all_are_heard most limit rs rounds some few short are enough =
-    ap (gaps_below limit) (sym (after_same most limit rs rounds))
-    ∙ whole_after_losses most limit rs (exchanges most limit rs rounds) some few short (are_rounds most limit rs rounds are)
-    (omega (arith, enough, lost_same most limit rs rounds, length_same most limit rs rounds))
