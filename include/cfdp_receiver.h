@@ -17,7 +17,7 @@
  *
  * THE LONGEST CALLS are those of the engine for the same event (cfdp.h): cfdp_receiver_receive is as long as
  * cfdp_receive, cfdp_receiver_work as cfdp_step, cfdp_receiver_cancel as cfdp_cancel, cfdp_receiver_read as cfdp_read,
- * and cfdp_receiver_expire as cfdp_cancel where a timer has reached its limit. What a receiver adds is less than 15000
+ * and cfdp_receiver_expire as cfdp_cancel where a timer has reached its limit. What a receiver adds is less than 20000
  * instructions, beside 63 other transactions too, and for a PDU with a CRC some 9 for each octet: 592000 for the
  * longest. But for transactions of 64 renames of long paths cfdp_receiver_finish takes up to 242000 for one,
  * cfdp_receiver_write up to 251000 for its Finished PDU with a CRC, and cfdp_receiver_free up to 27000000 where 64 of
