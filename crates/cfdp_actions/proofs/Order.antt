@@ -3,6 +3,7 @@
 --     node_at-becomes                           after one change of a path
 --     get_kept                                  at the paths that pass a test
 --     kept_some                                 what is kept passes, and is there
+--     still_there                               what is there still is with an entry more
 use Rattle.std.proofs.Common.{◌≡◌, refl, sym, ◌∙◌, ap, subst, Bool, true, false, cond, Option, Some, None, Ordering, Equal, is_eq, is_some, true≢false}
 use Rattle.std.specs.Cmp.{eq_by_cmp_equiv, Equal-is}
 use Rattle.std.specs.FinMap.{get, get-insert, get-remove, retain_keys, get-retain_keys}
@@ -43,3 +44,7 @@ get_kept F test q = get-retain_keys F.nodes test q (λ x e. ap test (sym (path_a
 pub kept_some : {X : Type 0} (b : Bool) (x : Option X) → is_some (cond b x None) ≡ true → (b ≡ true) × (is_some x ≡ true)
 kept_some true x some = (refl, some)
 kept_some false x some = absurd (true≢false (sym some))
+
+pub still_there : {X : Type 0} (b : Bool) (x : X) (o : Option X) → is_some o ≡ true → is_some (cond b (Some x) o) ≡ true
+still_there true x o some = refl
+still_there false x o some = some

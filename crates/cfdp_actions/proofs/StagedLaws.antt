@@ -2,7 +2,7 @@
 --     octets_of-set        one of them changed
 --     octets_of-at         one of them
 --     extended_is          what `resize` leaves
-use Rattle.std.proofs.Common.{◌≡◌, ℕ, ◌-◌, ◌<◌, ◌≤◌, List, [], ◌++◌, length, take, set, get_or, replicate, sym, ap, ◌∙◌, arith, Vec, Result, Ok, Err, OnErr}
+use Rattle.std.proofs.Common.{◌≡◌, ℕ, ◌-◌, ◌<◌, ◌≤◌, List, [], ◌++◌, length, take, set, get_or, replicate, sym, ap, ◌∙◌, arith, Vec}
 use Rattle.std.specs.declared.alloc.Global.{Global}
 use Rattle.std.proofs.lemmas.List.{map-set, get_or-map, take_all, set-get_or}
 use Rattle.cfdp_actions.specs.Store.{extended}
@@ -24,7 +24,3 @@ octets_of-same vs i v w h e same =
 
 pub extended_is : (octets : List ℕ) (n size : ℕ) → n ≡ length octets → n ≤ size → take size octets ++ replicate (size - n) 0 ≡ extended octets size
 extended_is octets n size e h = ap (λ xs. xs ++ replicate (size - n) 0) (take_all size octets (omega arith)) ∙ ap (λ k. octets ++ replicate (size - k) 0) e
-
-pub on_err : {T E : Type 0} (r : Result T E) (P : Type 0) → P → OnErr r P
-on_err (Ok x) P p = tt
-on_err (Err e) P p = p

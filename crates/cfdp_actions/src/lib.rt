@@ -26,6 +26,6 @@ pub use filestore::Filestore;
 pub use kind::{Entry, ExistingNode, Kind};
 pub use list_store::ListStore;
 pub use performed::{Performed, perform, perform_allowed};
-pub use protected::Protected;
+pub use protected::{MOST_PREFIXES, Protected};
 pub use refusals::{Kinds, refusal};
 pub use request::Request;

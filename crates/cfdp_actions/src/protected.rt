@@ -14,8 +14,8 @@ use arrayvec::ArrayVec;
 use cfdp_paths::Path;
 use std::marker::Model;
 
-/// How many prefixes can be protected.
-pub const PREFIXES: usize = 8;
+/// The most paths that a configuration protects.
+pub const MOST_PREFIXES: usize = 8;
 
 /// Up to eight paths, the prefixes: what is at or below one of them is neither changed nor removed, and what is
 /// above one of them is not moved. New paths may be made there.
@@ -24,7 +24,7 @@ pub const PREFIXES: usize = 8;
 /// each prefix, of which there are eight at most.
 #[derive(Debug, Drop)]
 pub struct Protected {
-    prefixes: ArrayVec<Option<Path>, PREFIXES>,
+    prefixes: ArrayVec<Option<Path>, MOST_PREFIXES>,
 }
 
 impl Model for Protected {

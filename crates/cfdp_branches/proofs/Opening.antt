@@ -1,5 +1,5 @@
 -- A branch that is opened below a name: what it has then.
-use Rattle.std.proofs.Common.{◌≡◌, refl, sym, ◌∙◌, ap, subst, ℕ, true, cond, is_some, IsTrue, true≢false, OnErr, Result, Ok, Err, Option, List, [], ◌∷◌, get_or, set}
+use Rattle.std.proofs.Common.{◌≡◌, refl, sym, ◌∙◌, ap, subst, ℕ, true, cond, is_some, IsTrue, true≢false, Option, List, [], ◌∷◌, get_or, set}
 use Rattle.std.specs.FinMap.{find}
 use Rattle.cfdp_paths.specs.Paths.{Name, Path, path_cmp}
 use Rattle.cfdp_paths.specs.PathMaps.{IsOrdered}
@@ -60,7 +60,3 @@ module _ {T : Type 0} (self : Branches T) (v : Option T) (n : Name) (q names : P
       by_opened : {ds : List (Name × Branches T)} → IsOpened n (twigs_of ts) ds → is_some (find path_cmp (n ∷ q) (all_below ds)) ≡ true
       by_opened stays = had
       by_opened (opens _ none put) = absurd (true≢false (sym had ∙ ap is_some (none_below n q (twigs_of ts) s none)))
-
-pub on_err : {A B : Type 0} {P : Type 0} (r : Result A B) → P → OnErr r P
-on_err (Ok a) p = tt
-on_err (Err b) p = p

@@ -6,15 +6,12 @@ ghost use Rattle.cfdp_commands.specs.Replay.{Running, at_first, configured, defa
 ghost use Rattle.cfdp_commands.specs.Stages.{setup_of};
 ghost use Rattle.cfdp_lines.specs.declared.faults.LineFault.TheVariants.{Bad};
 
-use cfdp_actions::Protected;
+use cfdp_actions::{MOST_PREFIXES, Protected};
 use cfdp_lines::LineFault;
 use cfdp_paths::{Path, PathFault};
 use cfdp_transactions::Config;
 use std::alloc::{AllocError, Global};
 use std::mem;
-
-/// How many paths may be protected at most.
-const MOST_PREFIXES: usize = 8;
 
 /// The default configuration, with nothing protected.
 fn default_config() -> Config

@@ -3,7 +3,7 @@
 --     has_ancestors                it has their proper ancestors
 --     gathered                     as two lists of the same paths have
 --     conflict_by_paths            of two such footprints
-use Rattle.std.proofs.Common.{◌≡◌, ◌≢◌, sym, ◌∙◌, subst, true, ◌⊎◌, ◌↔◌, inl, inr, List, [], ◌∷◌, ◌++◌}
+use Rattle.std.proofs.Common.{◌≡◌, ◌≢◌, sym, ◌∙◌, subst, true, ◌⊎◌, ◌↔◌, inl, inr, List, [], ◌∷◌}
 use Rattle.std.specs.Prelude.{flat_map, IsTrue}
 use Rattle.std.specs.List.{AllByRecursion}
 use Rattle.std.specs.FinSet as set
@@ -12,7 +12,7 @@ use Rattle.cfdp_paths.specs.Paths.{Path, same_path, is_at_or_below, ancestors}
 use Rattle.cfdp_paths.proofs.Comparing.{same_path-Decides}
 use Rattle.cfdp_paths.proofs.Below.{at_or_below-itself, at_or_below-trans, at_or_below-antisym, below_ancestor, ancestor_from_below}
 use Rattle.cfdp_actions.specs.Actions.{Item}
-use Rattle.cfdp_leases.specs.Footprint.{exclusive_in, read_in, shared_in, any_in, Footprint, footprint_of, leased, is_exclusive, is_covered, reaches, is_conflict, IsWithin}
+use Rattle.cfdp_leases.specs.Footprint.{exclusive_in, read_in, named_in, shared_in, any_in, Footprint, footprint_of, leased, is_exclusive, is_covered, reaches, is_conflict, IsWithin}
 use Rattle.cfdp_leases.specs.code.Footprint.{SameSet, of_lists, NoneIsRoot, HasAncestors}
 use Rattle.cfdp_leases.specs.Laws.{HasNames, CommonPath, ConflictByPaths, OwnFootprint}
 use Rattle.cfdp_leases.proofs.Sets.{exists, exists-append_left, exists-append_right, exists-append_cases, all_at, all_from, exists-flat_map, exists_in-flat_map, exists_from_Contains, Contains_from_exists, contains_from_exists, exists_from_contains, any_in-at, any_in-from, union_left, union_right, union_cases}
@@ -66,9 +66,6 @@ pub ancestor_above : (p q : Path) → exists q (ancestors p) → (is_at_or_below
 ancestor_above p q h = below_ancestor p q (Contains_from_exists q (ancestors p) h)
 
 -- of one item: a path that it names, or one above such a path
-abbrev named_in : Item → List Path
-named_in item = exclusive_in item ++ read_in item
-
 shared_ancestors : (item : Item) (p q : Path) → exists p (named_in item) → exists q (ancestors p) → exists q (shared_in item)
 shared_ancestors item p q h a =
     exists-append_right q (read_in item) (flat_map ancestors (named_in item)) (exists-flat_map ancestors (named_in item) p q h a)

@@ -1,8 +1,8 @@
 -- Footprints: the paths that a list of items may change or relies on; what a footprint covers, when two conflict, and
 -- when a filestore is kept at one. The filestore procedures of CCSDS 727.0-B-5 let filestore requests of several
 -- transactions meet on one filestore; leasing their paths beforehand is this project's own.
---     exclusive_in, read_in, shared_in   of one item: the names that it changes;  that it only reads;  these with all
---                                        proper ancestors
+--     exclusive_in, read_in, named_in, shared_in   of one item: the paths that it changes;  that it only reads;  both;
+--                                        those that it only reads and all proper ancestors of both
 --     PathSet, any_in                    a finite set of paths;  whether one of them passes a test
 --     Footprint, footprint_of            the exclusive and the shared paths;  of a list of items
 --     leased                             both kinds together
@@ -39,9 +39,12 @@ read_in (Perform (AppendFile p q)) = q ∷ []
 read_in (Perform (ReplaceFile p q)) = q ∷ []
 read_in item = []
 
--- these, and the proper ancestors of all named paths
+abbrev pub named_in : Item → List Path
+named_in item = exclusive_in item ++ read_in item
+
+-- what is only read, and the proper ancestors of all named paths
 abbrev pub shared_in : Item → List Path
-shared_in item = read_in item ++ flat_map ancestors (exclusive_in item ++ read_in item)
+shared_in item = read_in item ++ flat_map ancestors (named_in item)
 
 -- a finite set of paths
 abbrev pub PathSet : Type 0

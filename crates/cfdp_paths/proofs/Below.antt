@@ -3,6 +3,7 @@
 --     at_or_below-itself, -trans, -antisym, prefixes_compare, length-at_or_below
 --     is_below-Decides                                     below: at or below, and another path
 --     parent-push, parent-take, parent_below, parent_other, below_parent, child_from_below, length-child, below_from_child
+--     Contains-cons                                        what a list contains, it contains with one more before it
 --     ancestors-push, ancestors-take, ancestors-Contains, below_ancestor, ancestor_from_below
 --     IsPath-rebased                        paths made of paths
 --     rebased_depth                                        the depth of such a path
@@ -141,7 +142,7 @@ ancestors-push (m ∷ l ∷ q) n some =
     ap (λ paths. (m ∷ []) ∷ map (λ x. m ∷ x) paths) (ancestors-push (l ∷ q) n (omega arith))
     ∙ ap (λ paths. (m ∷ []) ∷ paths) (map-append (λ x. m ∷ x) (ancestors (l ∷ q)) ((l ∷ q) ∷ []))
 
-Contains-cons : {X : Type 0} (xs : List X) (y x : X) → Contains xs x → Contains (y ∷ xs) x
+pub Contains-cons : {X : Type 0} (xs : List X) (y x : X) → Contains xs x → Contains (y ∷ xs) x
 Contains-cons xs y x (k, within, e) = (suc k, omega arith, e)
 
 Contains-map : {X Y : Type 0} (f : X → Y) (xs : List X) (x : X) → Contains xs x → Contains (map f xs) (f x)

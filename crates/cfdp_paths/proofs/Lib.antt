@@ -9,3 +9,4 @@ pub mod Separators
 pub mod Moving
 pub mod Parting
 pub mod Marks
+pub mod Results

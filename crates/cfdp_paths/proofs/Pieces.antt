@@ -6,25 +6,21 @@
 --     any_below-tree           whether a path of the piece is another one
 use Rattle.std.proofs.Common.{◌≡◌, ℕ, zero, suc, ◌+◌, ◌-◌, ◌≤◌, true, false, not, ◌&&◌, ◌||◌, List, [], ◌∷◌, ◌++◌, length, take, drop, get_or, refl, sym, ap, subst, ◌∙◌, arith, length-drop}
 use Rattle.std.specs.Cmp.{Equal-is}
-use Rattle.std.specs.Cmp.Lexicographic.{slice_cmp, nat_list_cmp_total}
+use Rattle.std.specs.Cmp.Lexicographic.{nat_list_cmp_total}
 use Rattle.std.specs.FinMap.{is_sorted}
 use Rattle.std.specs.FinMap.Entries.{below_all}
 use Rattle.std.specs.List.{list_any, between}
 use Rattle.std.specs.List.Sorted.{IsPartitionPoint, IsPartitionedBy}
-use Rattle.std.specs.Ordering.{is_lt, nat_cmp, ordering_reverse}
-use Rattle.std.specs.declared.cmp.Ordering.{Ordering}
+use Rattle.std.specs.Ordering.{is_lt, ordering_reverse}
 use Rattle.std.specs.declared.cmp.Ordering.TheVariants.{Less, Equal, Greater}
 use Rattle.std.proofs.lemmas.Bool.{and_parts, true≢false, false_from_ne_true}
 use Rattle.std.proofs.lemmas.Slice.{between_to_end}
-use Rattle.cfdp_paths.specs.Paths.{Name, Path, path_cmp, same_name, same_path, is_at_or_below}
+use Rattle.cfdp_paths.specs.Paths.{Path, path_cmp, same_name, same_path, is_at_or_below}
 use Rattle.cfdp_paths.specs.PathMaps.{tree_in, rest_in, any_below}
+use Rattle.cfdp_paths.specs.code.Paths.{name_cmp}
 use Rattle.cfdp_paths.specs.code.PathMaps.{IsPieceOf, rank, spread}
 use Rattle.cfdp_paths.proofs.Comparing.{path_cmp-total, same_name-Decides}
 use Rattle.cfdp_paths.proofs.InOrder.{less_by, less_back, below_at, prefix_len_of_point}
-
--- the order of names
-abbrev name_cmp : Name → Name → Ordering
-name_cmp = slice_cmp nat_cmp
 
 -- what is not before another is not before what is before that
 pub not_before-trans : (p x y : Path) → is_lt (path_cmp x p) ≡ false → path_cmp x y ≡ Less → is_lt (path_cmp y p) ≡ false

@@ -13,7 +13,7 @@ use Rattle.std.proofs.lemmas.List.Splits.{length-slice_split, slice_split-cons_y
 use Rattle.cfdp_paths.specs.declared.fault.PathFault.{PathFault}
 use Rattle.cfdp_paths.specs.declared.fault.PathFault.TheVariants.{Empty, TooDeep}
 use Rattle.cfdp_paths.specs.Faults.{fault_of_name, or_fault, first_fault, fault_of}
-use Rattle.cfdp_paths.specs.Paths.{Name, is_slash, without_slash, names_in}
+use Rattle.cfdp_paths.specs.Paths.{Name, is_separator, is_slash, without_slash, names_in}
 
 abbrev front : List ℕ → List Name → List Name
 front cur [] = cur ∷ []
@@ -31,15 +31,12 @@ front_none (name ∷ names) some = refl
 abbrev so_far : List ℕ → ℕ → ℕ → List ℕ
 so_far names start index = take (index - start) (drop start names)
 
-abbrev is_zero : ℕ → Bool
-is_zero octet = octet == 0
-
 pub record Scan (octets names : List ℕ) (count start index : ℕ) (holds_zero : Bool) : Type 0 where
   pub order : start ≤ index
   pub few : count ≤ 8
   pub same : first_fault (8 - count) (front (so_far names start index) (slice_split is_slash (drop index names))) ≡ fault_of octets
   pub number : count + length (slice_split is_slash (drop index names)) ≡ length (names_in octets)
-  pub zeros : holds_zero ≡ list_any is_zero (so_far names start index)
+  pub zeros : holds_zero ≡ list_any is_separator (so_far names start index)
 
 pub scan_start : (octets names : List ℕ) → names ≡ without_slash octets → length names ≢ 0 → Scan octets names 0 0 0 false
 scan_start octets names is some = record {
@@ -89,7 +86,7 @@ module _ (octets names : List ℕ) (count start index : ℕ) (holds_zero : Bool)
       let on : suc index ≡ index + 1 = omega arith in
       drop-cons names index 0 within ∙ (λ i. sym read i ∷ drop (on i) names)
 
-  pub scan_octet : (x : ℕ) (next : Bool) → index < length names → x ≡ get_or names index 0 → is_slash x ≡ false → next ≡ (holds_zero || is_zero x) →
+  pub scan_octet : (x : ℕ) (next : Bool) → index < length names → x ≡ get_or names index 0 → is_slash x ≡ false → next ≡ (holds_zero || is_separator x) →
       Scan octets names count start (index + 1) next
   scan_octet x next within read other zero_too =
       let rest : slice_split is_slash (drop index names) ≡ onto_first x (slice_split is_slash (drop (index + 1) names)) =
@@ -108,8 +105,8 @@ module _ (octets names : List ℕ) (count start index : ℕ) (holds_zero : Bool)
           length-onto x (slice_split is_slash (drop (index + 1) names)),
           length-slice_split is_slash (drop (index + 1) names),
         );
-        zeros = zero_too ∙ ap (λ b. b || is_zero x) h.zeros ∙ ap (λ b. list_any is_zero (so_far names start index) || b) (sym (or-false (is_zero x)))
-            ∙ sym (ap (list_any is_zero) longer ∙ list_any-append is_zero (so_far names start index) (x ∷ []));
+        zeros = zero_too ∙ ap (λ b. b || is_separator x) h.zeros ∙ ap (λ b. list_any is_separator (so_far names start index) || b) (sym (or-false (is_separator x)))
+            ∙ sym (ap (list_any is_separator) longer ∙ list_any-append is_separator (so_far names start index) (x ∷ []));
       }
     where
       length-onto : (x : ℕ) (parts : List Name) → 1 ≤ length parts → length (onto_first x parts) ≡ length parts
@@ -147,7 +144,7 @@ module _ (octets names : List ℕ) (count start index : ℕ) (holds_zero : Bool)
         same = ap (first_fault (8 - (count + 1))) (ap (λ cur. front cur rest) empty
             ∙ front_none rest (omega (arith, length-slice_split is_slash (drop (index + 1) names)))) ∙ well.1;
         number = omega (arith, h.number, ap length are);
-        zeros = sym (ap (list_any is_zero) empty);
+        zeros = sym (ap (list_any is_separator) empty);
       }
 
   -- the last name

@@ -6,7 +6,7 @@
 --     deepest-there                   an entry has as many names as the deepest one
 --     has_entries-found, found-has_entries      a directory with entries
 --     TooDeep, too_deep-found, found-too_deep, deeper      what would have more than 8 names
-use Rattle.std.proofs.Common.{◌≡◌, refl, sym, ◌∙◌, ap, subst, ◌⊎◌, inl, inr, Bool, true, false, cond, not, ◌||◌, ◌==◌, is_some, nat_lt, ne_eqb, Option, Some, None, ℕ, ◌<◌, ◌≤◌, List, [], ◌∷◌, length, arith, true≢false, lt-ltb, ltb-true}
+use Rattle.std.proofs.Common.{◌≡◌, refl, sym, ◌∙◌, ap, subst, ◌⊎◌, inl, inr, Bool, true, false, cond, not, ◌||◌, ◌==◌, is_some, nat_lt, ne_eqb, Some, None, ℕ, ◌<◌, ◌≤◌, List, [], ◌∷◌, length, arith, true≢false, lt-ltb, ltb-true}
 use Rattle.std.proofs.lemmas.Bool.{cases_lt, cases_Bool, or_cases, or_left, or_right}
 use Rattle.std.specs.List.{list_any}
 use Rattle.std.specs.FinMap.{entries, get-entries, get-retain_keys, len-entries}
@@ -14,7 +14,7 @@ use Rattle.std.specs.FinMap.Entries.{find}
 use Rattle.cfdp_paths.specs.Paths.{Path, path_cmp, same_path, is_at_or_below, is_below, rebased}
 use Rattle.cfdp_paths.proofs.Below.{at_or_below-itself, at_or_below-trans, at_or_below-antisym, prefixes_compare, is_below-Decides, length-rebased}
 use Rattle.cfdp_actions.specs.Filestore.{Node, Filestore, node_at, inside, has_entries, tree_at, deepest_of}
-use Rattle.cfdp_actions.proofs.Order.{kept_some, same_path-true, same_path-refl, same_path-is}
+use Rattle.cfdp_actions.proofs.Order.{kept_some, same_path-true, same_path-refl, same_path-is, still_there}
 use Rattle.cfdp_actions.proofs.Moves.{find-tree_at}
 use Rattle.cfdp_paths.proofs.InOrder.{path_antisym}
 use Rattle.cfdp_paths.specs.PathMaps.{is_too_deep}
@@ -64,11 +64,6 @@ pub record Found (G : Filestore) (p x : Path) (n : ℕ) : Type 0 where
   pub below : is_below x p ≡ true → is_below path p ≡ true
   pub there : is_some (node_at G path) ≡ true
   pub deep : n ≤ length path
-
--- what is there still is with an entry more
-still_there : (b : Bool) (x : Node) (o : Option Node) → is_some o ≡ true → is_some (cond b (Some x) o) ≡ true
-still_there true x o some = refl
-still_there false x o some = some
 
 -- an entry whose path passes a test
 pub any-found : (test : Path → Bool) (es : List (Path × Node)) → list_any (λ (e : Path × Node). test e.0) es ≡ true → (x : Path) × (test x ≡ true)

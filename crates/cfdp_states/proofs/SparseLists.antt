@@ -16,7 +16,8 @@ use Rattle.cfdp_actions.specs.Actions.{Request, CreateFile, DeleteFile, RenameFi
 use Rattle.cfdp_actions.proofs.Prefixes.{below_root, rebased-below}
 use Rattle.cfdp_leases.specs.Items.{items_of}
 use Rattle.cfdp_leases.proofs.Sets.{exists, any_at, any_from, exists-append_left, exists-append_right}
-use Rattle.cfdp_states.specs.Sparse.{Sees, KnowsMoves, passes_after, named_in, sees_path}
+use Rattle.cfdp_leases.specs.Footprint.{named_in}
+use Rattle.cfdp_states.specs.Sparse.{Sees, KnowsMoves, passes_after, sees_path}
 use Rattle.cfdp_states.specs.code.Sparse.{is_shown, shows, SeesBy, origin, with_origin, moved_back, shown_before, back_over, is_moved}
 use Rattle.cfdp_actions.proofs.Order.{same_path-true, same_path-refl}
 use Rattle.cfdp_states.proofs.MovedPaths.{not_both, at-moved}

@@ -17,8 +17,9 @@ use Rattle.cfdp_status.specs.Codes.{is_successful}
 use Rattle.cfdp_actions.specs.Filestore.{Node, Directory, File, Filestore, node_at, blocks_of, weight, blocks, Change, Becomes, Stages, changed, after, has_entries, is_root, parent_is_good, tree_at}
 use Rattle.cfdp_actions.specs.Actions.{Request, CreateFile, DeleteFile, RenameFile, AppendFile, ReplaceFile, CreateDirectory, RemoveDirectory, DenyFile, DenyDirectory, Install, Perform, Outcome, refused, succeeds, vacating, arriving, create, rename, remove_directory, deny_directory, table, free_row, bars, denied, succeeded, row}
 use Rattle.cfdp_leases.specs.Items.{step_bound}
+use Rattle.cfdp_leases.specs.Footprint.{named_in}
 use Rattle.cfdp_states.specs.Alone.{alone}
-use Rattle.cfdp_states.specs.Sparse.{Hides, IsSparseSubstitute, KnowsMove, passes_after, sees_path, named_in, AreAlike}
+use Rattle.cfdp_states.specs.Sparse.{Hides, IsSparseSubstitute, KnowsMove, passes_after, sees_path, AreAlike}
 use Rattle.cfdp_actions.proofs.Order.{node_at-becomes, node_at-becomes_apart, same_path-true}
 use Rattle.cfdp_actions.proofs.Weights.{blocks-becomes, blocks-stages}
 use Rattle.cfdp_states.proofs.Installing.{install_row, row-install}

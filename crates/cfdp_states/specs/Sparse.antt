@@ -5,7 +5,7 @@
 --                                     item, if what is there passed the test before: after a rename of p to q, q/r
 --                                     passes as p/r did, and so does what has more than 8 names, since nothing is
 --                                     there; so does all that is at or below p
---     sees_path test p, named_in item a path and its parent pass the test;  the paths that an item names
+--     sees_path test p                a path and its parent pass the test
 --     Sees test items                 all paths that are named, and their parents, pass the test as things are then
 --     KnowsMove, KnowsMoves test items        each path at or below one that moves passes it then
 --     Hides visible F p n             something exists in F whose nearest visible path above it is p, and its path
@@ -19,7 +19,7 @@
 --     joins_at m request              something is to move to a path at which the map has nothing, but below it: what
 --                                     such a view can't say
 --     TellsSparse, TellsSparseInstall how such a view goes on with the next item
-use Rattle.std.specs.Prelude.{◌≡◌, ⊤, ℕ, ◌+◌, ◌≤◌, max, Bool, true, false, not, ◌&&◌, ◌||◌, nat_lt, if◌then◌else◌, IsTrue, IsFalse, IsSome, is_some, ◌↔◌, List, [], ◌∷◌, ◌++◌, length, Option, Some, None}
+use Rattle.std.specs.Prelude.{◌≡◌, ⊤, ℕ, ◌+◌, ◌≤◌, max, Bool, true, false, not, ◌&&◌, ◌||◌, nat_lt, if◌then◌else◌, IsTrue, IsFalse, IsSome, is_some, ◌↔◌, List, [], ◌∷◌, length, Option, Some, None}
 use Rattle.std.specs.List.{list_all}
 use Rattle.std.specs.FinMap as finite
 use Rattle.cfdp_paths.specs.Paths.{Path, is_at_or_below, is_below, parent, rebased}
@@ -28,7 +28,7 @@ use Rattle.cfdp_status.specs.declared.status.Status.{Status}
 use Rattle.cfdp_status.specs.Codes.{is_successful}
 use Rattle.cfdp_actions.specs.Filestore.{Node, Directory, File, Filestore, node_at, blocks, is_root}
 use Rattle.cfdp_actions.specs.Actions.{Request, CreateFile, DeleteFile, RenameFile, AppendFile, ReplaceFile, CreateDirectory, RemoveDirectory, DenyFile, DenyDirectory, Item, Install, Perform, Performed, row}
-use Rattle.cfdp_leases.specs.Footprint.{exclusive_in, read_in}
+use Rattle.cfdp_leases.specs.Footprint.{named_in}
 use Rattle.cfdp_leases.specs.Items.{performed, step_bound}
 use Rattle.cfdp_states.specs.Alone.{alone}
 use Rattle.cfdp_states.specs.Views.{Sketch, IsViewOf, installed_if}
@@ -53,9 +53,6 @@ passes_after_item (Perform request) test = passes_after request test
 -- a path and its parent, if that is not the root
 abbrev pub sees_path : (Path → Bool) → Path → Bool
 sees_path test p = test p && (is_root (parent p) || test (parent p))
-
-abbrev pub named_in : Item → List Path
-named_in item = exclusive_in item ++ read_in item
 
 abbrev pub Sees : (Path → Bool) → List Item → Type 0
 Sees test [] = ⊤

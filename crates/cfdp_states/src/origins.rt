@@ -7,7 +7,7 @@ ghost use Rattle.cfdp_actions.specs.Actions.{Perform};
 ghost use Rattle.cfdp_actions.specs.Filestore.{is_root};
 ghost use Rattle.cfdp_leases.specs.Items.{items_of};
 ghost use Rattle.cfdp_paths.specs.Paths.{is_at_or_below};
-ghost use Rattle.cfdp_states.specs.Sparse.{named_in};
+ghost use Rattle.cfdp_leases.specs.Footprint.{named_in};
 ghost use Rattle.cfdp_states.specs.code.Sparse.{AreSame, HoldsLeased, SeesBy, back_over, moved_back, origin, paths_in};
 
 use cfdp_actions::Request;

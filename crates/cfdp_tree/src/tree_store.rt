@@ -160,7 +160,7 @@ impl Filestore for TreeStore {
 
     fn has_entries(&self, path: &Path) -> bool {
         match find_path(&self.arena, &self.heads, &self.orders, path) {
-            Some(node) => !self.orders.of(&Some(node)).is_empty(),
+            Some(node) => !self.orders.of(Some(node)).is_empty(),
             None => false,
         }
     }
@@ -168,7 +168,7 @@ impl Filestore for TreeStore {
     fn has_beside(&self, path: &Path, others: &[Path]) -> bool {
         match find_path(&self.arena, &self.heads, &self.orders, path) {
             Some(node) => {
-                let entries = self.orders.of(&Some(node));
+                let entries = self.orders.of(Some(node));
                 let left_out = Others::new(path, others);
                 any_beside(&self.arena, &self.orders, entries, &left_out)
             }
@@ -195,7 +195,7 @@ impl Filestore for TreeStore {
     fn deepest(&self, path: &Path) -> u8 {
         let node = find_path(&self.arena, &self.heads, &self.orders, path).unwrap();
         let depth = path.depth();
-        let entries = self.orders.of(&Some(node));
+        let entries = self.orders.of(Some(node));
         let below = deepest_in(&self.arena, &self.orders, entries, depth + 1);
         depth.max(below) as u8
     }
@@ -203,7 +203,7 @@ impl Filestore for TreeStore {
     fn deepest_beside(&self, path: &Path, others: &[Path]) -> u8 {
         match find_path(&self.arena, &self.heads, &self.orders, path) {
             Some(node) => {
-                let entries = self.orders.of(&Some(node));
+                let entries = self.orders.of(Some(node));
                 let left_out = Others::new(path, others);
                 deepest_beside(&self.arena, &self.orders, entries, &left_out, 0) as u8
             }
@@ -235,7 +235,7 @@ impl Filestore for TreeStore {
     }
 
     fn listing(&self, alloc: Global) -> Result<Vec<Entry>, Memory> {
-        let found = nodes_below(alloc, &self.arena, &self.orders, &None, 0)?;
+        let found = nodes_below(alloc, &self.arena, &self.orders, None, 0)?;
         entries(alloc, &self.arena, found)
     }
 
@@ -243,7 +243,7 @@ impl Filestore for TreeStore {
         let Some(node) = find_path(&self.arena, &self.heads, &self.orders, path) else {
             return Ok(Vec::new(alloc));
         };
-        let top = &Some(node);
+        let top = Some(node);
         if self.orders.of(top).is_empty() {
             return only_existing(alloc, &self.arena, path, node);
         }

@@ -22,10 +22,10 @@ use Rattle.std.specs.FinSet as set
 use Rattle.cfdp_paths.specs.Paths.{Path, same_path, is_at_or_below, is_below, rebased}
 use Rattle.cfdp_actions.specs.Filestore.{Filestore, is_root}
 use Rattle.cfdp_actions.specs.Actions.{Request, CreateFile, DeleteFile, RenameFile, AppendFile, ReplaceFile, CreateDirectory, RemoveDirectory, DenyFile, DenyDirectory, Item, Perform}
-use Rattle.cfdp_leases.specs.Footprint.{Footprint}
+use Rattle.cfdp_leases.specs.Footprint.{Footprint, named_in}
 use Rattle.cfdp_states.specs.declared.extent.Extent.TheVariants as extent
 use Rattle.cfdp_states.specs.Sketching.{Extents, extent_at}
-use Rattle.cfdp_states.specs.Sparse.{Hides, Knows, Sees, named_in}
+use Rattle.cfdp_states.specs.Sparse.{Hides, Knows, Sees}
 
 abbrev pub is_shown : List Path → Path → Bool
 is_shown paths x = list_any (λ s. is_at_or_below s x) paths

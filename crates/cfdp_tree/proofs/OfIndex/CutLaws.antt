@@ -10,10 +10,11 @@ use Rattle.std.proofs.lemmas.Bool.{cases_eq, eq-eqb, ne_eqb}
 use Rattle.std.proofs.lemmas.List.Elements.{All-contains, All-tail}
 use Rattle.std.specs.Prelude.{All, AllPairs, Contains, not}
 use Rattle.cfdp_arena.specs.Arena.{Blocks}
+use Rattle.cfdp_paths.proofs.Below.{Contains-cons}
 use Rattle.cfdp_tree.specs.declared.index.ListHead.{ListHead}
 use Rattle.cfdp_tree.specs.code.Tree.{IsNode, node_fields_at}
 use Rattle.cfdp_tree.specs.code.Index.{index_chain, list_of, without_node}
-use Rattle.cfdp_tree.proofs.OfIndex.IndexLaws.{chain_some, has_longer, own_first, rest_has, has_later, has_first, once_first, kept_chain}
+use Rattle.cfdp_tree.proofs.OfIndex.IndexLaws.{chain_some, has_longer, own_first, rest_has, has_first, once_first, kept_chain}
 use Rattle.cfdp_arena.proofs.GivenChains.{rest_once}
 
 module _ (b : ℕ) where
@@ -36,7 +37,7 @@ module _ (b : ℕ) where
         (without_has xs c other (rest_has x xs c has (λ f. other (sym f ∙ e))))
     | inr differ ↦ subst (λ ys. Contains ys c) (sym (without_other x xs differ)) (elim (cases_eq x c) [
       | inl e ↦ subst (Contains (x ∷ without_node b xs)) e (has_first x (without_node b xs))
-      | inr apart ↦ has_later x (without_node b xs) c (without_has xs c other (rest_has x xs c has apart))
+      | inr apart ↦ Contains-cons (without_node b xs) x c (without_has xs c other (rest_has x xs c has apart))
     ])
   ]
 
@@ -62,7 +63,7 @@ module _ (old : Blocks) (p b : ℕ) (before : (node_fields_at old p).same_head �
       elim (cases_eq x p) [
         | inl e ↦ subst (Contains (index_chain old (suc n) y)) (ap (λ z. (node_fields_at old z).same_head) e ∙ before)
             (has_first y (index_chain old n (node_fields_at old y).same_head))
-        | inr other ↦ has_later y (index_chain old n (node_fields_at old y).same_head) b (links_after n y (rest_has x (index_chain old n y) p has other))
+        | inr other ↦ Contains-cons (index_chain old n (node_fields_at old y).same_head) y b (links_after n y (rest_has x (index_chain old n y) p has other))
       ]
 
   -- and then the node after b

@@ -1,7 +1,7 @@
 -- The lists of the index.
 --     chain_more       a list's first node, and those after it
 --     own_first, rest_has                of all of its nodes, of the first one, and of those after it
---     has_later, has_first, has_longer, chain_some     a node that is in it
+--     has_first, has_longer, chain_some     a node that is in it
 --     chain_one                a list of one node
 --     once_first               no node is in it twice
 --     kept_links               a list of nodes whose links have stayed
@@ -11,6 +11,7 @@ use Rattle.std.proofs.lemmas.Bool.{cases_eq}
 use Rattle.std.specs.Prelude.{All, AllPairs, Contains}
 use Rattle.std.proofs.lemmas.List.Elements.{All-tail}
 use Rattle.cfdp_arena.specs.Arena.{Blocks}
+use Rattle.cfdp_paths.proofs.Below.{Contains-cons}
 use Rattle.cfdp_tree.specs.code.Tree.{node_fields_at}
 use Rattle.cfdp_tree.specs.code.Index.{index_chain}
 use Rattle.cfdp_tree.specs.code.Lists as lists
@@ -27,9 +28,6 @@ rest_has b rest c has other = at_index has.0 has.1 has.2
     at_index : (k : ℕ) → k < length (b ∷ rest) → get_or (b ∷ rest) k c ≡ c → Contains rest c
     at_index zero within e = absurd (other e)
     at_index (suc k) within e = (k, omega arith, e)
-
-pub has_later : (b : ℕ) (rest : List ℕ) (c : ℕ) → Contains rest c → Contains (b ∷ rest) c
-has_later b rest c has = (suc has.0, omega arith, has.2)
 
 pub has_first : (b : ℕ) (rest : List ℕ) → Contains (b ∷ rest) b
 has_first b rest = (0, omega arith, refl)
@@ -50,7 +48,7 @@ has_longer nodes (suc n) b c has =
     let next = (node_fields_at nodes b).same_head in
     elim (cases_eq b c) [
       | inl e ↦ subst (Contains (b ∷ index_chain nodes (suc n) next)) e (has_first b (index_chain nodes (suc n) next))
-      | inr other ↦ has_later b (index_chain nodes (suc n) next) c (has_longer nodes n next c (rest_has b (index_chain nodes n next) c has other))
+      | inr other ↦ Contains-cons (index_chain nodes (suc n) next) b c (has_longer nodes n next c (rest_has b (index_chain nodes n next) c has other))
     ]
 
 -- of lists in which no node is twice

@@ -9,13 +9,14 @@ use Rattle.std.proofs.lemmas.Bool.{cases_eq}
 use Rattle.std.specs.Prelude.{All, AllPairs, Contains, unwrap_or}
 use Rattle.std.proofs.lemmas.Option.{none-some, same_Some}
 use Rattle.cfdp_arena.specs.Arena.{Blocks, with_block}
+use Rattle.cfdp_paths.proofs.Below.{Contains-cons}
 use Rattle.cfdp_tree.specs.declared.index.ListHead.{ListHead}
 use Rattle.cfdp_tree.specs.code.NodeFields.{node_fields_of, node_name}
 use Rattle.cfdp_tree.specs.code.Tree.{IsNode, name_at, home_in, home}
 use Rattle.cfdp_tree.specs.code.Index.{Heads, bucket_of, index_chain, no_head, list_of, head_count, HasHead, IsHead, IsIndex}
 use Rattle.cfdp_tree.proofs.OfNodes.EntryLaws.{kept_by}
 use Rattle.cfdp_tree.proofs.OfNodes.LinkLaws.{next_here, next_other}
-use Rattle.cfdp_tree.proofs.OfIndex.IndexLaws.{chain_more, has_later, has_first, kept_chain}
+use Rattle.cfdp_tree.proofs.OfIndex.IndexLaws.{chain_more, has_first, kept_chain}
 use Rattle.cfdp_tree.proofs.OfIndex.HeadLaws.{once_last, head_kept, index_set}
 use Rattle.cfdp_arena.proofs.Laws.{live_count-written}
 use Rattle.cfdp_order.proofs.SplitLaws.{All_front}
@@ -133,7 +134,7 @@ module _ (nodes : Blocks) (heads : Heads) (b k : ℕ) (within : k < length heads
     has_listed : (c : ℕ) → HasHead new None (length heads) k c → Contains (b ∷ before) c
     has_listed c has = elim (cases_eq c b) [
       | inl e ↦ subst (Contains (b ∷ before)) (sym e) (has_first b before)
-      | inr other ↦ has_later b before c (is_head.all c (stood k c other has))
+      | inr other ↦ Contains-cons before b c (is_head.all c (stood k c other has))
     ]
 
     head_here : IsHead new None (length heads) k first

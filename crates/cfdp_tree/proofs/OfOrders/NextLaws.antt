@@ -20,12 +20,13 @@ use Rattle.cfdp_paths.specs.Paths.{Name, Path, path_cmp, same_name, is_at_or_bel
 use Rattle.cfdp_paths.proofs.Below.{append_from_at_or_below, at_or_below_from_append, at_or_below-trans}
 use Rattle.cfdp_paths.proofs.Comparing.{path_cmp-total, same_name-Decides}
 use Rattle.cfdp_actions.specs.Filestore.{Node, Filestore, node_at}
+use Rattle.cfdp_paths.specs.code.Paths.{name_cmp}
 use Rattle.cfdp_tree.specs.code.Tree.{IsNode, name_at, path_of_node, IsEntry, IsTree}
 use Rattle.cfdp_tree.specs.code.Directories.{IsAtPath}
 use Rattle.cfdp_tree.specs.code.Entries.{IsMember}
 use Rattle.cfdp_tree.specs.code.Kept.{Shows}
 use Rattle.cfdp_tree.specs.Next.{IsNext, IsLast}
-use Rattle.cfdp_tree.specs.code.Next.{name_cmp, IsFollowing, IsLeast, IsListOf, ComesAfter, IsFirst}
+use Rattle.cfdp_tree.specs.code.Next.{IsFollowing, IsLeast, IsListOf, ComesAfter, IsFirst}
 use Rattle.cfdp_tree.proofs.OfNodes.ClimbLaws.{entry_at, path_entry, beginning}
 use Rattle.cfdp_tree.proofs.OfOrders.LeastLaws.{flipped, less_greater, equal_greater}
 use Rattle.cfdp_paths.proofs.Moving.{path_cmp-append}

@@ -25,10 +25,10 @@ use Rattle.cfdp_order.proofs.MemberLaws.{times_contains, contains_times}
 use Rattle.cfdp_order.proofs.SortedLaws.{pairs_with, pairs_without, splits_from}
 use Rattle.cfdp_order.proofs.SplitLaws.{All_back}
 use Rattle.cfdp_order.proofs.TreeLaws.{stays}
+use Rattle.cfdp_paths.specs.code.Paths.{name_cmp}
 use Rattle.cfdp_tree.specs.declared.orders.Orders.{Orders}
 use Rattle.cfdp_tree.specs.code.Tree.{IsNode, name_at, home, IsEntry, IsTree}
 use Rattle.cfdp_tree.specs.code.Entries.{IsMember}
-use Rattle.cfdp_tree.specs.code.Next.{name_cmp}
 use Rattle.cfdp_tree.specs.code.Orders.{order_at, in_order, Rises, IsInOrders}
 use Rattle.cfdp_tree.proofs.OfOrders.LeastLaws.{flipped, less_greater}
 use Rattle.cfdp_tree.proofs.OfOrders.SortLaws.{of_times, at_times, split_at, pairs_front, pairs_back, less_back, less_first, directory_cases}

@@ -15,6 +15,7 @@ use Rattle.std.specs.declared.cmp.Ordering.TheVariants.{Less}
 use Rattle.std.proofs.lemmas.Option.{none-some, same_Some}
 use Rattle.cfdp_arena.specs.Arena.{Blocks, octets_at, with_block, without_block}
 use Rattle.cfdp_arena.proofs.Chains.{live_within}
+use Rattle.cfdp_paths.specs.code.Paths.{name_cmp}
 use Rattle.cfdp_tree.specs.declared.orders.Orders.{Orders}
 use Rattle.cfdp_actions.specs.declared.kind.Kind.TheVariants as kind
 use Rattle.cfdp_order.proofs.TreeLaws.{none_is, no_nodes}
@@ -23,7 +24,7 @@ use Rattle.cfdp_tree.specs.code.NodeFields.{node_fields_of, node_name, kind_of_o
 use Rattle.cfdp_tree.specs.code.Files.{with_contents}
 use Rattle.cfdp_tree.specs.code.Tree.{IsNode, IsTree, node_fields_at, name_at, home_in, home, SameEntries}
 use Rattle.cfdp_tree.specs.code.Entries.{IsMember}
-use Rattle.cfdp_tree.specs.code.Next.{name_cmp, IsListOf}
+use Rattle.cfdp_tree.specs.code.Next.{IsListOf}
 use Rattle.cfdp_tree.specs.code.Orders.{order_at, in_order, Rises, IsInOrders}
 use Rattle.cfdp_tree.proofs.OfStore.FileNodeLaws.{file_entries}
 use Rattle.cfdp_tree.proofs.OfNodes.NodeLaws.{no_live}

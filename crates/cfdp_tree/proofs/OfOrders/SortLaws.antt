@@ -28,8 +28,9 @@ use Rattle.cfdp_order.proofs.Counts.{one_other}
 use Rattle.cfdp_order.proofs.MemberLaws.{times_contains, contains_times}
 use Rattle.cfdp_order.proofs.SplitLaws.{All_left, All_at}
 use Rattle.cfdp_order.proofs.SortedLaws.{head_pairs, tail_pairs}
+use Rattle.cfdp_paths.specs.code.Paths.{name_cmp}
 use Rattle.cfdp_tree.specs.code.Tree.{name_at}
-use Rattle.cfdp_tree.specs.code.Next.{name_cmp, IsFollowing, IsLeast}
+use Rattle.cfdp_tree.specs.code.Next.{IsFollowing, IsLeast}
 use Rattle.cfdp_tree.specs.code.Orders.{Rises}
 use Rattle.cfdp_tree.proofs.OfOrders.LeastLaws.{flipped, less_greater, equal_greater}
 

@@ -12,6 +12,7 @@ use Rattle.cfdp_paths.specs.Paths.{Path, path_cmp, same_path, is_at_or_below}
 use Rattle.cfdp_paths.proofs.Comparing.{same_path-Decides}
 use Rattle.cfdp_arena.specs.Arena.{Blocks}
 use Rattle.cfdp_actions.specs.Filestore.{Node, Filestore, node_at, tree_at, deepest_of}
+use Rattle.cfdp_actions.proofs.Order.{still_there}
 use Rattle.cfdp_actions.proofs.RowLaws.{deepest-most}
 use Rattle.cfdp_actions.proofs.Moves.{find-tree_at}
 use Rattle.cfdp_tree.specs.code.Tree.{path_of_node}
@@ -22,16 +23,12 @@ use Rattle.cfdp_tree.specs.code.NodesBelow.{IsUnder, AreNodesBelow}
 max_le : (a b m : ℕ) → a ≤ m → b ≤ m → max a b ≤ m
 max_le a b m first second = grind (arith, first, second)
 
-found_more : (same : Bool) (x : Node) (o : Option Node) → is_some o ≡ true → is_some (cond same (Some x) o) ≡ true
-found_more true x o some = refl
-found_more false x o some = some
-
 pub deepest_le : (es : List (Path × Node)) (m : ℕ) → ((q : Path) → is_some (find path_cmp q es) ≡ true → length q ≤ m) → deepest_of es ≤ m
 deepest_le [] m each = omega arith
 deepest_le (e ∷ es) m each =
     max_le (length e.0) (deepest_of es) m
     (each e.0 (ap (λ b. is_some (cond b (Some e.1) (find path_cmp e.0 es))) ((same_path-Decides e.0 e.0).1 refl)))
-    (deepest_le es m (λ q some. each q (found_more (same_path q e.0) e.1 (find path_cmp q es) some)))
+    (deepest_le es m (λ q some. each q (still_there (same_path q e.0) e.1 (find path_cmp q es) some)))
 
 module _ (nodes : Blocks) where
   pub longest_le : (list : List ℕ) (m : ℕ) → All (λ b. length (path_of_node nodes b) ≤ m) list → most_names_in nodes list ≤ m

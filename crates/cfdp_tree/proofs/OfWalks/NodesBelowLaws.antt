@@ -17,7 +17,7 @@ use Rattle.std.specs.declared.cmp.Ordering.TheVariants.{Less}
 use Rattle.std.proofs.lemmas.Option.{none-some, same_Some}
 use Rattle.cfdp_arena.specs.Arena.{Blocks}
 use Rattle.cfdp_paths.specs.Paths.{Path, path_cmp, is_at_or_below}
-use Rattle.cfdp_paths.proofs.Below.{append_from_at_or_below, at_or_below_from_append, at_or_below-itself, at_or_below-trans, length-at_or_below}
+use Rattle.cfdp_paths.proofs.Below.{append_from_at_or_below, at_or_below_from_append, at_or_below-itself, at_or_below-trans, length-at_or_below, Contains-cons}
 use Rattle.cfdp_paths.proofs.InOrder.{less_itself}
 use Rattle.cfdp_tree.specs.declared.orders.Orders.{Orders}
 use Rattle.cfdp_tree.specs.code.Tree.{IsNode, name_at, home, path_of_node, IsTree}
@@ -26,7 +26,7 @@ use Rattle.cfdp_tree.specs.code.Entries.{IsMember}
 use Rattle.cfdp_tree.specs.code.Orders.{in_order, Rises, IsInOrders}
 use Rattle.cfdp_tree.specs.code.Walk.{walk, walks, walk_from}
 use Rattle.cfdp_tree.specs.code.NodesBelow.{IsUnder, IsDeeper, AreNodesBelow}
-use Rattle.cfdp_tree.proofs.OfIndex.IndexLaws.{has_first, has_later}
+use Rattle.cfdp_tree.proofs.OfIndex.IndexLaws.{has_first}
 use Rattle.cfdp_tree.proofs.OfNodes.TreeLaws.{same_node}
 use Rattle.cfdp_tree.proofs.OfNodes.ClimbLaws.{path_by_home, entry_at, beginning}
 use Rattle.cfdp_tree.proofs.OfWalks.WalkLaws.{few_names}
@@ -186,7 +186,7 @@ module _ (nodes : Blocks) (tree : IsTree nodes) (orders : Orders) (ordered : IsI
       Contains (walk orders n b) c
   walk_all zero b c node under short = absurd (omega (arith, short, length-at_or_below (path_of_node nodes c) (path_of_node nodes b) under.below))
   walk_all (suc n) b c node under short = elim (cases_lt (length (path_of_node nodes b)) (length (path_of_node nodes c))) [
-    | inl longer ↦ has_later b (walks orders n (in_order orders (Some b))) c
+    | inl longer ↦ Contains-cons (walks orders n (in_order orders (Some b))) b c
         (walks_all n (walk_all n) (Some b) (λ d is. subst (IsNode nodes) (same_Some _ _ is) node) (in_order orders (Some b)) (entries_has b) c
         (record { under = under; longer = longer }) short)
     | inr past ↦ (let whole = append_from_at_or_below (path_of_node nodes c) (path_of_node nodes b) under.below in

@@ -10,8 +10,8 @@ use Rattle.std.specs.List.Sorted.{IsSorted}
 use Rattle.cfdp_arena.specs.Arena.{Blocks}
 use Rattle.std.specs.declared.cmp.Ordering.TheVariants.{Less}
 use Rattle.cfdp_paths.specs.Paths.{Name, Path, parent, path_cmp, same_path}
+use Rattle.cfdp_paths.specs.code.Paths.{name_cmp}
 use Rattle.cfdp_tree.specs.code.Tree.{name_at}
-use Rattle.cfdp_tree.specs.code.Next.{name_cmp}
 
 abbrev pub is_entry_beside : Path → List Path → Blocks → ℕ → Bool
 is_entry_beside p others nodes b = not (list_any (same_path (p ++ name_at nodes b ∷ [])) others)

@@ -1,22 +1,16 @@
 -- What only the proofs of the code need of `Next`.
---     name_cmp                  the order of names by octets
 --     IsFollowing after name    the name is greater, where another one is given
 --     IsLeast nodes after list b    the least name after it is that of this node of the list
 --     IsListOf nodes directory list  the nodes of the list are just the entries of the directory or the root
 --     ComesAfter nodes directory p b  a node at or below the node or the root, after p
 --     IsFirst nodes directory p b  the first one of these
 use Rattle.std.specs.Prelude.{◌≡◌, ◌≢◌, ℕ, true, List, Option, Some, None, All, Contains}
-use Rattle.std.specs.Cmp.Lexicographic.{slice_cmp}
-use Rattle.std.specs.Ordering.{nat_cmp}
-use Rattle.std.specs.declared.cmp.Ordering.{Ordering}
 use Rattle.std.specs.declared.cmp.Ordering.TheVariants.{Less, Greater}
 use Rattle.cfdp_arena.specs.Arena.{Blocks}
 use Rattle.cfdp_paths.specs.Paths.{Name, Path, path_cmp, is_at_or_below}
+use Rattle.cfdp_paths.specs.code.Paths.{name_cmp}
 use Rattle.cfdp_tree.specs.code.Tree.{IsNode, name_at, path_of_node}
 use Rattle.cfdp_tree.specs.code.Entries.{IsMember}
-
-abbrev pub name_cmp : Name → Name → Ordering
-name_cmp = slice_cmp nat_cmp
 
 abbrev pub IsFollowing : Option Name → Name → Type 0
 IsFollowing None name = Unit {0}

@@ -13,13 +13,13 @@ use Rattle.cfdp_arena.specs.Arena.{Blocks, octets_of}
 use Rattle.cfdp_ways.specs.declared.way.Way.{Way}
 use Rattle.cfdp_order.specs.declared.links.Order.{Order}
 use Rattle.cfdp_order.specs.Orders as trees
+use Rattle.cfdp_paths.specs.code.Paths.{name_cmp}
 use Rattle.cfdp_tree.specs.declared.orders.Orders.{Orders}
 use Rattle.cfdp_tree.specs.declared.slots.Slot.{Slot}
 use Rattle.cfdp_tree.specs.code.Nodes.{nodes_in}
 use Rattle.cfdp_tree.specs.code.Tree.{IsNode, IsNamed, name_at, home}
 use Rattle.cfdp_tree.specs.code.Entries.{IsMember}
 use Rattle.cfdp_tree.specs.code.Index.{Heads}
-use Rattle.cfdp_tree.specs.code.Next.{name_cmp}
 use Rattle.cfdp_tree.specs.code.Slots.{IsStore}
 
 abbrev pub no_order : Order

@@ -5,7 +5,7 @@ use Rattle.cfdp_actions.specs.Filestore.{File, octets_in}
 use Rattle.cfdp_actions.specs.code.Listed.{shown_entries, entry_found}
 use Rattle.cfdp_actions.specs.declared.content.Content.TheVariants as content
 use Rattle.cfdp_actions.proofs.ShownLaws.{found_some, shown_twice, second_octets, exists, put_exists, put-same, file_there, file_is}
-use Rattle.cfdp_actions.proofs.StagedLaws.{on_err}
+use Rattle.cfdp_paths.proofs.Results.{on_err}
 use Rattle.cfdp_actions.proofs.content.append.Goals as goal
 
 pub exchange-requires : goal.exchange-requires

@@ -1,7 +1,8 @@
 use Rattle.std.proofs.Common.{◌<◌, ap, sym, ◌∙◌, set, length, arith}
 use Rattle.cfdp_actions.specs.Store.{extended}
 use Rattle.cfdp_actions.specs.Listed.{vector_octets}
-use Rattle.cfdp_actions.proofs.StagedLaws.{octets_of-set, octets_of-at, octets_of-same, extended_is, on_err}
+use Rattle.cfdp_paths.proofs.Results.{on_err}
+use Rattle.cfdp_actions.proofs.StagedLaws.{octets_of-set, octets_of-at, octets_of-same, extended_is}
 use Rattle.cfdp_actions.proofs.staging.extend.Goals as goal
 
 pub returns-clause-ok : goal.returns-clause-ok

@@ -1,7 +1,7 @@
 use Rattle.std.proofs.Common.{refl}
 use Rattle.cfdp_engine.proofs.Serving.{adds_nothing}
 use Rattle.cfdp_engine.proofs.working.serve.Goals as goal
-use Rattle.cfdp_actions.proofs.StagedLaws.{on_err}
+use Rattle.cfdp_paths.proofs.Results.{on_err}
 
 pub returns-in_err-event-in-Event-clause-stopped :
     goal.returns-in_err-event-in-Event-clause-stopped

@@ -1,7 +1,7 @@
 use Rattle.std.proofs.Common.{◌∙◌, sym}
 use Rattle.cfdp_engine.proofs.Serving.{all_begun, all_more, passed_none, passed_one}
 use Rattle.cfdp_engine.proofs.working.serve_all.Goals as goal
-use Rattle.cfdp_actions.proofs.StagedLaws.{on_err}
+use Rattle.cfdp_paths.proofs.Results.{on_err}
 
 pub returns-in_err-served-clause-stopped : goal.returns-in_err-served-clause-stopped
 returns-in_err-served-clause-stopped g c =

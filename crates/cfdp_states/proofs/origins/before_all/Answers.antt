@@ -1,7 +1,7 @@
 use Rattle.std.proofs.Common.{sym, ◌∙◌, subst, ◌++◌, ◌-◌, map, drop, length, List, arith}
 use Rattle.cfdp_paths.specs.Paths.{Path}
 use Rattle.cfdp_actions.specs.Actions.{Perform}
-use Rattle.cfdp_states.specs.Sparse.{named_in}
+use Rattle.cfdp_leases.specs.Footprint.{named_in}
 use Rattle.cfdp_states.specs.code.Sparse.{AreSame, SeesBy, shown_before}
 use Rattle.cfdp_states.proofs.SparseLists.{sees_next, sees_end}
 use Rattle.cfdp_states.proofs.SparsePaths.{sees_by_more}

@@ -2,12 +2,13 @@ use Rattle.std.proofs.Common.{◌≡◌, ◌+◌, ◌-◌, suc, sym, ap, ◌∙�
 use Rattle.std.proofs.lemmas.Bool.{eqb-true, eqb-false}
 use Rattle.std.specs.Prelude.{All, Contains}
 use Rattle.std.proofs.lemmas.List.Elements.{All-tail}
+use Rattle.cfdp_paths.proofs.Below.{Contains-cons}
 use Rattle.cfdp_tree.specs.code.NodeFields.{node_fields_of}
 use Rattle.cfdp_tree.specs.code.Nodes.{nodes_in}
 use Rattle.cfdp_tree.specs.code.Tree.{IsNode, node_fields_at}
 use Rattle.cfdp_tree.specs.code.Index.{index_chain}
 use Rattle.cfdp_tree.proofs.OfNodes.TreeLaws.{node_live, node_octets}
-use Rattle.cfdp_tree.proofs.OfIndex.IndexLaws.{chain_more, chain_some, own_first, rest_has, has_later, has_first, chain_one}
+use Rattle.cfdp_tree.proofs.OfIndex.IndexLaws.{chain_more, chain_some, own_first, rest_has, has_first, chain_one}
 use Rattle.cfdp_tree.proofs.index.node_before.Goals as goal
 
 pub loop-step-init : goal.loop-step-init
@@ -54,7 +55,7 @@ loop-step-preserved c =
       left = (λ has. subst (λ xs. Contains xs b) rest_is
           (rest_has l.before (index_chain nodes m next) b (subst (λ xs. Contains xs b) list (l.invariant.left has)) (l.invariant.later (omega arith))));
       following = (λ x has. l.invariant.following x (subst (λ n. Contains (index_chain nodes n l.before) x) (sym fewer)
-          (has_later l.before (index_chain nodes (count - (l._step + 1)) next) x
+          (Contains-cons (index_chain nodes (count - (l._step + 1)) next) l.before x
           (subst (λ y. Contains (index_chain nodes (count - (l._step + 1)) y) x) (sym next_is) has))));
     }
 

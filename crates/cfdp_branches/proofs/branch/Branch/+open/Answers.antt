@@ -6,7 +6,8 @@ use Rattle.cfdp_branches.specs.code.Branches.{IsOpened, under_names, branches_of
 use Rattle.cfdp_branches.specs.code.Twigs.{twigs_of}
 use Rattle.cfdp_branches.proofs.Changing.{Puts, more_levels, put_own, put_within}
 use Rattle.cfdp_branches.proofs.Descending.{first_there}
-use Rattle.cfdp_branches.proofs.Opening.{on_err, opening_had, opening_ordered, opening_puts, opening_there, opening_value}
+use Rattle.cfdp_paths.proofs.Results.{on_err}
+use Rattle.cfdp_branches.proofs.Opening.{opening_had, opening_ordered, opening_puts, opening_there, opening_value}
 use Rattle.cfdp_branches.proofs.branch.Branch.+open.Goals as goal
 
 pub invariant_of-self : goal.invariant_of-self
@@ -39,7 +40,7 @@ returns-in_err-old-in-Some-clause-err g t c =
     let names : c.args.names ≡ n ∷ q = search rules in
     let at : IsIndexOf (n ∷ []) (under_names (twigs_of us)) i = c.in_ok-index-in-Some.ensures.found in
     let opened : IsOpened n (twigs_of ts) (twigs_of us) = c.in_ok-index-in-Some.ensures.opened in
-    on_err c.from_residual-in_err-old-in-Some.result (opening_puts c.args.self.now v n q c.args.names ts us i t' u c.self.invariant.0 c.self.view_is names
+    on_err c.from_residual-in_err-old-in-Some.result _ (opening_puts c.args.self.now v n q c.args.names ts us i t' u c.self.invariant.0 c.self.view_is names
     opened at c.index_mut.ensures.value refl None c.in_err-old-in-Some.ensures.err)
 
 pub invariant_of-self-in_err-old-in-Some : goal.invariant_of-self-in_err-old-in-Some

@@ -4,7 +4,7 @@ use Rattle.cfdp_paths.specs.Paths.{Path, same_path}
 use Rattle.cfdp_leases.specs.code.Holders.{Holds, when}
 use Rattle.cfdp_leases.proofs.Held.{free_yet, holds_same, when_more, when_not, others_when, not_before}
 use Rattle.cfdp_leases.proofs.leased_paths.LeasedPaths.add_all_new.Goals as goal
-use Rattle.cfdp_actions.proofs.StagedLaws.{on_err}
+use Rattle.cfdp_paths.proofs.Results.{on_err}
 
 pub returns-in_err-add_new-clause-err : goal.returns-in_err-add_new-clause-err
 returns-in_err-add_new-clause-err c = λ holders by_hash free.

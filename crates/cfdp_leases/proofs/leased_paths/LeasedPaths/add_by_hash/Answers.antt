@@ -9,7 +9,7 @@ use Rattle.cfdp_leases.specs.declared.leased_paths.LeasedPaths.{LeasedPaths}
 use Rattle.cfdp_leases.specs.code.Holders.{when, unless_none}
 use Rattle.cfdp_leases.proofs.Held.{IsOf, holds_kept, holds_unwritten, other_absent, other_apart, other_changed, other_none, some_pushed, under_changed, under_is, under_there, under_written, unwritten, when_here, when_not}
 use Rattle.cfdp_leases.proofs.leased_paths.LeasedPaths.add_by_hash.Goals as goal
-use Rattle.cfdp_actions.proofs.StagedLaws.{on_err}
+use Rattle.cfdp_paths.proofs.Results.{on_err}
 
 -- no room for a record
 pub returns-in_err-slot-clause-err : goal.returns-in_err-slot-clause-err

@@ -9,7 +9,7 @@ use Rattle.cfdp_leases.specs.Footprint.{leased}
 use Rattle.cfdp_leases.specs.code.Holders.{when}
 use Rattle.cfdp_leases.proofs.Held.{holds_same, in_slice, unleased, when_not, others_when, some_wider}
 use Rattle.cfdp_leases.proofs.leased_paths.LeasedPaths.add_footprint.Goals as goal
-use Rattle.cfdp_actions.proofs.StagedLaws.{on_err}
+use Rattle.cfdp_paths.proofs.Results.{on_err}
 
 pub returns-in_err-add_all_new-clause-err : goal.returns-in_err-add_all_new-clause-err
 returns-in_err-add_all_new-clause-err c = λ holders by_hash free.

@@ -7,7 +7,7 @@ use Rattle.cfdp_leases.specs.declared.leased_paths.LeasedPaths.{LeasedPaths}
 use Rattle.cfdp_leases.specs.code.Holders.{when, unless_none}
 use Rattle.cfdp_leases.proofs.Held.{IsOf, free_none, holds_kept, other_changed, some_pushed, under_changed, when_here, when_not}
 use Rattle.cfdp_leases.proofs.leased_paths.LeasedPaths.add_new.Goals as goal
-use Rattle.cfdp_actions.proofs.StagedLaws.{on_err}
+use Rattle.cfdp_paths.proofs.Results.{on_err}
 
 -- no room for a record
 pub returns-in_err-slot-clause-err : goal.returns-in_err-slot-clause-err

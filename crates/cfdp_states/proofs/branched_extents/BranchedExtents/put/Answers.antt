@@ -4,7 +4,7 @@ use Rattle.cfdp_states.specs.declared.extent.Extent.{Extent}
 use Rattle.std.specs.FinMap.{get, insert}
 use Rattle.cfdp_branches.proofs.Changing.{Puts}
 use Rattle.cfdp_branches.specs.Branches.{has_branch, value_at}
-use Rattle.cfdp_branches.proofs.Opening.{on_err}
+use Rattle.cfdp_paths.proofs.Results.{on_err}
 use Rattle.cfdp_states.specs.code.Branched.{IsTallied, values_map}
 use Rattle.cfdp_states.specs.code.Sketching.{total_blocks, weight_in}
 use Rattle.cfdp_states.proofs.Branched.{get-values, has_at, one_more, tallied_put, used_is, values_put, values_same, weight_in_used}
@@ -29,7 +29,7 @@ invariant_of-self c =
     c.self.invariant
 
 pub returns-in_err-old-clause-err : goal.returns-in_err-old-clause-err
-returns-in_err-old-clause-err c = on_err c.from_residual.result (values_same c.self.inside.root c.open.new.self c.in_err-old.ensures.err ∙ c.self.view_is)
+returns-in_err-old-clause-err c = on_err c.from_residual.result _ (values_same c.self.inside.root c.open.new.self c.in_err-old.ensures.err ∙ c.self.view_is)
 
 pub returns-in_err-old-clause-present : goal.returns-in_err-old-clause-present
 returns-in_err-old-clause-present c = λ there.

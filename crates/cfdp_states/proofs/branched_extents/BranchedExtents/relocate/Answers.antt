@@ -2,7 +2,7 @@ use Rattle.std.proofs.Common.{rules, ◌≡◌, sym, ap, ◌∙◌, subst, refl,
 use Rattle.std.specs.FinMap.{find, get}
 use Rattle.cfdp_paths.specs.Paths.{path_cmp}
 use Rattle.cfdp_branches.specs.Branches.{Branches, value_at, value_in}
-use Rattle.cfdp_branches.proofs.Opening.{on_err}
+use Rattle.cfdp_paths.proofs.Results.{on_err}
 use Rattle.cfdp_states.specs.declared.extent.Extent.{Extent}
 use Rattle.cfdp_states.specs.code.Branched.{IsDepthAt, IsTallied, values_map}
 use Rattle.cfdp_states.specs.code.Sketching.{rehomed}
@@ -15,7 +15,7 @@ invariant_of-self c =
     c.self.invariant
 
 pub returns-in_err-open-clause-err : goal.returns-in_err-open-clause-err
-returns-in_err-open-clause-err c = on_err c.from_residual.result (values_same c.self.inside.root c.open.new.self c.in_err-open.ensures.err ∙ c.self.view_is)
+returns-in_err-open-clause-err c = on_err c.from_residual.result _ (values_same c.self.inside.root c.open.new.self c.in_err-open.ensures.err ∙ c.self.view_is)
 
 pub invariant_of-self-then-is_none : goal.invariant_of-self-then-is_none
 invariant_of-self-then-is_none c =

@@ -1,8 +1,8 @@
 use Rattle.std.proofs.Common.{◌≤◌, sym, ap, ◌∙◌, subst}
 use Rattle.cfdp_arena.specs.Arena.{octets_at}
 use Rattle.std.specs.Prelude.{◌≡◌, Some}
+use Rattle.cfdp_paths.specs.code.Paths.{name_cmp}
 use Rattle.cfdp_tree.specs.code.NodeFields.{node_fields_of, node_name}
-use Rattle.cfdp_tree.specs.code.Next.{name_cmp}
 use Rattle.cfdp_tree.proofs.OfNodes.TreeLaws.{node_octets}
 use Rattle.cfdp_tree.proofs.orders.ByNameSought.compare.Goals as goal
 

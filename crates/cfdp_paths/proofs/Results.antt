@@ -1,0 +1,7 @@
+-- Results of calls.
+--     on_err        what holds in any case holds where the result is an error
+use Rattle.std.proofs.Common.{OnErr, Result, Ok, Err}
+
+pub on_err : {T E : Type 0} (r : Result T E) (P : Type 0) → P → OnErr r P
+on_err (Ok x) P p = tt
+on_err (Err e) P p = p
