@@ -105,7 +105,8 @@ module _ (octets names : List ℕ) (count start index : ℕ) (holds_zero : Bool)
           length-onto x (slice_split is_slash (drop (index + 1) names)),
           length-slice_split is_slash (drop (index + 1) names),
         );
-        zeros = zero_too ∙ ap (λ b. b || is_separator x) h.zeros ∙ ap (λ b. list_any is_separator (so_far names start index) || b) (sym (or-false (is_separator x)))
+        zeros = zero_too ∙ ap (λ b. b || is_separator x) h.zeros
+            ∙ ap (λ b. list_any is_separator (so_far names start index) || b) (sym (or-false (is_separator x)))
             ∙ sym (ap (list_any is_separator) longer ∙ list_any-append is_separator (so_far names start index) (x ∷ []));
       }
     where
