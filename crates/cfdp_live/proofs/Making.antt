@@ -11,12 +11,12 @@ use Rattle.cfdp_receiver.specs.StateMachine.{StateMachineFields, AnswerParts, an
 use Rattle.cfdp_receiver.specs.Sent.{as_sent}
 use Rattle.cfdp_receiver.specs.Turning.{turn, after_input, after_all, parts}
 use Rattle.cfdp_receiver.proofs.AfterInputs.{after_both}
+use Rattle.cfdp_receiver.proofs.DueTimers.{drop_next}
 use Rattle.cfdp_run.specs.Playing.{is_nothing, next_settled, passing, settled_after, settling}
 use Rattle.cfdp_run.proofs.Follows.{turned_to}
 use Rattle.cfdp_run.proofs.Loops.{passing_last, passing_next, passing_none, settling_next, settling_none}
 use Rattle.cfdp_live.specs.Living.{Out, nothing, with_more, made_of_answer, made_of, made, MakesOut}
 use Rattle.cfdp_live.specs.code.Living.{with_sent}
-use Rattle.cfdp_reports.proofs.Sending.{drop_at}
 use Rattle.cfdp_transactions.proofs.Promises.ItemOrder.{or_assoc}
 
 abbrev out : List (List ℕ) → List ℕ → Bool → Out
@@ -118,4 +118,4 @@ pub sent_next : (mib : Mib) (pdus : List (List ℕ)) (n : ℕ) (octets : List �
 sent_next mib pdus n octets start now later at left grown =
     ap (λ (o : Out). with_sent o (map (as_sent mib) (drop (n + 1) pdus))) grown
     ∙ sent-assoc now (as_sent mib octets ∷ []) (map (as_sent mib) (drop (n + 1) pdus))
-    ∙ ap (λ (rest : List (List ℕ)). with_sent now (map (as_sent mib) rest)) (sym (drop_at pdus n octets at)) ∙ left
+    ∙ ap (λ (rest : List (List ℕ)). with_sent now (map (as_sent mib) rest)) (sym (drop_next pdus n octets at)) ∙ left
