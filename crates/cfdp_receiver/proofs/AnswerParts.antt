@@ -22,6 +22,7 @@ use Rattle.cfdp_transactions.specs.declared.reply.Reply.{Reply}
 use Rattle.cfdp_transactions.specs.declared.outcome.Outcome.{Outcome}
 use Rattle.cfdp_transactions.specs.World.{World, entry_of}
 use Rattle.cfdp_transactions.specs.Next.{run, replies}
+use Rattle.cfdp_receiver.specs.declared.answer.Became.TheVariants.{Nothing}
 use Rattle.cfdp_receiver.specs.declared.answer.Word.{Word}
 use Rattle.cfdp_receiver.specs.declared.answer.Word.TheVariants as words
 use Rattle.cfdp_receiver.specs.declared.mib.Handler.{Handler}
@@ -32,6 +33,10 @@ use Rattle.cfdp_receiver.specs.Handing as Handing
 use Rattle.cfdp_receiver.specs.Turning as Turning
 use Rattle.cfdp_receiver.specs.Laws.{FewPdus, FindsNoRoom, AcknowledgedOnce}
 use Rattle.cfdp_leases.proofs.Held.{same_itself}
+
+-- where what is answered does not matter
+abbrev pub silent : AnswerFields
+silent = Turning.quiet Nothing
 
 abbrev Few : AnswerFields → Type 0
 Few a = (length a.acks ≤ 1) × (length a.keep_alives + length a.finished ≤ 1)

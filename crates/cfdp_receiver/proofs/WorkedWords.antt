@@ -3,6 +3,7 @@
 --     mib                       how the entity is set up
 --     header n, id n            of transaction 1/n;  header_un n: in unacknowledged mode
 --     M, D low high, E          the file's Metadata, its octets from one offset to another, its EOF
+--     data_at now low high      these octets come, of transaction 1/5
 --     fresh m                   the entity with no session
 --     ack, nak, alive           PDUs that are sent, of transaction 1/n
 --     says, replies             an answer that sends nothing: a word of the receiver's own, or the core's
@@ -27,7 +28,7 @@ use Rattle.cfdp_receiver.specs.declared.answer.Word.{Word}
 use Rattle.cfdp_receiver.specs.declared.mib.Handler.TheVariants as handlers
 use Rattle.cfdp_receiver.specs.declared.mib.Mib.{Mib}
 use Rattle.cfdp_receiver.specs.declared.mib.NakMode.TheVariants as modes
-use Rattle.cfdp_receiver.specs.State.{State, begin, AnswerFields, turned_header}
+use Rattle.cfdp_receiver.specs.State.{State, begin, AnswerFields, Input, DataPdu, turned_header}
 use Rattle.cfdp_receiver.specs.Turning.{quiet}
 
 abbrev pub mib : Mib
@@ -67,6 +68,9 @@ D low high = record { offset = low; octets = drop low (take high octets) }
 
 abbrev pub E : Eof
 E = record { condition = 0; checksum = 0x181c2015; size = 15 }
+
+abbrev pub data_at : ℕ → ℕ → ℕ → Input
+data_at now low high = DataPdu now (header 5) (D low high)
 
 abbrev pub finished_ack : Ack
 finished_ack = record { directive = 5; condition = 0; status = Active }
