@@ -23,7 +23,7 @@ use Rattle.cfdp_transactions.specs.Admission.{new_entry}
 use Rattle.cfdp_transactions.specs.Next.{next, run, replies as replies_of}
 use Rattle.cfdp_transactions.specs.World.{World, start}
 use Rattle.cfdp_transactions.proofs.Examples.Computing.{look_ups}
-use Rattle.cfdp_transactions.proofs.Examples.ExampleWords.{config, asks}
+use Rattle.cfdp_transactions.proofs.Examples.ExampleWords.{config, id, asks}
 use Rattle.cfdp_receiver.specs.declared.answer.Indication.TheVariants as tells
 use Rattle.cfdp_receiver.specs.declared.answer.Word.TheVariants as words
 use Rattle.cfdp_receiver.specs.declared.mib.Handler.TheVariants as handlers
@@ -33,7 +33,7 @@ use Rattle.cfdp_receiver.specs.State.{State, AnswerFields, Input, MetadataPdu, D
 use Rattle.cfdp_receiver.specs.Handing.{later}
 use Rattle.cfdp_receiver.specs.Turning.{Parts, parts_of, after_input, after_all}
 use Rattle.cfdp_receiver.specs.code.Turning.{all_answers}
-use Rattle.cfdp_receiver.proofs.WorkedWords.{mib, fresh, header, header_un, id, M, octets, D, E, data_at, finished_ack, ack, nak, alive, says, replies, described, segment, pdu_of, ended, nothing}
+use Rattle.cfdp_receiver.proofs.WorkedWords.{mib, fresh, header, header_un, M, octets, D, E, data_at, finished_ack, ack, nak, alive, says, replies, described, segment, pdu_of, ended, nothing}
 
 -- ---- an input that hands on an event, and then others: its answer and those to what follows, by what the core makes of the first
 
