@@ -1,9 +1,9 @@
 -- The PDUs of an upload at its receiver.
-use Rattle.std.proofs.Common.{◌≡◌, ℕ, ◌+◌, ◌*◌, ◌<◌, ◌≤◌, List, [], ◌∷◌, ◌++◌, length, map, replicate, Bool, true, false, not, ◌&&◌, ◌||◌, cond, eqb, ltb, leb, Option, Some, None, refl, ap, sym, subst, ◌∙◌, arith, eq-eqb, ne_eqb, le-ltb, drop, inl, inr}
+use Rattle.std.proofs.Common.{◌≡◌, ℕ, ◌+◌, ◌*◌, ◌<◌, ◌≤◌, List, [], ◌∷◌, ◌++◌, length, map, replicate, true, false, not, ◌&&◌, ◌||◌, cond, eqb, ltb, leb, Option, Some, None, refl, ap, sym, subst, ◌∙◌, arith, eq-eqb, ne_eqb, le-ltb, drop, inl, inr}
 use Rattle.std.specs.List.{AllByRecursion, list_all}
 use Rattle.std.specs.Prelude.{is_some}
 use Rattle.std.proofs.lemmas.List.{length-map, length-take, length-drop}
-use Rattle.std.proofs.lemmas.Bool.{eqb-true, cases_lt, cond_both, or_from, cond-true, cond-false}
+use Rattle.std.proofs.lemmas.Bool.{eqb-true, cases_lt, cond_both, or_from, or_right, cond-true, cond-false}
 use Rattle.cfdp_actions.specs.Actions.{Item, Install}
 use Rattle.cfdp_paths.specs.Paths.{Path, path_of}
 use Rattle.cfdp_verifier.specs.Verdict.{Verdict, Grant, Refuse, verdict, Parsed, Good, Bad, parsed, parsed_from, with_file, with_destination}
@@ -148,15 +148,10 @@ whole_there : (xs : List ℕ) → is_whole (length xs) (map Some xs) ≡ true
 whole_there xs =
     ap (λ b. b && list_all is_some (map Some xs)) (eq-eqb (length (map Some xs)) (length xs) (length-map xs Some)) ∙ all_there xs
 
-or_same : (b : Bool) → b ≡ true → (a : Bool) → (a || b) ≡ true
-or_same b is true = refl
-or_same b is false = is
-
 checked_right : (u : UploadFields) (e : Entry) → e.received ≡ map Some u.file → is_right_checksum e (checksum u.file) ≡ true
 checked_right u e received =
-    or_same (eqb (checksum (staged_of e.received)) (checksum u.file))
+    or_right (eqb e.metadata.checksum_type 15) (eqb (checksum (staged_of e.received)) (checksum u.file))
     (eq-eqb (checksum (staged_of e.received)) (checksum u.file) (ap (λ (r : Received). checksum (staged_of r)) received ∙ ap checksum (staged_is u.file)))
-    (eqb e.metadata.checksum_type 15)
 
 -- no more than the file may have
 fits_bound : (c : Config) (u : UploadFields) → IsUpload u → has_file u.metadata ≡ true → length u.file ≤ bound c u.metadata

@@ -1,12 +1,13 @@
 -- What is kept of the pieces of a file is the file.
 use Rattle.std.proofs.Common.{◌≡◌, ℕ, zero, suc, ◌+◌, ◌-◌, ◌<◌, ◌≤◌, ◌⊎◌, List, [], ◌∷◌, length, map, get_or, drop, Option, Some, None, inl, inr, refl, ap, sym, subst, ◌∙◌, arith}
-use Rattle.std.specs.List.{AllByRecursion, slice_get}
+use Rattle.std.specs.List.{AllByRecursion}
 use Rattle.std.proofs.lemmas.List.{get_or-take, get_or-drop}
 use Rattle.std.proofs.lemmas.Bool.{cases_lt}
 use Rattle.std.proofs.lemmas.Option.{slice_get_past, slice_get-get_or}
 use Rattle.cfdp_transactions.specs.Received.{Received, kept_with, brought}
 use Rattle.cfdp_transactions.specs.ReceivedLaws.{octet_at, or_offset}
 use Rattle.cfdp_transactions.proofs.Received.OctetsAndGaps.{first_stays}
+use Rattle.cfdp_transactions.proofs.Received.Writing.{brought_before, brought_there}
 use Rattle.cfdp_pdus.specs.Values.{FileDataFields}
 use Rattle.cfdp_uploads.specs.Uploads.{UploadFields, IsUpload, piece_of, pieces_of}
 use Rattle.cfdp_uploads.specs.Laws.{IsPart}
@@ -15,15 +16,6 @@ use Rattle.cfdp_completion.specs.Delivering.{kept_piece, kept_after, FileIsKept}
 use Rattle.cfdp_transactions.proofs.Soundness.Receiving.{kept_within}
 
 -- ---- what a piece brings
-
-brought_before : (at i : ℕ) (xs : List ℕ) → i < at → brought at xs i ≡ None
-brought_before zero i xs lt = absurd (omega arith)
-brought_before (suc at) zero xs lt = refl
-brought_before (suc at) (suc i) xs lt = brought_before at i xs (omega arith)
-
-brought_from : (at i : ℕ) (xs : List ℕ) → brought at xs (at + i) ≡ slice_get xs i
-brought_from zero i xs = let e : 0 + i ≡ i = omega arith in ap (slice_get xs) e
-brought_from (suc at) i xs = let e : suc at + i ≡ suc (at + i) = omega arith in ap (brought (suc at) xs) e ∙ brought_from at i xs
 
 -- an octet of the file, or none
 abbrev IsOf : List ℕ → Option ℕ → ℕ → Type 0
@@ -42,19 +34,17 @@ brings file piece is i from to =
     let j : ℕ = i - piece.offset in
     let at : piece.offset + j ≡ i = omega arith in
     let lt : j < length piece.octets = omega arith in
-    ap (brought piece.offset piece.octets) (sym at) ∙ brought_from piece.offset j piece.octets ∙ slice_get-get_or piece.octets j 0 lt
+    brought_there piece.offset piece.octets i from ∙ slice_get-get_or piece.octets j 0 lt
     ∙ ap Some (part_octet file piece is j lt) ∙ ap (λ n. Some (get_or file n 0)) at
 
 brought_at_end : (file : List ℕ) (piece : FileDataFields) (i : ℕ) → piece.offset + length piece.octets ≤ i → IsOf file (brought piece.offset piece.octets i) i
 brought_at_end file piece i past =
-    let j : ℕ = i - piece.offset in
-    let at : piece.offset + j ≡ i = omega arith in
-    inl (ap (brought piece.offset piece.octets) (sym at) ∙ brought_from piece.offset j piece.octets ∙ slice_get_past piece.octets j (omega arith))
+    inl (brought_there piece.offset piece.octets i (omega arith) ∙ slice_get_past piece.octets (i - piece.offset) (omega arith))
 
 brought_part : (file : List ℕ) (piece : FileDataFields) → IsPart file piece → (i : ℕ) → IsOf file (brought piece.offset piece.octets i) i
 brought_part file piece is i =
     elim (cases_lt i piece.offset) [
-      | inl before ↦ inl (brought_before piece.offset i piece.octets before)
+      | inl before ↦ inl (brought_before piece.offset piece.octets i before)
       | inr from ↦ elim (cases_lt i (piece.offset + length piece.octets)) [
         | inl to ↦ inr (brings file piece is i from to, omega (arith, to, is.within))
         | inr past ↦ brought_at_end file piece i past

@@ -1,7 +1,7 @@
 -- Receipts that are the journal: each of its entries is one of them, and each seat's entries are its receipts.
-use Rattle.std.proofs.Common.{◌≡◌, ◌≢◌, ◌⊎◌, ℕ, suc, ◌+◌, ◌-◌, ◌≤◌, ◌<◌, Bool, ◌||◌, ◌==◌, List, [], ◌∷◌, ◌++◌, length, filter, cond, Some, None, Result, Ok, Err, slice_get, inl, inr, refl, sym, ap, ◌∙◌, subst, add-zero, eq-eqb, ne_eqb, arith, rules}
+use Rattle.std.proofs.Common.{◌≡◌, ◌≢◌, ◌⊎◌, ℕ, suc, ◌+◌, ◌-◌, ◌≤◌, ◌<◌, Bool, ◌||◌, ◌==◌, List, [], ◌∷◌, ◌++◌, length, filter, cond, Some, None, slice_get, inl, inr, refl, sym, ap, ◌∙◌, subst, add-zero, eq-eqb, ne_eqb, arith, rules}
 use Rattle.std.proofs.Math.Nat.{eq-or-lt_of_le}
-use Rattle.std.specs.Prelude.{⊤, IsTrue, IsFalse, IfOk}
+use Rattle.std.specs.Prelude.{⊤, IsTrue, IsFalse}
 use Rattle.std.specs.List.{AllByRecursion, list_any}
 use Rattle.std.proofs.lemmas.List.Folds.{list_any-append}
 use Rattle.cfdp_transactions.specs.declared.event.Event.{Event}
@@ -313,8 +313,3 @@ replies_fit law J W seats history reconciled readable =
     let all = covered J 0 J seats (from_first J) (each_from J seats reconciled.entered) readable
     (differ [] seats reconciled.apart) in
     subst (AllByRecursion FitsReply) history.replies (law W.config (journal_events J) (all.readable (sym reconciled.counted)))
-
--- what follows from what an answer is
-pub if_ok : {T E : Type 0} {P Q : T → Type 0} (result : Result T E) → ((answer : T) → P answer → Q answer) → IfOk result P → IfOk result Q
-if_ok (Ok answer) goes known = goes answer known
-if_ok (Err fault) goes known = tt

@@ -1,5 +1,6 @@
 -- Configurations that the test for it calls equal are one, and the others are not.
 use Rattle.std.proofs.Common.{◌≡◌, ℕ, Bool, true, false, not, ◌&&◌, ◌==◌, refl, sym, ap, subst, ◌∙◌, eqb→eq, true≢false, T}
+use Rattle.std.proofs.lemmas.Bool.{not-false}
 use Rattle.std.specs.Cmp.{first_so, second_so, Equal-is}
 use Rattle.std.specs.FinMap.{nat_cmp-IsAntisymmetric, slice_cmp-IsAntisymmetric}
 use Rattle.std.specs.Prelude.{List}
@@ -32,12 +33,8 @@ config_is a b same =
     λ i. record { entity = entity i; blocks = blocks i; cap = cap i; checks = checks i; journal = journal i; prefixes = prefixes i }
 
 -- as where the test says that they do not differ
-holds : (b : Bool) → false ≡ not b → b ≡ true
-holds true same = refl
-holds false same = absurd (true≢false (sym same))
-
 pub config_same : (a b : Config) → false ≡ not (same_config a b) → a ≡ b
-config_same a b same = config_is a b (holds (same_config a b) same)
+config_same a b same = config_is a b (not-false (same_config a b) (sym same))
 
 -- likewise where the test says that they do
 fails : (b : Bool) → true ≡ not b → b ≡ true → ⊥

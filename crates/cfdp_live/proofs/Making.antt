@@ -1,23 +1,20 @@
 -- What inputs make, one after the other.
 --     more-nothing, more-assoc     nothing more;  three of them
 --     LeftToMake                   some inputs are left, from the state R: with what was made they end and make what all of them do
-use Rattle.std.proofs.Common.{◌≡◌, refl, sym, ap, ◌∙◌, subst, ◌⊎◌, inl, inr, ℕ, zero, suc, ◌+◌, ◌≤◌, Bool, true, false, List, [], ◌∷◌, ◌++◌, length, map, drop, Option, Some, None, slice_get, append_assoc}
+use Rattle.std.proofs.Common.{◌≡◌, refl, sym, ap, ◌∙◌, subst, ◌⊎◌, ℕ, suc, ◌+◌, Bool, true, false, List, [], ◌∷◌, ◌++◌, map, drop, Some, None, slice_get, append_assoc}
 use Rattle.std.specs.Prelude.{◌||◌}
-use Rattle.std.proofs.Math.Bool.{or-false}
-use Rattle.std.proofs.lemmas.List.{append-nil, drop_all}
+use Rattle.std.proofs.Math.Bool.{or-false, or_assoc}
+use Rattle.std.proofs.lemmas.List.{append-nil}
 use Rattle.cfdp_receiver.specs.declared.mib.Mib.{Mib}
-use Rattle.cfdp_receiver.specs.State.{State, AnswerFields, Input, Expire}
-use Rattle.cfdp_receiver.specs.StateMachine.{StateMachineFields, AnswerParts, answer_in}
+use Rattle.cfdp_receiver.specs.State.{State, Input, Expire}
 use Rattle.cfdp_receiver.specs.Sent.{as_sent}
-use Rattle.cfdp_receiver.specs.Turning.{turn, after_input, after_all, parts}
+use Rattle.cfdp_receiver.specs.Turning.{after_input, after_all, parts}
 use Rattle.cfdp_receiver.proofs.AfterInputs.{after_both}
+use Rattle.cfdp_receiver.proofs.DueTimers.{drop_next}
 use Rattle.cfdp_run.specs.Playing.{is_nothing, next_settled, passing, settled_after, settling}
-use Rattle.cfdp_run.proofs.Follows.{turned_to}
 use Rattle.cfdp_run.proofs.Loops.{passing_last, passing_next, passing_none, settling_next, settling_none}
-use Rattle.cfdp_live.specs.Living.{Out, nothing, with_more, made_of_answer, made_of, made, MakesOut}
+use Rattle.cfdp_live.specs.Living.{Out, nothing, with_more, made_of, made, MakesOut}
 use Rattle.cfdp_live.specs.code.Living.{with_sent}
-use Rattle.cfdp_reports.proofs.Sending.{drop_at}
-use Rattle.cfdp_transactions.proofs.Promises.ItemOrder.{or_assoc}
 
 abbrev out : List (List ℕ) → List ℕ → Bool → Out
 out sent reported ended = record { sent = sent; reported = reported; ended = ended }
@@ -118,4 +115,4 @@ pub sent_next : (mib : Mib) (pdus : List (List ℕ)) (n : ℕ) (octets : List �
 sent_next mib pdus n octets start now later at left grown =
     ap (λ (o : Out). with_sent o (map (as_sent mib) (drop (n + 1) pdus))) grown
     ∙ sent-assoc now (as_sent mib octets ∷ []) (map (as_sent mib) (drop (n + 1) pdus))
-    ∙ ap (λ (rest : List (List ℕ)). with_sent now (map (as_sent mib) rest)) (sym (drop_at pdus n octets at)) ∙ left
+    ∙ ap (λ (rest : List (List ℕ)). with_sent now (map (as_sent mib) rest)) (sym (drop_next pdus n octets at)) ∙ left

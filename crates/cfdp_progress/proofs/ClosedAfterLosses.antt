@@ -1,7 +1,7 @@
 -- A session that waits for the acknowledgement of its Finished PDU.
 use Rattle.std.specs.Prelude.{if◌then◌else◌, ◌==◌, take}
 use Rattle.std.specs.List.{AllByRecursion, flat_map, list_any}
-use Rattle.std.proofs.Common.{◌≡◌, ◌⊎◌, inl, inr, ℕ, ◌+◌, ◌<◌, ◌≤◌, Bool, true, false, ◌&&◌, ◌||◌, List, [], ◌∷◌, ◌++◌, length, Option, Some, None, refl, sym, ap, subst, ◌∙◌, arith}
+use Rattle.std.proofs.Common.{◌≡◌, ◌⊎◌, inl, inr, ℕ, ◌+◌, ◌<◌, ◌≤◌, Bool, true, false, ◌&&◌, List, [], ◌∷◌, ◌++◌, length, Option, Some, None, refl, sym, ap, subst, ◌∙◌, append_assoc, arith}
 use Rattle.std.proofs.lemmas.Bool.{cond-true, cond-false, cases_Bool, and_parts, and_left, and_right, or_left, or_from, both_ways}
 use Rattle.cfdp_status.specs.declared.transaction.TransactionId.{TransactionId}
 use Rattle.cfdp_leases.specs.Leases.{is_same}
@@ -35,7 +35,7 @@ use Rattle.cfdp_receiver.proofs.FinishedSentAtMost.{stage_due, alive_due, first_
 use Rattle.cfdp_receiver.proofs.TurnShapes.{others_stay}
 use Rattle.cfdp_progress.specs.NakRounds.{IsServed}
 use Rattle.cfdp_progress.specs.Closing.{acknowledges, is_acknowledged, is_timer_of, is_sent_again, IsSentOnce, FinishedRound, finished_inputs, AreFinishedRounds, rounds_lost, WasClosed, ClosedAfterLosses}
-use Rattle.cfdp_progress.proofs.Runs.{distinct_all, mib_all, joined}
+use Rattle.cfdp_progress.proofs.Runs.{distinct_all, mib_all}
 use Rattle.cfdp_receiver.proofs.Serving.{full_of}
 use Rattle.cfdp_leases.proofs.Held.{same_itself}
 use Rattle.cfdp_leases.proofs.Admitted.{same_is}
@@ -268,7 +268,7 @@ closed_before R xs ys id w =
     record {
       front = w.front;
       back = w.back ++ ys;
-      parts = ap (λ (ws : List Input). ws ++ ys) w.parts ∙ joined w.front w.back ys;
+      parts = ap (λ (ws : List Input). ws ++ ys) w.parts ∙ append_assoc w.front w.back ys;
       gone = w.gone;
       remembered =
           w.remembered;

@@ -7,9 +7,8 @@ use Rattle.cfdp_leases.specs.Leases.{is_same}
 use Rattle.cfdp_pdus.specs.Values.{MetadataFields, FileDataFields}
 use Rattle.cfdp_pdus.specs.declared.eof.Eof.{Eof}
 use Rattle.cfdp_pdus.specs.declared.header.Header.{Header}
-use Rattle.cfdp_directives.specs.Reading.{NakFields}
 use Rattle.cfdp_directives.specs.declared.ack.Ack.{Ack}
-use Rattle.cfdp_retransmission.specs.Naks.{SegmentRequest, Nak, naks_in}
+use Rattle.cfdp_retransmission.specs.Naks.{SegmentRequest, naks_in}
 use Rattle.cfdp_retransmission.specs.Timers.{restarted, passed}
 use Rattle.cfdp_retransmission.specs.declared.timer.Expiry.TheVariants.{Again, Limit}
 use Rattle.cfdp_sessions.specs.Closed.{remembers}
@@ -27,7 +26,7 @@ use Rattle.cfdp_receiver.specs.declared.joint_phase.JointPhase.TheVariants.{Held
 use Rattle.cfdp_receiver.specs.declared.mib.Handler.{Handler}
 use Rattle.cfdp_receiver.specs.declared.mib.Handler.TheVariants as handlers
 use Rattle.cfdp_receiver.specs.declared.mib.Mib.{Mib}
-use Rattle.cfdp_receiver.specs.State.{State, AnswerFields, Input, MetadataPdu, DataPdu, EofPdu, AckPdu, PromptPdu, OtherPdu, Expire, Work, Finish, CancelAsked, ForgetAsked, session_of, is_full, at_of, at_stage, turned_header}
+use Rattle.cfdp_receiver.specs.State.{State, AnswerFields, Input, MetadataPdu, DataPdu, EofPdu, AckPdu, PromptPdu, OtherPdu, Expire, Work, Finish, CancelAsked, ForgetAsked, session_of, is_full, at_of, at_stage}
 use Rattle.cfdp_receiver.specs.Due as Dues
 use Rattle.cfdp_receiver.specs.Handing as Handing
 use Rattle.cfdp_receiver.specs.Turning as Turning
@@ -36,6 +35,7 @@ use Rattle.cfdp_receiver.specs.Laws.{asks_metadata, due_name, session_name, touc
 use Rattle.cfdp_receiver.proofs.Distinct.{distinct_after}
 use Rattle.cfdp_receiver.proofs.SessionsAreKnown.{added_found}
 use Rattle.cfdp_receiver.proofs.FinishedSentAtMost.{stage_due, alive_due, first_over_is, is_it}
+use Rattle.cfdp_receiver.proofs.NaksAsk.{with_header}
 use Rattle.cfdp_receiver.proofs.TurnShapes.{others_stay}
 use Rattle.cfdp_progress.specs.Awaiting.{is_ignoring, is_given_up, breaks_off}
 use Rattle.cfdp_progress.specs.HeldRounds.{is_eof_held, holds_in, EofHolds, BeginsHeldRound, asks_first, joins_held, comes, StaysHeld}
@@ -280,9 +280,6 @@ stays_held R (i ∷ is) id count d h on none =
     }) on.1 no.1
 
 -- ---- the first NAK PDU asks for the Metadata PDU
-
-abbrev with_header : Header → Nak → NakFields
-with_header h nak = record { header = turned_header h; scope = nak.scope; requests = nak.requests }
 
 first_asks : (more most low high : ℕ) (h : Header) (rs : List SegmentRequest) → 0 < more → 1 ≤ most →
     asks_first (map (with_header h) (naks_in more most low high ((0, 0) ∷ rs))) ≡ true

@@ -186,7 +186,7 @@ as_many : (rounds : List EitherRound) → length (as_all rounds) ≡ length roun
 as_many [] = refl
 as_many (round ∷ rounds) = omega (arith, as_many rounds)
 
-abbrev AreBelowAll : List EitherRound → Type 0
+abbrev pub AreBelowAll : List EitherRound → Type 0
 AreBelowAll rounds = AllByRecursion (λ round. round.is_at_limit ≡ false) rounds
 
 low_all : (rounds : List EitherRound) → AreBelowAll rounds → AreLow (as_all rounds)

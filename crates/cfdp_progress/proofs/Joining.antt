@@ -1,6 +1,6 @@
 -- Rounds in which an EOF PDU is held: each loses a PDU, until the Metadata PDU comes.
-use Rattle.std.specs.List.{AllByRecursion, flat_map}
-use Rattle.std.proofs.Common.{◌≡◌, ◌⊎◌, inl, inr, ℕ, ◌+◌, ◌<◌, ◌≤◌, Bool, true, false, ◌&&◌, List, [], ◌∷◌, ◌++◌, length, Option, Some, None, refl, sym, ap, subst, ◌∙◌, arith}
+use Rattle.std.specs.List.{flat_map}
+use Rattle.std.proofs.Common.{◌≡◌, ◌⊎◌, inl, inr, ℕ, ◌+◌, ◌<◌, ◌≤◌, Bool, true, false, ◌&&◌, List, [], ◌∷◌, ◌++◌, length, Option, Some, None, refl, sym, ap, subst, ◌∙◌, append_assoc, arith}
 use Rattle.std.proofs.lemmas.Bool.{cases_Bool, and_parts, or_parts, both_ways, or_cases}
 use Rattle.cfdp_status.specs.declared.transaction.TransactionId.{TransactionId}
 use Rattle.cfdp_leases.specs.Leases.{is_same}
@@ -25,8 +25,8 @@ use Rattle.cfdp_progress.specs.InAll.{EitherRound, inputs_of, lost_in_all}
 use Rattle.cfdp_progress.specs.NakRounds.{MetadataOpens, Opens, FirstRound}
 use Rattle.cfdp_progress.proofs.ClosedAfterLosses.{closed_after}
 use Rattle.cfdp_progress.proofs.Holding.{StillHeld, stays_held, Opened, opened_again, opened_first}
-use Rattle.cfdp_progress.proofs.InAll.{known_all, closed_in_all}
-use Rattle.cfdp_progress.proofs.Runs.{sound_all, distinct_all, mib_all, joined}
+use Rattle.cfdp_progress.proofs.InAll.{AreBelowAll, known_all, closed_in_all}
+use Rattle.cfdp_progress.proofs.Runs.{sound_all, distinct_all, mib_all}
 use Rattle.cfdp_progress.proofs.NothingOfFile.{nothing_kept}
 use Rattle.cfdp_leases.proofs.Admitted.{same_is}
 
@@ -133,7 +133,7 @@ came_before R xs ys id c = record {
   header = c.header;
   metadata = c.metadata;
   back = c.back ++ ys;
-  parts = ap (λ (ws : List Input). ws ++ ys) c.parts ∙ joined c.front (MetadataPdu c.moment c.header c.metadata ∷ c.back) ys;
+  parts = ap (λ (ws : List Input). ws ++ ys) c.parts ∙ append_assoc c.front (MetadataPdu c.moment c.header c.metadata ∷ c.back) ys;
   opens = c.opens;
 }
 
@@ -197,9 +197,6 @@ metadata_comes R id rounds d new some are low enough = elim (cases_Bool (comes_i
 ]
 
 -- ---- until the session is closed
-
-abbrev AreBelowAll : List EitherRound → Type 0
-AreBelowAll rounds = AllByRecursion (λ round. round.is_at_limit ≡ false) rounds
 
 abbrev AllLow : List HeldRound → FirstRound → Bool → List EitherRound → Mib → Type 0
 AllLow held first is_lost rounds mib =

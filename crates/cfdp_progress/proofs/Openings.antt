@@ -8,7 +8,6 @@ use Rattle.cfdp_leases.specs.Leases.{is_same}
 use Rattle.cfdp_pdus.specs.Values.{MetadataFields}
 use Rattle.cfdp_pdus.specs.declared.eof.Eof.{Eof}
 use Rattle.cfdp_pdus.specs.declared.header.Header.{Header}
-use Rattle.cfdp_directives.specs.Reading.{NakFields}
 use Rattle.cfdp_retransmission.specs.Naks.{SegmentRequest, Nak, naks}
 use Rattle.cfdp_retransmission.specs.Rounds.{asked_for}
 use Rattle.cfdp_retransmission.specs.Timers.{passed, restarted}
@@ -28,7 +27,7 @@ use Rattle.cfdp_receiver.specs.declared.answer.Word.TheVariants as words
 use Rattle.cfdp_receiver.specs.declared.mib.Mib.{Mib}
 use Rattle.cfdp_receiver.specs.declared.joint_phase.JointPhase.{JointPhase}
 use Rattle.cfdp_receiver.specs.declared.joint_phase.JointPhase.TheVariants.{Awaiting as At_awaiting}
-use Rattle.cfdp_receiver.specs.State.{State, AnswerFields, Input, MetadataPdu, DataPdu, EofPdu, AckPdu, PromptPdu, OtherPdu, Expire, Work, Finish, CancelAsked, ForgetAsked, session_of, at_of, turned_header}
+use Rattle.cfdp_receiver.specs.State.{State, AnswerFields, Input, MetadataPdu, DataPdu, EofPdu, AckPdu, PromptPdu, OtherPdu, Expire, Work, Finish, CancelAsked, ForgetAsked, session_of, at_of}
 use Rattle.cfdp_receiver.specs.Due as Dues
 use Rattle.cfdp_receiver.specs.Handing as Handing
 use Rattle.cfdp_receiver.specs.Turning as Turning
@@ -38,14 +37,11 @@ use Rattle.cfdp_progress.specs.Awaiting.{EntryAwaits, TransactionAwaits}
 use Rattle.cfdp_progress.specs.NakRounds.{requests_of_each, IsServed, EofOpens, MetadataOpens, Opens}
 use Rattle.cfdp_progress.proofs.Turns.{Before, at_is, at_in, asks_none, heard_is}
 use Rattle.cfdp_progress.proofs.Runs.{before_of}
-use Rattle.cfdp_receiver.proofs.NaksAsk.{from_zero}
+use Rattle.cfdp_receiver.proofs.NaksAsk.{from_zero, with_header}
 use Rattle.cfdp_receiver.proofs.Serving.{full_of}
 use Rattle.cfdp_leases.proofs.Held.{same_itself}
 
 -- ---- the requests of a sequence for its gaps
-
-abbrev with_header : Header → Nak → NakFields
-with_header h nak = record { header = turned_header h; scope = nak.scope; requests = nak.requests }
 
 requests_are : (h : Header) (xs : List Nak) → requests_of_each (map (with_header h) xs) ≡ map (λ (n : Nak). n.requests) xs
 requests_are h [] = refl

@@ -1,6 +1,6 @@
 -- Several turns of a receiver in which a transaction waits for octets.
 use Rattle.std.specs.Prelude.{◌==◌}
-use Rattle.std.proofs.Common.{◌≡◌, ◌⊎◌, inl, inr, ℕ, ◌<◌, ◌≤◌, true, false, not, List, [], ◌∷◌, ◌++◌, length, Option, Some, None, refl, sym, ap, subst, ◌∙◌, arith}
+use Rattle.std.proofs.Common.{◌≡◌, ◌⊎◌, inl, inr, ℕ, ◌≤◌, true, false, not, List, [], ◌∷◌, ◌++◌, length, Option, Some, None, refl, sym, ap, subst, ◌∙◌, append_assoc, arith}
 use Rattle.std.proofs.lemmas.Bool.{cond_both, cond-false, cases_Bool, not-true, both_ways}
 use Rattle.cfdp_status.specs.declared.transaction.TransactionId.{TransactionId}
 use Rattle.cfdp_leases.specs.Leases.{is_same}
@@ -61,16 +61,12 @@ pub was_after : (R : State) (xs ys : List Input) (id : TransactionId) → WasDel
 was_after R [] ys id w = w
 was_after R (x ∷ xs) ys id w = was_later R x (xs ++ ys) id (was_after (after_input R x) xs ys id w)
 
-pub joined : (xs ys zs : List Input) → (xs ++ ys) ++ zs ≡ xs ++ (ys ++ zs)
-joined [] ys zs = refl
-joined (x ∷ xs) ys zs = ap (λ (ws : List Input). x ∷ ws) (joined xs ys zs)
-
 pub was_before : (R : State) (xs ys : List Input) (id : TransactionId) → WasDelivered R xs id → WasDelivered R (xs ++ ys) id
 was_before R xs ys id w = record {
   front = w.front;
   back = w.back ++ ys;
   parts =
-      ap (λ (ws : List Input). ws ++ ys) w.parts ∙ joined w.front w.back ys;
+      ap (λ (ws : List Input). ws ++ ys) w.parts ∙ append_assoc w.front w.back ys;
   delivered = w.delivered;
 }
 

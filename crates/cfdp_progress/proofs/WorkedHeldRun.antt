@@ -15,18 +15,19 @@ use Rattle.cfdp_transactions.specs.World.{World, entry_of}
 use Rattle.cfdp_transactions.specs.declared.event.Event.TheVariants.{Eof as EofCame}
 use Rattle.cfdp_transactions.specs.declared.reply.Reply.{Reply as ReplyOf}
 use Rattle.cfdp_transactions.specs.declared.reply.Reply.TheVariants as Reply
+use Rattle.cfdp_transactions.proofs.Examples.ExampleWords.{id}
 use Rattle.cfdp_receiver.specs.State.{State, Input, MetadataPdu, EofPdu, AckPdu, Expire, Finish, now_of, session_of}
 use Rattle.cfdp_receiver.specs.Handing.{later}
 use Rattle.cfdp_receiver.specs.Laws.{AreKnown}
 use Rattle.cfdp_receiver.specs.Turning.{Parts, parts_of, after_all}
-use Rattle.cfdp_receiver.proofs.WorkedWords.{fresh, header, id, M, finished_ack}
+use Rattle.cfdp_receiver.proofs.WorkedWords.{fresh, header, M, data_at, finished_ack}
 use Rattle.cfdp_receiver.proofs.WorkedInputs.{with_entry, admitted}
 use Rattle.cfdp_progress.specs.Awaiting.{TransactionAwaits}
 use Rattle.cfdp_progress.specs.Closing.{WasClosed}
 use Rattle.cfdp_progress.specs.HeldRounds.{HeldRound, held_inputs, IsHeldRound, AreHeldRounds, MetadataCame, MetadataComes, until_metadata, at_metadata, ClosedFromHeld}
 use Rattle.cfdp_progress.specs.InAll.{IsWatched}
 use Rattle.cfdp_progress.specs.NakRounds.{AreAnswered, FirstRound, IsFirstRound}
-use Rattle.cfdp_progress.proofs.WorkedRun.{patient, data_at, sending, asking, wrong, entry_in, session_in}
+use Rattle.cfdp_progress.proofs.WorkedRun.{patient, sending, asking, wrong, entry_in, session_in}
 
 abbrev begun : State
 begun = fresh patient

@@ -20,13 +20,13 @@ use Rattle.cfdp_transactions.specs.Entry.{Entry}
 use Rattle.cfdp_transactions.specs.Sound.{Sound}
 use Rattle.cfdp_transactions.specs.World.{entry_of}
 use Rattle.cfdp_transactions.specs.declared.phase.Phase.TheVariants.{Receiving}
-use Rattle.cfdp_transactions.proofs.Examples.ExampleWords.{config}
+use Rattle.cfdp_transactions.proofs.Examples.ExampleWords.{config, id}
 use Rattle.cfdp_receiver.specs.declared.mib.Handler.TheVariants as handlers
 use Rattle.cfdp_receiver.specs.declared.mib.Mib.{Mib}
-use Rattle.cfdp_receiver.specs.State.{State, Input, DataPdu, EofPdu, AckPdu, Finish, session_of}
+use Rattle.cfdp_receiver.specs.State.{State, EofPdu, AckPdu, Finish, session_of}
 use Rattle.cfdp_receiver.specs.Laws.{AreKnown}
 use Rattle.cfdp_receiver.specs.Turning.{after_input, after_all}
-use Rattle.cfdp_receiver.proofs.WorkedWords.{mib, header, id, M, D, E, finished_ack, pdu_of}
+use Rattle.cfdp_receiver.proofs.WorkedWords.{mib, header, M, D, E, data_at, finished_ack, pdu_of}
 use Rattle.cfdp_progress.specs.Awaiting.{IsDelivered, WasDelivered}
 use Rattle.cfdp_progress.specs.NakRounds.{NakRound, AreNakRounds, all_inputs, FirstRound, IsFirstRound, DeliveredAfterLosses}
 use Rattle.cfdp_progress.specs.InAll.{EitherRound, inputs_of, IsWatched, IsEitherRound, AreEitherRounds, ClosedInAll}
@@ -54,9 +54,6 @@ described = record {
   sessions = known ∷ [];
   closed = record { names = []; forgot = false };
 }
-
-abbrev pub data_at : ℕ → ℕ → ℕ → Input
-data_at moment low high = DataPdu moment (header 5) (D low high)
 
 abbrev pub sending : ℕ → ℕ → Bool → Sending
 sending low high lost = record { piece = (low, (D low high).octets); is_lost = lost }

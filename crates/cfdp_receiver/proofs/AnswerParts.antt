@@ -1,5 +1,5 @@
 -- What an answer has.
-use Rattle.std.proofs.Common.{◌≡◌, ◌⊎◌, inl, inr, ℕ, ◌+◌, ◌≤◌, Bool, true, false, not, ◌&&◌, ◌||◌, ◌==◌, if◌then◌else◌, List, [], length, Option, Some, None, refl, sym, ap, subst, ◌∙◌, arith}
+use Rattle.std.proofs.Common.{◌≡◌, ◌⊎◌, inl, inr, ℕ, ◌+◌, ◌≤◌, true, false, not, ◌&&◌, ◌||◌, ◌==◌, if◌then◌else◌, List, [], length, Option, Some, None, refl, sym, ap, subst, ◌∙◌, arith}
 use Rattle.std.proofs.lemmas.Bool.{cond_both, cond-true, or_parts, eqb-true, not-false}
 use Rattle.std.specs.List.{list_any}
 use Rattle.cfdp_status.specs.declared.transaction.TransactionId.{TransactionId}
@@ -22,6 +22,7 @@ use Rattle.cfdp_transactions.specs.declared.reply.Reply.{Reply}
 use Rattle.cfdp_transactions.specs.declared.outcome.Outcome.{Outcome}
 use Rattle.cfdp_transactions.specs.World.{World, entry_of}
 use Rattle.cfdp_transactions.specs.Next.{run, replies}
+use Rattle.cfdp_receiver.specs.declared.answer.Became.TheVariants.{Nothing}
 use Rattle.cfdp_receiver.specs.declared.answer.Word.{Word}
 use Rattle.cfdp_receiver.specs.declared.answer.Word.TheVariants as words
 use Rattle.cfdp_receiver.specs.declared.mib.Handler.{Handler}
@@ -33,19 +34,15 @@ use Rattle.cfdp_receiver.specs.Turning as Turning
 use Rattle.cfdp_receiver.specs.Laws.{FewPdus, FindsNoRoom, AcknowledgedOnce}
 use Rattle.cfdp_leases.proofs.Held.{same_itself}
 
+-- where what is answered does not matter
+abbrev pub silent : AnswerFields
+silent = Turning.quiet Nothing
+
 abbrev Few : AnswerFields → Type 0
 Few a = (length a.acks ≤ 1) × (length a.keep_alives + length a.finished ≤ 1)
 
 abbrev FewIn : Turning.Parts → Type 0
 FewIn p = Few p.answer
-
-if_parts : (b : Bool) (p q : Turning.Parts) → FewIn p → FewIn q → FewIn (if b then p else q)
-if_parts true p q hp hq = hp
-if_parts false p q hp hq = hq
-
-if_answer : (b : Bool) (a c : AnswerFields) → Few a → Few c → Few (if b then a else c)
-if_answer true a c ha hc = ha
-if_answer false a c ha hc = hc
 
 none : (0 ≤ 1) × (0 ≤ 1)
 none = (omega arith, omega arith)
@@ -55,41 +52,41 @@ one_ack h condition status = cond_both h.acknowledged _ [] (λ (xs : List (Heade
 
 few_metadata_stage : (R : State) (V : World) (rs : List Reply) (h : Header) (m : MetadataFields) (s : SessionFields) (stage : Stage) →
     FewIn (Turning.metadata_stage R V rs h m s stage)
-few_metadata_stage R V rs h m s (Held eof) = if_parts h.acknowledged _ _ none none
+few_metadata_stage R V rs h m s (Held eof) = cond_both h.acknowledged _ _ FewIn (λ _. none) (λ _. none)
 few_metadata_stage R V rs h m s Known = none
 few_metadata_stage R V rs h m s (Over ending) = none
 few_metadata_stage R V rs h m s Waiting = none
 
 few_metadata : (R : State) (V : World) (rs : List Reply) (h : Header) (m : MetadataFields) (s : Option SessionFields) →
     FewIn (Turning.metadata_parts R V rs h m s)
-few_metadata R V rs h m None = if_parts (is_closed R (id_of h) || is_full R) _ _ none none
+few_metadata R V rs h m None = cond_both (is_closed R (id_of h) || is_full R) _ _ FewIn (λ _. none) (λ _. none)
 few_metadata R V rs h m (Some s) = few_metadata_stage R V rs h m s s.stage
 
 few_data : (R : State) (V : World) (rs : List Reply) (h : Header) (piece : FileDataFields) (s : Option SessionFields) →
     FewIn (Turning.data_parts R V rs h piece s)
 few_data R V rs h piece None = none
-few_data R V rs h piece (Some s) = if_parts (Turning.is_known s.stage) _ _ none none
+few_data R V rs h piece (Some s) = cond_both (Turning.is_known s.stage) _ _ FewIn (λ _. none) (λ _. none)
 
 few_eof_stage : (R : State) (V : World) (rs : List Reply) (h : Header) (eof : Eof) (s : SessionFields) (stage : Stage) →
     FewIn (Turning.eof_stage R V rs h eof s stage)
 few_eof_stage R V rs h eof s (Held kept) =
-    if_parts (eof.condition == 0) _ _ (one_ack h eof.condition Active, omega arith) (one_ack h eof.condition Active, omega arith)
+    cond_both (eof.condition == 0) _ _ FewIn (λ _. (one_ack h eof.condition Active, omega arith)) (λ _. (one_ack h eof.condition Active, omega arith))
 few_eof_stage R V rs h eof s Known = (one_ack h eof.condition Active, omega arith)
 few_eof_stage R V rs h eof s (Over ending) = (one_ack h eof.condition Active, omega arith)
 few_eof_stage R V rs h eof s Waiting = (one_ack h eof.condition Active, omega arith)
 
 few_eof : (R : State) (V : World) (rs : List Reply) (h : Header) (eof : Eof) (s : Option SessionFields) → FewIn (Turning.eof_parts R V rs h eof s)
 few_eof R V rs h eof None =
-    if_parts (is_closed R (id_of h) || not (eof.condition == 0) || not h.acknowledged) _ _
-    (one_ack h eof.condition (status_of R (id_of h)), omega arith)
-    (if_parts (is_full R) _ _ none (one_ack h eof.condition Active, omega arith))
+    cond_both (is_closed R (id_of h) || not (eof.condition == 0) || not h.acknowledged) _ _ FewIn
+    (λ _. (one_ack h eof.condition (status_of R (id_of h)), omega arith))
+    (λ _. cond_both (is_full R) _ _ FewIn (λ _. none) (λ _. (one_ack h eof.condition Active, omega arith)))
 few_eof R V rs h eof (Some s) = few_eof_stage R V rs h eof s s.stage
 
 few_ack_stage : (R : State) (h : Header) (ack : Ack) (s : SessionFields) (stage : Stage) → FewIn (Turning.ack_stage R h ack s stage)
 few_ack_stage R h ack s (Held eof) = none
 few_ack_stage R h ack s Known = none
 few_ack_stage R h ack s (Over ending) = none
-few_ack_stage R h ack s Waiting = if_parts (ack.directive == 5) _ _ none none
+few_ack_stage R h ack s Waiting = cond_both (ack.directive == 5) _ _ FewIn (λ _. none) (λ _. none)
 
 few_ack : (R : State) (h : Header) (ack : Ack) (s : Option SessionFields) → FewIn (Turning.ack_parts R h ack s)
 few_ack R h ack None = none
@@ -101,15 +98,16 @@ few_prompted R h s prompts.KeepAlive = (omega arith, omega arith)
 
 few_prompt : (R : State) (h : Header) (prompt : Prompt) (s : Option SessionFields) → FewIn (Turning.prompt_parts R h prompt s)
 few_prompt R h prompt None = none
-few_prompt R h prompt (Some s) = if_parts (s.header.acknowledged && Turning.takes_prompts (at_of R.world s)) _ _ (few_prompted R h s prompt) none
+few_prompt R h prompt (Some s) =
+    cond_both (s.header.acknowledged && Turning.takes_prompts (at_of R.world s)) _ _ FewIn (λ _. few_prompted R h s prompt) (λ _. none)
 
 few_repeats : (R : State) (V : World) (s : SessionFields) (at : JointPhase) → Few (Turning.repeats R V s at)
 few_repeats R V s At_waiting = (omega arith, omega arith)
-few_repeats R V s At_held = if_answer s.header.acknowledged _ _ none none
-few_repeats R V s At_receiving = if_answer s.header.acknowledged _ _ none none
-few_repeats R V s (At_awaiting made) = if_answer s.header.acknowledged _ _ none none
-few_repeats R V s At_executing = if_answer s.header.acknowledged _ _ none none
-few_repeats R V s At_over = if_answer s.header.acknowledged _ _ none none
+few_repeats R V s At_held = cond_both s.header.acknowledged _ _ Few (λ _. none) (λ _. none)
+few_repeats R V s At_receiving = cond_both s.header.acknowledged _ _ Few (λ _. none) (λ _. none)
+few_repeats R V s (At_awaiting made) = cond_both s.header.acknowledged _ _ Few (λ _. none) (λ _. none)
+few_repeats R V s At_executing = cond_both s.header.acknowledged _ _ Few (λ _. none) (λ _. none)
+few_repeats R V s At_over = cond_both s.header.acknowledged _ _ Few (λ _. none) (λ _. none)
 
 few_gives_up : (R : State) (s : SessionFields) (condition : ℕ) (how : Handler) (at : JointPhase) → FewIn (Turning.gives_up R s condition how at)
 few_gives_up R s condition handlers.Ignore at = none
@@ -134,11 +132,9 @@ few_due R V (Due.Stage_due s true) = few_gives_up R s _ _ _
 
 few_session : (R : State) (s : SessionFields) (o : Outcome) → FewIn (Turning.finish_session R s o)
 few_session R s o =
-    if_parts s.is_abandoned _ _ none (
-    if_parts (not o.send) _ _ none (
-    if_parts (not s.header.acknowledged) _ _ (omega arith, omega arith) (omega arith, omega arith)
-    )
-    )
+    cond_both s.is_abandoned _ _ FewIn (λ _. none)
+    (λ _. cond_both (not o.send) _ _ FewIn (λ _. none)
+    (λ _. cond_both (not s.header.acknowledged) _ _ FewIn (λ _. (omega arith, omega arith)) (λ _. (omega arith, omega arith))))
 
 few_finish : (R : State) (s : Option SessionFields) → FewIn (Turning.finish_parts R s)
 few_finish R None = none
@@ -155,12 +151,12 @@ few_cancel R rs id None = none
 few_cancel R rs id (Some s) = few_cancel_stage R rs s s.stage
 
 few_of : (R : State) (V : World) (rs : List Reply) (i : Input) → FewIn (Turning.parts_of R V rs i)
-few_of R V rs (MetadataPdu now h m) = if_parts (Handing.is_ours R h) _ _ (few_metadata R V rs h m (session_of R (id_of h))) none
-few_of R V rs (DataPdu now h piece) = if_parts (Handing.is_ours R h) _ _ (few_data R V rs h piece (session_of R (id_of h))) none
-few_of R V rs (EofPdu now h eof) = if_parts (Handing.is_ours R h) _ _ (few_eof R V rs h eof (session_of R (id_of h))) none
-few_of R V rs (AckPdu now h ack) = if_parts (Handing.is_ours R h) _ _ (few_ack R h ack (session_of R (id_of h))) none
-few_of R V rs (PromptPdu now h prompt) = if_parts (Handing.is_ours R h) _ _ (few_prompt R h prompt (session_of R (id_of h))) none
-few_of R V rs (OtherPdu now h) = if_parts (Handing.is_ours R h) _ _ none none
+few_of R V rs (MetadataPdu now h m) = cond_both (Handing.is_ours R h) _ _ FewIn (λ _. few_metadata R V rs h m (session_of R (id_of h))) (λ _. none)
+few_of R V rs (DataPdu now h piece) = cond_both (Handing.is_ours R h) _ _ FewIn (λ _. few_data R V rs h piece (session_of R (id_of h))) (λ _. none)
+few_of R V rs (EofPdu now h eof) = cond_both (Handing.is_ours R h) _ _ FewIn (λ _. few_eof R V rs h eof (session_of R (id_of h))) (λ _. none)
+few_of R V rs (AckPdu now h ack) = cond_both (Handing.is_ours R h) _ _ FewIn (λ _. few_ack R h ack (session_of R (id_of h))) (λ _. none)
+few_of R V rs (PromptPdu now h prompt) = cond_both (Handing.is_ours R h) _ _ FewIn (λ _. few_prompt R h prompt (session_of R (id_of h))) (λ _. none)
+few_of R V rs (OtherPdu now h) = cond_both (Handing.is_ours R h) _ _ FewIn (λ _. none) (λ _. none)
 few_of R V rs (Expire now) = few_due R V (Due.first_due R R.sessions)
 few_of R V rs (Work now) = none
 few_of R V rs (Finish now) = few_finish R (Due.first_over R.world R.sessions)
@@ -189,10 +185,6 @@ acked_active R h eof p acks f =
 pub heard_name : (R : State) (V : World) (s : SessionFields) → session_id (Turning.heard_session R V s) ≡ session_id s
 heard_name R V s = cond_both (Turning.is_news R.world V s) _ s (λ (t : SessionFields). session_id t ≡ session_id s) (λ e. refl) (λ e. refl)
 
-acked_if : (R : State) (h : Header) (eof : Eof) (b : Bool) (p q : Turning.Parts) → Acked R h eof p → Acked R h eof q → Acked R h eof (if b then p else q)
-acked_if R h eof true p q hp hq = hp
-acked_if R h eof false p q hp hq = hq
-
 acked_keeps : (R : State) (h : Header) (eof : Eof) (s : SessionFields) (word : Word) → found R.sessions (id_of h) ≡ Some s →
     Acked R h eof (Turning.keeps R (Turning.acks_only h eof Active word))
 acked_keeps R h eof s word e = acked_active R h eof (Turning.keeps R (Turning.acks_only h eof Active word)) refl (s, e)
@@ -202,9 +194,9 @@ acked_stage : (R : State) (V : World) (rs : List Reply) (h : Header) (eof : Eof)
 acked_stage R V rs h eof s (Held kept) e =
     let over = Turning.ended_by h eof s in
     let said = Turning.acks_only h eof Active words.Faulted in
-    acked_if R h eof (eof.condition == 0) (Turning.keeps R (Turning.acks_only h eof Active words.Duplicate)) (Turning.replaces_one R over said)
-    (acked_keeps R h eof s words.Duplicate e)
-    (acked_active R h eof (Turning.replaces_one R over said) refl (found_put R.sessions over s (id_of h) e refl))
+    cond_both (eof.condition == 0) (Turning.keeps R (Turning.acks_only h eof Active words.Duplicate)) (Turning.replaces_one R over said) (Acked R h eof)
+    (λ _. acked_keeps R h eof s words.Duplicate e)
+    (λ _. acked_active R h eof (Turning.replaces_one R over said) refl (found_put R.sessions over s (id_of h) e refl))
 acked_stage R V rs h eof s Known e =
     acked_active R h eof (Turning.eof_stage R V rs h eof s Known) refl (found_put R.sessions (Turning.heard_session R V s) s (id_of h) e (heard_name R V s))
 acked_stage R V rs h eof s (Over ending) e = acked_keeps R h eof s words.Idle e

@@ -2,9 +2,8 @@
 use Rattle.std.proofs.Common.{◌≡◌, ◌⊎◌, inl, inr, ℕ, suc, List, [], ◌∷◌, drop, true, false, not, Option, Some, None, refl, sym, ap, ◌∙◌}
 use Rattle.std.specs.Prelude.{slice_get, is_some, unwrap_or}
 use Rattle.std.specs.Option.{option_map}
-use Rattle.std.proofs.Math.Seq.{drop-cons}
 use Rattle.std.proofs.lemmas.Bool.{cond-true, cond-false, both_ways}
-use Rattle.std.proofs.lemmas.Option.{none-some, slice_get_within, get_or_from_slice_get}
+use Rattle.std.proofs.lemmas.Option.{none-some}
 use Rattle.cfdp_status.specs.declared.transaction.TransactionId.{TransactionId}
 use Rattle.cfdp_pdus.specs.declared.eof.Eof.{Eof}
 use Rattle.cfdp_sessions.specs.Closed.{with_name}
@@ -26,6 +25,7 @@ use Rattle.cfdp_transactions.specs.declared.event.Event.TheVariants.{Take}
 use Rattle.cfdp_transactions.specs.declared.outcome.Outcome.{Outcome}
 use Rattle.cfdp_transactions.specs.declared.reply.Reply.{Reply}
 use Rattle.cfdp_transactions.specs.declared.reply.Reply.TheVariants as Replies
+use Rattle.cfdp_transactions.proofs.KeptTable.StepDone.{drop_get}
 use Rattle.cfdp_transactions.proofs.Options.{none_of, unless_some}
 use Rattle.cfdp_receiver.specs.declared.answer.Became.TheVariants.{Said}
 use Rattle.cfdp_receiver.specs.declared.answer.Conclusion.{Conclusion}
@@ -48,16 +48,13 @@ use Rattle.cfdp_receiver.specs.Turning.{is_known}
 
 -- ---- the first session that is over
 
-drop_at : (ss : List SessionFields) (i : ℕ) (s : SessionFields) → slice_get ss i ≡ Some s → drop i ss ≡ s ∷ drop (suc i) ss
-drop_at ss i s e = drop-cons ss i s (slice_get_within ss i s e) ∙ ap (λ (x : SessionFields). x ∷ drop (suc i) ss) (get_or_from_slice_get ss i s s e)
-
 pub over_at : (W : World) (ss : List SessionFields) (i : ℕ) (s : SessionFields) → slice_get ss i ≡ Some s →
     is_over (at_of W s) ≡ true → first_over W (drop i ss) ≡ Some s
-over_at W ss i s e over = ap (first_over W) (drop_at ss i s e) ∙ cond-true (is_over (at_of W s)) (Some s) (first_over W (drop (suc i) ss)) over
+over_at W ss i s e over = ap (first_over W) (drop_get i ss s e) ∙ cond-true (is_over (at_of W s)) (Some s) (first_over W (drop (suc i) ss)) over
 
 pub over_later : (W : World) (ss : List SessionFields) (i : ℕ) (s : SessionFields) → slice_get ss i ≡ Some s → is_over (at_of W s) ≡ false →
     first_over W (drop i ss) ≡ first_over W (drop (suc i) ss)
-over_later W ss i s e over = ap (first_over W) (drop_at ss i s e) ∙ cond-false (is_over (at_of W s)) (Some s) (first_over W (drop (suc i) ss)) over
+over_later W ss i s e over = ap (first_over W) (drop_get i ss s e) ∙ cond-false (is_over (at_of W s)) (Some s) (first_over W (drop (suc i) ss)) over
 
 pub not_over : (at : JointPhase) → (at ≡ At_over → ⊥) → is_over at ≡ false
 not_over At_held other = refl

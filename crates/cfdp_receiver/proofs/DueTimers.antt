@@ -2,7 +2,7 @@
 use Rattle.std.specs.Prelude.{slice_get, IsTrue}
 use Rattle.std.proofs.Common.{◌≡◌, ℕ, ◌+◌, ◌≤◌, Bool, true, false, ◌&&◌, ◌||◌, List, ◌∷◌, length, drop, Option, Some, None, refl, sym, ap, ◌∙◌, arith}
 use Rattle.std.proofs.lemmas.Bool.{and_parts}
-use Rattle.std.proofs.lemmas.List.{at_drop_more, at_drop_all}
+use Rattle.std.proofs.lemmas.List.{drop_more, at_drop_all}
 use Rattle.std.proofs.lemmas.Option.{slice_get_within, get_or_from_slice_get}
 use Rattle.cfdp_retransmission.specs.declared.timer.Expiry.{Expiry}
 use Rattle.cfdp_retransmission.specs.declared.timer.Expiry.TheVariants.{NotDue, Again, Limit}
@@ -24,15 +24,15 @@ use Rattle.cfdp_receiver.specs.code.StateMachine.{IsTaking, is_expired, timer_of
 
 -- ---- the first that is due
 
-drop_at_index : (ss : List SessionFields) (i : ℕ) (s : SessionFields) → slice_get ss i ≡ Some s → drop i ss ≡ s ∷ drop (i + 1) ss
-drop_at_index ss i s e =
-    at_drop_more (λ (ys : List SessionFields). ys) ss i s (slice_get_within ss i s e)
-    ∙ ap (λ (x : SessionFields). x ∷ drop (i + 1) ss) (get_or_from_slice_get ss i s s e)
+-- a list from an index on, of anything
+pub drop_next : {X : Type 0} (xs : List X) (n : ℕ) (x : X) → slice_get xs n ≡ Some x → drop n xs ≡ x ∷ drop (n + 1) xs
+drop_next xs n x e =
+    drop_more xs n x (slice_get_within xs n x e) ∙ ap (λ y. y ∷ drop (n + 1) xs) (get_or_from_slice_get xs n x x e)
 
 -- from a session on
 pub due_from : (R : State) (ss : List SessionFields) (i : ℕ) (s : SessionFields) → slice_get ss i ≡ Some s →
     first_due R (drop i ss) ≡ due_by (expiry_of R s) (is_alive_due R s) s (first_due R (drop (i + 1) ss))
-due_from R ss i s e = ap (first_due R) (drop_at_index ss i s e)
+due_from R ss i s e = ap (first_due R) (drop_next ss i s e)
 
 -- none before it is due, and its own is
 pub timer_here : (R : State) (ss : List SessionFields) (i : ℕ) (s : SessionFields) (make : SessionFields → Due) → slice_get ss i ≡ Some s →

@@ -1,5 +1,6 @@
 -- What is handed to the core.
 use Rattle.std.proofs.Common.{◌≤◌, Bool, true, false, ◌||◌, if◌then◌else◌, List, [], ◌∷◌, length, Option, Some, None, refl, sym, ◌∙◌, arith}
+use Rattle.std.proofs.lemmas.Bool.{cond_both}
 use Rattle.cfdp_status.specs.declared.transaction.TransactionId.{TransactionId}
 use Rattle.cfdp_pdus.specs.Values.{MetadataFields}
 use Rattle.cfdp_pdus.specs.declared.header.Header.{Header}
@@ -15,7 +16,7 @@ use Rattle.cfdp_receiver.specs.declared.mib.Handler.{Handler}
 use Rattle.cfdp_receiver.specs.declared.mib.Handler.TheVariants as handlers
 use Rattle.cfdp_receiver.specs.State.{State, Input, MetadataPdu, DataPdu, EofPdu, AckPdu, PromptPdu, OtherPdu, Expire, Work, Finish, CancelAsked, ForgetAsked, now_of, session_of, is_closed, is_full, at_of}
 use Rattle.cfdp_receiver.specs.Due.{Due, Nothing_due, Stage_due, Alive_due, first_due, first_over}
-use Rattle.cfdp_receiver.specs.Handing.{later, metadata_in_stage, metadata_events, where_known, of_session, makes_checks, limit_events, due_events, step_of, take_of, events_of, handed}
+use Rattle.cfdp_receiver.specs.Handing.{is_ours, later, metadata_in_stage, metadata_events, where_known, of_session, makes_checks, limit_events, due_events, step_of, take_of, events_of, handed}
 use Rattle.cfdp_receiver.specs.Turning.{after_input, all_handed}
 use Rattle.cfdp_transactions.specs.Headline.{NextIsSound, NextIsPromised, Promised, AtEach}
 use Rattle.cfdp_transactions.specs.Sound.{Sound}
@@ -37,10 +38,6 @@ headline_holds sound promised R inputs s = at_each sound promised R.world (all_h
 
 abbrev Few : List Event → Type 0
 Few events = length events ≤ 2
-
-few_if : (b : Bool) (xs ys : List Event) → Few xs → Few ys → Few (if b then xs else ys)
-few_if true xs ys hx hy = hx
-few_if false xs ys hx hy = hy
 
 few_known : (stage : Stage) (events : List Event) → Few events → Few (where_known stage events)
 few_known (Held eof) events h = omega arith
@@ -81,7 +78,7 @@ few_take None = omega arith
 few_take (Some s) = few_known s.stage _ (omega arith)
 
 few_in_stage : (h : Header) (m : MetadataFields) (s : SessionFields) (stage : Stage) → Few (metadata_in_stage h m s stage)
-few_in_stage h m s (Held eof) = few_if h.acknowledged _ [] (omega arith) (omega arith)
+few_in_stage h m s (Held eof) = cond_both h.acknowledged _ [] Few (λ _. omega arith) (λ _. omega arith)
 few_in_stage h m s Known = omega arith
 few_in_stage h m s (Over ending) = omega arith
 few_in_stage h m s Waiting = omega arith
@@ -91,9 +88,9 @@ few_metadata R h m None = few_new (is_closed R (id_of h) || is_full R) h m
 few_metadata R h m (Some s) = few_in_stage h m s s.stage
 
 few : (R : State) (i : Input) → Few (events_of R i)
-few R (MetadataPdu now h m) = few_if _ _ [] (few_metadata R h m (session_of R (id_of h))) (omega arith)
-few R (DataPdu now h piece) = few_if _ _ [] (few_session (session_of R (id_of h)) _ (omega arith)) (omega arith)
-few R (EofPdu now h eof) = few_if _ _ [] (few_session (session_of R (id_of h)) _ (omega arith)) (omega arith)
+few R (MetadataPdu now h m) = cond_both (is_ours R h) _ [] Few (λ _. few_metadata R h m (session_of R (id_of h))) (λ _. omega arith)
+few R (DataPdu now h piece) = cond_both (is_ours R h) _ [] Few (λ _. few_session (session_of R (id_of h)) _ (omega arith)) (λ _. omega arith)
+few R (EofPdu now h eof) = cond_both (is_ours R h) _ [] Few (λ _. few_session (session_of R (id_of h)) _ (omega arith)) (λ _. omega arith)
 few R (AckPdu now h ack) = omega arith
 few R (PromptPdu now h prompt) = omega arith
 few R (OtherPdu now h) = omega arith

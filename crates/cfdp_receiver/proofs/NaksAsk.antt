@@ -386,7 +386,7 @@ naks_ask R i =
 
 -- ---- exactly what is missing
 
-abbrev with_header : Header → Nak → NakFields
+abbrev pub with_header : Header → Nak → NakFields
 with_header h nak = record { header = turned_header h; scope = nak.scope; requests = nak.requests }
 
 requests_are : (h : Header) (xs : List Nak) → requests_of_naks (map (with_header h) xs) ≡ flat_map (λ (n : Nak). n.requests) xs

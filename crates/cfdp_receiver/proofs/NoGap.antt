@@ -1,7 +1,7 @@
 -- File data that begins within what was received, or right after it, begins no gap.
-use Rattle.std.specs.Prelude.{nat_le, nat_lt, ◌==◌, is_some, slice_get}
+use Rattle.std.specs.Prelude.{nat_le, nat_lt, ◌==◌, is_some}
 use Rattle.std.specs.List.{filter}
-use Rattle.std.proofs.Common.{◌≡◌, inl, inr, ℕ, zero, suc, ◌+◌, ◌<◌, ◌≤◌, Bool, true, false, not, ◌&&◌, ◌||◌, if◌then◌else◌, List, [], ◌∷◌, length, Option, Some, None, refl, sym, ap, subst, ◌∙◌, arith}
+use Rattle.std.proofs.Common.{◌≡◌, inl, inr, ℕ, ◌+◌, ◌<◌, ◌≤◌, Bool, true, false, not, ◌&&◌, ◌||◌, if◌then◌else◌, List, [], ◌∷◌, length, Option, Some, None, refl, sym, ap, subst, ◌∙◌, arith}
 use Rattle.std.proofs.lemmas.Bool.{cond_both, cond-true, cond-false, cases_Bool, cases_lt, ne_eqb, both_ways}
 use Rattle.std.proofs.lemmas.Bool.Decides.{nat_tests}
 use Rattle.cfdp_actions.specs.Filestore.{Filestore}
@@ -33,11 +33,6 @@ use Rattle.cfdp_receiver.proofs.Delivering.{neither, own_name, placed}
 use Rattle.cfdp_retransmission.proofs.Losing.{brings_some}
 
 -- ---- octets
-
-some_there : (xs : List ℕ) (i : ℕ) → i < length xs → is_some (slice_get xs i) ≡ true
-some_there [] i h = absurd (omega arith)
-some_there (x ∷ xs) zero h = refl
-some_there (x ∷ xs) (suc i) h = some_there xs i (omega (arith, h))
 
 -- after the end of what was received nothing is missing of what is received now
 none_missing : (rs : Received) (at x : ℕ) (xs : List ℕ) (i : ℕ) → at ≤ length rs → length rs ≤ i →

@@ -30,7 +30,6 @@ use Rattle.cfdp_transactions.specs.Sound.{Sound}
 use Rattle.cfdp_transactions.specs.World.{World, entry_of, index_of}
 use Rattle.cfdp_transactions.proofs.Finding.{found_name}
 use Rattle.cfdp_transactions.proofs.Lookups.{set_own}
-use Rattle.cfdp_receiver.specs.declared.answer.Became.TheVariants as became
 use Rattle.cfdp_receiver.specs.declared.mib.Handler.{Handler}
 use Rattle.cfdp_receiver.specs.declared.mib.Handler.TheVariants as handlers
 use Rattle.cfdp_receiver.specs.declared.mib.Mib.{Mib}
@@ -40,6 +39,7 @@ use Rattle.cfdp_receiver.specs.Due.{IsSet}
 use Rattle.cfdp_receiver.specs.Handing as Handing
 use Rattle.cfdp_receiver.specs.Turning as Turning
 use Rattle.cfdp_receiver.specs.Laws.{is_due, due_of, timers_due, ServedOnce}
+use Rattle.cfdp_receiver.proofs.AnswerParts.{silent}
 use Rattle.cfdp_receiver.proofs.FinishedSentAtMost.{stage_due, alive_due}
 use Rattle.cfdp_leases.proofs.Held.{same_itself}
 use Rattle.cfdp_leases.proofs.Admitted.{same_is}
@@ -461,10 +461,6 @@ ended_by_check : (R : State) (s : SessionFields) (made : ℕ) → Takes R.world 
 ended_by_check R s made takes all =
     ap (λ (stage : Stage). at_of (run R.world (Handing.where_known stage (Check (session_id s) ∷ []))) s) takes.known
     ∙ over_checked R.world s takes.entry made takes.known takes.here takes.is all
-
--- what is answered does not matter
-abbrev silent : AnswerFields
-silent = Turning.quiet became.Nothing
 
 never_due : (e : Expiry) → e ≡ NotDue → 1 ≤ is_due e → ⊥
 never_due e h due = absurd (omega (arith, ap is_due h, due))

@@ -44,7 +44,7 @@ use Rattle.cfdp_receiver.proofs.Distinct.{distinct_after}
 use Rattle.cfdp_receiver.proofs.OthersStay.{other_than, others_keep_entries, run_sound}
 use Rattle.cfdp_receiver.proofs.TurnShapes.{others_stay}
 use Rattle.cfdp_receiver.proofs.FinishedSentAtMost.{stage_due, alive_due, first_over_is}
-use Rattle.cfdp_receiver.proofs.AnswerParts.{heard_name}
+use Rattle.cfdp_receiver.proofs.AnswerParts.{heard_name, silent}
 use Rattle.cfdp_transactions.specs.Headline.{NextIsSound, NextIsPromised}
 use Rattle.cfdp_receiver.proofs.LimitsReached.{not_held}
 use Rattle.cfdp_receiver.proofs.Finishing.{waits_phase}
@@ -154,10 +154,6 @@ fits_add R id es new a none name is =
     is ∙ ap knows (sym (added_found R.sessions (new V rs) id (name V rs) none))
 
 -- ---- PDUs
-
--- what is answered does not matter
-abbrev silent : AnswerFields
-silent = Turning.quiet became.Nothing
 
 fits_ours : (R : State) (h : Header) (o : Option SessionFields) (es : List Event) (p : World → List Reply → Turning.Parts) → Knows R (id_of h) o →
     Fits R (id_of h) es p →

@@ -23,7 +23,7 @@ use Rattle.cfdp_transactions.specs.Admission.{new_entry}
 use Rattle.cfdp_transactions.specs.Next.{next, run, replies as replies_of}
 use Rattle.cfdp_transactions.specs.World.{World, start}
 use Rattle.cfdp_transactions.proofs.Examples.Computing.{look_ups}
-use Rattle.cfdp_transactions.proofs.Examples.ExampleWords.{config, asks}
+use Rattle.cfdp_transactions.proofs.Examples.ExampleWords.{config, id, asks}
 use Rattle.cfdp_receiver.specs.declared.answer.Indication.TheVariants as tells
 use Rattle.cfdp_receiver.specs.declared.answer.Word.TheVariants as words
 use Rattle.cfdp_receiver.specs.declared.mib.Handler.TheVariants as handlers
@@ -33,7 +33,7 @@ use Rattle.cfdp_receiver.specs.State.{State, AnswerFields, Input, MetadataPdu, D
 use Rattle.cfdp_receiver.specs.Handing.{later}
 use Rattle.cfdp_receiver.specs.Turning.{Parts, parts_of, after_input, after_all}
 use Rattle.cfdp_receiver.specs.code.Turning.{all_answers}
-use Rattle.cfdp_receiver.proofs.WorkedWords.{mib, fresh, header, header_un, id, M, octets, D, E, finished_ack, ack, nak, alive, says, replies, described, segment, pdu_of, ended, nothing}
+use Rattle.cfdp_receiver.proofs.WorkedWords.{mib, fresh, header, header_un, M, octets, D, E, data_at, finished_ack, ack, nak, alive, says, replies, described, segment, pdu_of, ended, nothing}
 
 -- ---- an input that hands on an event, and then others: its answer and those to what follows, by what the core makes of the first
 
@@ -82,9 +82,6 @@ first_un : (inputs : List Input) →
 first_un inputs = ap (all_on (fresh mib) (MetadataPdu 0 (header_un 7) M) [] inputs) admitted_un
 
 -- ---- each row after its Metadata PDU
-
-abbrev data_at : ℕ → ℕ → ℕ → Input
-data_at now low high = DataPdu now (header 5) (D low high)
 
 abbrev stored : ℕ → ℕ → AnswerFields
 stored low high = record (replies 5 Reply.Stored) { indications = segment 5 low high ∷ [] }

@@ -1,14 +1,14 @@
 -- The words of the worked rows: entity 2 with 64 blocks, sender 1, transaction 1/n; intervals 10, limits 3, inactivity 100; a file `f` of the 15
 -- octets 0 to 14, with the checksum 181c2015, and closure requested.
 --     mib                       how the entity is set up
---     header n, id n            of transaction 1/n;  header_un n: in unacknowledged mode
+--     header n                  of transaction 1/n;  header_un n: in unacknowledged mode
 --     M, D low high, E          the file's Metadata, its octets from one offset to another, its EOF
+--     data_at now low high      these octets come, of transaction 1/5
 --     fresh m                   the entity with no session
 --     ack, nak, alive           PDUs that are sent, of transaction 1/n
 --     says, replies             an answer that sends nothing: a word of the receiver's own, or the core's
 use Rattle.std.proofs.Common.{ℕ, suc, ◌-◌, Bool, List, [], ◌∷◌}
 use Rattle.std.specs.Prelude.{true, false, None, codes, take, drop, length}
-use Rattle.cfdp_status.specs.declared.transaction.TransactionId.{TransactionId}
 use Rattle.cfdp_pdus.specs.Values.{MetadataFields, FileDataFields}
 use Rattle.cfdp_pdus.specs.declared.header.Header.{Header}
 use Rattle.cfdp_pdus.specs.declared.eof.Eof.{Eof}
@@ -19,7 +19,7 @@ use Rattle.cfdp_directives.specs.declared.ack.TransactionStatus.TheVariants.{Act
 use Rattle.cfdp_directives.specs.declared.keep_alive.KeepAlive.{KeepAlive}
 use Rattle.cfdp_transactions.specs.declared.reply.Reply.{Reply}
 use Rattle.cfdp_transactions.specs.World.{start}
-use Rattle.cfdp_transactions.proofs.Examples.ExampleWords.{config}
+use Rattle.cfdp_transactions.proofs.Examples.ExampleWords.{config, id}
 use Rattle.cfdp_receiver.specs.declared.answer.Became.TheVariants.{Nothing, Said, Replied}
 use Rattle.cfdp_receiver.specs.declared.answer.Indication.{Indication}
 use Rattle.cfdp_receiver.specs.declared.answer.Indication.TheVariants as tells
@@ -27,7 +27,7 @@ use Rattle.cfdp_receiver.specs.declared.answer.Word.{Word}
 use Rattle.cfdp_receiver.specs.declared.mib.Handler.TheVariants as handlers
 use Rattle.cfdp_receiver.specs.declared.mib.Mib.{Mib}
 use Rattle.cfdp_receiver.specs.declared.mib.NakMode.TheVariants as modes
-use Rattle.cfdp_receiver.specs.State.{State, begin, AnswerFields, turned_header}
+use Rattle.cfdp_receiver.specs.State.{State, begin, AnswerFields, Input, DataPdu, turned_header}
 use Rattle.cfdp_receiver.specs.Turning.{quiet}
 
 abbrev pub mib : Mib
@@ -53,9 +53,6 @@ header n = record { toward_sender = false; acknowledged = true; large = false; i
 abbrev pub header_un : ℕ → Header
 header_un n = record (header n) { acknowledged = false }
 
-abbrev pub id : ℕ → TransactionId
-id n = record { source = 1; number = n }
-
 abbrev pub M : MetadataFields
 M = record { closure = true; checksum_type = 0; size = 15; source_name = codes "s"; destination_name = codes "f"; requests = [] }
 
@@ -67,6 +64,9 @@ D low high = record { offset = low; octets = drop low (take high octets) }
 
 abbrev pub E : Eof
 E = record { condition = 0; checksum = 0x181c2015; size = 15 }
+
+abbrev pub data_at : ℕ → ℕ → ℕ → Input
+data_at now low high = DataPdu now (header 5) (D low high)
 
 abbrev pub finished_ack : Ack
 finished_ack = record { directive = 5; condition = 0; status = Active }

@@ -11,6 +11,7 @@ use Rattle.cfdp_retransmission.specs.Coming.{Piece, keep, keep_all, zero_missing
 use Rattle.cfdp_retransmission.specs.Rounds.{Sending, Covers, AnswersInOrder, arrived, lost, spare_round}
 use Rattle.cfdp_retransmission.proofs.Arriving.{room, joins, comes}
 use Rattle.cfdp_transactions.proofs.Soundness.Receiving.{kept_within}
+use Rattle.cfdp_transactions.proofs.Received.PieceRanges.{runs_sooner}
 use Rattle.cfdp_transactions.proofs.Received.Writing.{brought_before}
 use Rattle.cfdp_pdus.specs.Bits.{one_if}
 use Rattle.cfdp_pdus.proofs.CanonicalSteps.{one_if-small}
@@ -345,10 +346,6 @@ runs_from from [] i runs h = elim h [ ]
 runs_from from (r ∷ rs) i runs (inl h) = omega (arith, runs.0, h.0)
 runs_from from (r ∷ rs) i runs (inr h) = omega (arith, runs.0, runs.1, runs_from (r.1 + 1) rs i runs.2 h)
 
-runs_earlier : (from to : ℕ) (rs : List SegmentRequest) → from ≤ to → AreRuns to rs → AreRuns from rs
-runs_earlier from to [] h runs = tt
-runs_earlier from to (r ∷ rs) h runs = (omega (arith, h, runs.0), runs.1, runs.2)
-
 pub in_rest : (r : SegmentRequest) (rs : List SegmentRequest) (i : ℕ) → r.1 ≤ i → IsIn i (r ∷ rs) → IsIn i rs
 in_rest r rs i h (inl here) = absurd (omega (arith, h, here.1))
 in_rest r rs i h (inr there) = there
@@ -384,7 +381,7 @@ over_requests limit rs (r ∷ rest) sent now x gone inside fits runs all only an
     let middle = over_front limit rs r.1 front high_fits now r.0 gone start answers.3 missing in
     let end =
     over_requests limit rs rest back (keep_all now (arrived front)) r.1 (gone + lost front) middle high_fits
-    (runs_earlier r.1 (r.1 + 1) rest (omega arith) runs.2)
+    (runs_sooner (r.1 + 1) r.1 rest (omega arith) runs.2)
     (λ i low high e. in_rest r rest i low (all i (omega (arith, low, runs.0, runs.1)) high e))
     (λ i h. only i (inr h)) answers.4 in
     let counted : (gone + lost front) + lost back ≡ gone + lost (front ++ back) = omega (arith, lost_both front back) in

@@ -1,7 +1,7 @@
 -- A filestore that is read out in path order, and put into another entity.
-use Rattle.std.proofs.Common.{◌≡◌, ℕ, suc, ◌+◌, ◌<◌, ◌≤◌, List, [], ◌∷◌, length, map, drop, get_or, refl, ap, sym, ◌∙◌, subst, arith}
+use Rattle.std.proofs.Common.{◌≡◌, ℕ, suc, ◌+◌, ◌<◌, ◌≤◌, List, [], ◌∷◌, length, drop, get_or, ap, sym, ◌∙◌, subst, arith}
 use Rattle.std.proofs.Math.Seq.{drop-cons}
-use Rattle.std.proofs.lemmas.List.{get_or-map, drop_all}
+use Rattle.std.proofs.lemmas.List.{get_or-map, drop_all, length-map}
 use Rattle.std.specs.Prelude.{Some, replicate}
 use Rattle.std.specs.FinMap as finite
 use Rattle.cfdp_paths.specs.Paths.{Path}
@@ -50,10 +50,6 @@ leaves_next W V e es end left put = subst (λ (U : World). Leaves U es end) (sym
 
 -- ---- what is listed
 
-length-map : {X Y : Type 0} (f : X → Y) (xs : List X) → length (map f xs) ≡ length xs
-length-map f [] = refl
-length-map f (x ∷ xs) = ap suc (length-map f xs)
-
 -- the entry at an index, and what there is at its path
 pub record IsListed (F : Filestore) (i : ℕ) (entry : Entry) : Type 0 where
   pub node : Node
@@ -66,7 +62,7 @@ listed_at F i entry is within =
     let es = nodes_of F in
     let none : Path × Node = ([], Directory) in
     let e : Path × Node = get_or es i none in
-    let lt : i < length es = omega (arith, within, length-map listing_entry es) in
+    let lt : i < length es = omega (arith, within, length-map es listing_entry) in
     let same : entry ≡ listing_entry e = is ∙ get_or-map listing_entry es i none entry lt in
     let path : entry.path ≡ e.0 = ap (λ (x : Entry). x.path) same in
     let next : suc i ≡ i + 1 = omega arith in
@@ -94,4 +90,4 @@ copied F i entry W V end listed left put =
 
 pub all_copied : (F : Filestore) (xs : List Entry) (i : ℕ) (W end : World) → xs ≡ listing_of F → length xs ≤ i → Leaves W (drop i (nodes_of F)) end → W ≡ end
 all_copied F xs i W end all done left =
-    leaves_none W end (drop i (nodes_of F)) (drop_all i (nodes_of F) (omega (arith, done, ap length all, length-map listing_entry (nodes_of F)))) left
+    leaves_none W end (drop i (nodes_of F)) (drop_all i (nodes_of F) (omega (arith, done, ap length all, length-map (nodes_of F) listing_entry))) left

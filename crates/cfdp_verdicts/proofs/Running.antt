@@ -22,6 +22,7 @@ use Rattle.cfdp_leases.specs.Laws.{OwnFootprint}
 use Rattle.cfdp_states.specs.Alone.{alone, reached, statuses, statuses_alone, need_alone, steps_alone}
 use Rattle.cfdp_states.specs.Views.{most_count, most_need, only, Sketch, IsViewOf, HasRun, Tells, TellsInstall}
 use Rattle.cfdp_states.specs.Laws.{Appended, ViewBegins, ViewGoesOn, ViewInstalls, ViewRefuses}
+use Rattle.cfdp_states.proofs.Appending.{only_one}
 use Rattle.cfdp_verifier.specs.Verdict.{capped}
 use Rattle.cfdp_verdicts.specs.Costs.{Cost, cost_of, costs_from, costs_of}
 
@@ -47,13 +48,6 @@ cost_is v fp F x items answers run =
     ap (λ (s : ℕ). record { steps = s; blocks = min v.need most_count }) run.steps
     ∙ ap (λ (n : ℕ). record { steps = capped (steps_alone v.prefixes F x items); blocks = min n most_count }) run.need
     ∙ ap (λ (n : ℕ). record { steps = capped (steps_alone v.prefixes F x items); blocks = n }) (need_capped (need_alone v.prefixes F x items))
-
-abbrev first_or : Answer → List Answer → Answer
-first_or a [] = a
-first_or a (b ∷ bs) = b
-
-only_one : (a b : Answer) → a ∷ [] ≡ b ∷ [] → a ≡ b
-only_one a b e = ap (first_or a) e
 
 -- the answer that came is that of the item's row on the filestore after those before it
 row_cost : (laws : Appended) (prefixes : List Path) (F : Filestore) (x : List ℕ) (now : List Item) (item : Item) (answers : List Answer) (answer : Answer) →

@@ -5,6 +5,7 @@
 use Rattle.std.proofs.Common.{◌≡◌, ℕ, suc, ◌+◌, List, [], ◌∷◌, length, drop, refl, ap, sym, ◌∙◌}
 use Rattle.std.specs.Prelude.{Bool, true, false, Option, Some, None, slice_get, not, ◌&&◌, ◌||◌, ◌==◌, nat_lt, nat_le, IsTrue}
 use Rattle.std.specs.List.{AllByRecursion}
+use Rattle.std.proofs.Math.Bool.{or_assoc}
 use Rattle.std.proofs.lemmas.Bool.{cond_both, not-false, eqb-true}
 use Rattle.std.proofs.lemmas.List.{nil_from_length}
 use Rattle.cfdp_actions.specs.Filestore.{Filestore, Change, Stages}
@@ -81,10 +82,6 @@ receiving_takes (Ended condition) h = absurd cc
 items_left_here : (n : ℕ) (all items : List Item) (item : Item) → drop n all ≡ item ∷ items → items_left (phase_before (suc n) items) all ≡ items
 items_left_here n all [] item left = refl
 items_left_here n all (next ∷ items) item left = drop_next n all (next ∷ items) item left
-
-pub or_assoc : (a b c : Bool) → ((a || b) || c) ≡ (a || (b || c))
-or_assoc true b c = refl
-or_assoc false b c = refl
 
 -- the events ---------------------------------------------------------------------------
 

@@ -2,6 +2,7 @@
 use Rattle.std.proofs.Common.{◌≡◌, ℕ, zero, suc, ◌+◌, ◌-◌, max, min, ◌≤◌, ◌<◌, List, [], ◌∷◌, length, refl, ap, sym, ◌∙◌, arith, get_or}
 use Rattle.std.specs.Prelude.{◌||◌, ◌==◌, nat_le, nat_lt, if◌then◌else◌, Bool, true, false, IsTrue, IsFalse, Option, Some, None, is_some, slice_get, unwrap_or}
 use Rattle.std.specs.List.{list_all}
+use Rattle.std.proofs.Math.Bool.{or_assoc}
 use Rattle.std.proofs.lemmas.Bool.{cases_lt, cases_Bool, cond_both, ltb-true, ltb-false, and_from, and_parts, or_left, or_right, or_from, or_cases, eqb-true, eq-eqb}
 use Rattle.std.proofs.lemmas.Option.{slice_get_past, slice_get-get_or}
 use mathlib.Core.Logic.{inl, inr}
@@ -11,7 +12,6 @@ use Rattle.cfdp_transactions.specs.Pieces.{Ranges, is_in, received_from, receive
 use Rattle.cfdp_transactions.specs.PieceLaws.{AreWithin, ArePieces, AreWritten, WholeHasNone, RangeIsAdded, RangesKeep, StagedAreKept}
 use Rattle.cfdp_transactions.proofs.Received.OctetsAndGaps.{first_stays, greatest_end}
 use Rattle.cfdp_transactions.proofs.Received.PieceRanges.{is_inside, inside_true, before_false, outside_after, runs_sooner, gaps_are_between}
-use Rattle.cfdp_transactions.proofs.Promises.ItemOrder.{or_assoc}
 
 -- what is at an offset ------------------------------------------------------------------
 

@@ -1,16 +1,12 @@
-use Rattle.std.proofs.lemmas.Bool.Decides.{nat_tests}
-use Rattle.std.specs.Prelude.{◌==◌, ◌≢◌, ℕ, false, suc, length, ◌+◌}
+use Rattle.std.specs.Prelude.{◌==◌, false, suc, length, ◌+◌}
 use Rattle.cfdp_actions.specs.Store.{free_blocks}
-use Rattle.std.proofs.Common.{◌≡◌, ◌∙◌, refl, ap, sym, arith, add-one, eq-eqb}
+use Rattle.std.proofs.Common.{◌≡◌, ◌∙◌, refl, ap, sym, add-one, eq-eqb, ne_eqb}
 use Rattle.cfdp_transactions.specs.Entry.{Executing}
 use Rattle.cfdp_transactions.specs.code.Items.{item_of}
 use Rattle.cfdp_transactions.proofs.KeptTable.Answering.{answered_reply}
 use Rattle.cfdp_transactions.proofs.KeptTable.EntryChanged.{slot_below}
 use Rattle.cfdp_transactions.proofs.KeptTable.StepDone.{done_as, succeeds, opened, free_before, taken_within, given_within, few_items, next_below, can_advance, step_answer, booked_more, booked_done, idle_step}
 use Rattle.cfdp_transactions.proofs.step.step.Goals as goal
-
-differ : (x y : ℕ) → x ≢ y → (x == y) ≡ false
-differ x y ne = grind (arith, nat_tests)
 
 pub returns-in_default-item-clause-answer : goal.returns-in_default-item-clause-answer
 returns-in_default-item-clause-answer g c =
@@ -298,4 +294,4 @@ returns-else-last-clause-booked g c =
     rw (state, c.advance.ensures r at) (booked_more c.requires.laws s b c.requires.sound c.requires.booked c.args.index r at n executing item there
     c.free-before.result c.free-after.result c.in-Ok.ticks (c.from.result
     + 1 == c.item_count.result) c.is_install-install.result c.free-before.ensures.value is_after ticks_are c.is_install-install.ensures is_last
-    c.book_quota.new.quota booking (differ (c.from.result + 1) c.item_count.result c.if-last.false))
+    c.book_quota.new.quota booking (ne_eqb (c.from.result + 1) c.item_count.result c.if-last.false))
