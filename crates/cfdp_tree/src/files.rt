@@ -86,7 +86,7 @@ impl FoundFile {
     }
 }
 
-/// Says where a file's octets are, how many there are, and what their checksum is. In constant time.
+/// Writes where a file's octets are, how many there are, and their checksum. In constant time.
 pub(crate) fn set_contents(arena: &mut Arena, node: BlockId, contents: &Contents)
     requires node { IsNode (nodes_in arena.old) node }
     requires held { IsHeld arena.old contents.now.run }

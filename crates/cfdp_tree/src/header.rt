@@ -4,6 +4,18 @@ ghost use Rattle.cfdp_tree.specs.code.Block.{block_number_at, with_number, block
 
 use cfdp_arena::{Block, BlockId};
 
+/// Where the number of the next block is in a block.
+const NEXT_AT: usize = 0;
+
+/// Where the number of the owner is.
+const OWNER_AT: usize = 2;
+
+/// Where the number of blocks before it in its run is.
+const RANK_AT: usize = 4;
+
+/// Where the octet of its kind is.
+const BLOCK_KIND_AT: usize = 6;
+
 /// The octets of a header.
 pub(crate) const HEADER_OCTETS: usize = 8;
 
@@ -57,7 +69,7 @@ pub(crate) fn next_of(block: &Block) -> BlockId
     ensures value { result ≡ (block_header block.now).next }
     ensures small { result < 65536 }
 {
-    BlockId::of_number(number_in(block, 0))
+    BlockId::of_number(number_in(block, NEXT_AT))
 }
 
 /// Names the next block. The rest of the block stays.
@@ -67,11 +79,11 @@ pub(crate) fn set_next(block: &mut Block, next: BlockId)
     ensures payload { payload block.new ≡ payload block.old }
     ensures whole { length block.new ≡ 128 }
 {
-    set_number(block, 0, next.number());
+    set_number(block, NEXT_AT, next.number());
 }
 
-/// Says whose the block is: its owner, how many blocks of the owner's run come before it, and what it is for. The next
-/// block and the payload stay.
+/// Writes the owner of the block, the number of blocks before it in the owner's run, and what it is for. The next block
+/// and the payload stay.
 pub(crate) fn set_tag(block: &mut Block, owner: BlockId, rank: u32, kind: BlockKind)
     requires owner { owner < 65536 }
     requires rank { rank < 65536 }
@@ -79,7 +91,7 @@ pub(crate) fn set_tag(block: &mut Block, owner: BlockId, rank: u32, kind: BlockK
     ensures payload { payload block.new ≡ payload block.old }
     ensures whole { length block.new ≡ 128 }
 {
-    set_number(block, 2, owner.number());
-    set_number(block, 4, rank);
-    block[6] = kind.octet();
+    set_number(block, OWNER_AT, owner.number());
+    set_number(block, RANK_AT, rank);
+    block[BLOCK_KIND_AT] = kind.octet();
 }

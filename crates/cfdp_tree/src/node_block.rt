@@ -10,11 +10,29 @@ use crate::payload::put_part;
 use cfdp_actions::Kind;
 use cfdp_arena::{Block, BlockId};
 
-/// Where a node's kind is in its block.
+/// Where the number of a node's directory is in its block.
+const PARENT_AT: usize = 8;
+
+/// Where the number of the first block of a file's octets is.
+const FIRST_AT: usize = 10;
+
+/// Where the number of the last block of a file's octets is.
+const LAST_AT: usize = 12;
+
+/// Where the size of a file begins.
+const SIZE_AT: usize = 14;
+
+/// Where a node's kind is.
 const KIND_AT: usize = 18;
 
 /// Where the number of its name's octets is.
 const NAME_LENGTH_AT: usize = 19;
+
+/// Where the number of the next node of its index head is.
+const SAME_HEAD_AT: usize = 20;
+
+/// Where the checksum of a file's octets begins.
+const SUM_AT: usize = 26;
 
 /// Where its name begins.
 const NAME_AT: usize = 32;
@@ -90,7 +108,7 @@ pub(crate) fn kind_of(block: &Block) -> Kind
     }
 }
 
-/// Says whether the node is a file or a directory. The rest of the block stays.
+/// Makes the node a file or a directory. The rest of the block stays.
 pub(crate) fn set_kind(block: &mut Block, kind: Kind)
     ensures fields { node_fields_of block.new ≡ record (node_fields_of block.old) { kind = octet_of_kind kind } }
     ensures header { block_header block.new ≡ block_header block.old }
@@ -108,7 +126,7 @@ pub(crate) fn parent_of(block: &Block) -> BlockId
     ensures value { result ≡ (node_fields_of block.now).parent }
     ensures small { result < 65536 }
 {
-    BlockId::of_number(number_in(block, 8))
+    BlockId::of_number(number_in(block, PARENT_AT))
 }
 
 /// The directory in which the node of this number is, `None` for the root.
@@ -127,7 +145,7 @@ pub(crate) fn set_parent(block: &mut Block, parent: BlockId)
     ensures name { drop 32 block.new ≡ drop 32 block.old }
     ensures whole { length block.new ≡ 128 }
 {
-    set_number(block, 8, parent.number());
+    set_number(block, PARENT_AT, parent.number());
 }
 
 /// The first block of a file's octets.
@@ -135,7 +153,7 @@ pub(crate) fn first_of(block: &Block) -> BlockId
     ensures value { result ≡ (node_fields_of block.now).first }
     ensures small { result < 65536 }
 {
-    BlockId::of_number(number_in(block, 10))
+    BlockId::of_number(number_in(block, FIRST_AT))
 }
 
 /// Names the first block of a file's octets. The rest of the block stays.
@@ -146,7 +164,7 @@ pub(crate) fn set_first(block: &mut Block, first: BlockId)
     ensures name { drop 32 block.new ≡ drop 32 block.old }
     ensures whole { length block.new ≡ 128 }
 {
-    set_number(block, 10, first.number());
+    set_number(block, FIRST_AT, first.number());
 }
 
 /// The last block of a file's octets.
@@ -154,7 +172,7 @@ pub(crate) fn last_of(block: &Block) -> BlockId
     ensures value { result ≡ (node_fields_of block.now).last }
     ensures small { result < 65536 }
 {
-    BlockId::of_number(number_in(block, 12))
+    BlockId::of_number(number_in(block, LAST_AT))
 }
 
 /// Names the last block of a file's octets. The rest of the block stays.
@@ -165,7 +183,7 @@ pub(crate) fn set_last(block: &mut Block, last: BlockId)
     ensures name { drop 32 block.new ≡ drop 32 block.old }
     ensures whole { length block.new ≡ 128 }
 {
-    set_number(block, 12, last.number());
+    set_number(block, LAST_AT, last.number());
 }
 
 /// The next node of the same index head, which means nothing where it is the last one.
@@ -173,7 +191,7 @@ pub(crate) fn same_head_of(block: &Block) -> BlockId
     ensures value { result ≡ (node_fields_of block.now).same_head }
     ensures small { result < 65536 }
 {
-    BlockId::of_number(number_in(block, 20))
+    BlockId::of_number(number_in(block, SAME_HEAD_AT))
 }
 
 /// Names the next node of the same index head. The rest of the block stays.
@@ -184,24 +202,34 @@ pub(crate) fn set_same_head(block: &mut Block, same_head: BlockId)
     ensures name { drop 32 block.new ≡ drop 32 block.old }
     ensures whole { length block.new ≡ 128 }
 {
-    set_number(block, 20, same_head.number());
+    set_number(block, SAME_HEAD_AT, same_head.number());
 }
 
-/// How many octets a file has.
+/// The size of a file, in octets.
 pub(crate) fn size_of(block: &Block) -> u32
     ensures { result ≡ (node_fields_of block.now).size }
 {
-    u32::from_le_bytes([block[14], block[15], block[16], block[17]])
+    u32::from_le_bytes([
+        block[SIZE_AT],
+        block[SIZE_AT + 1],
+        block[SIZE_AT + 2],
+        block[SIZE_AT + 3],
+    ])
 }
 
 /// The checksum of a file's octets.
 pub(crate) fn sum_of(block: &Block) -> u32
     ensures { result ≡ (node_fields_of block.now).sum }
 {
-    u32::from_le_bytes([block[26], block[27], block[28], block[29]])
+    u32::from_le_bytes([
+        block[SUM_AT],
+        block[SUM_AT + 1],
+        block[SUM_AT + 2],
+        block[SUM_AT + 3],
+    ])
 }
 
-/// Says what the checksum of a file's octets is. The rest of the block stays.
+/// Writes the checksum of a file's octets. The rest of the block stays.
 pub(crate) fn set_sum(block: &mut Block, sum: u32)
     ensures fields { node_fields_of block.new ≡ record (node_fields_of block.old) { sum = sum } }
     ensures header { block_header block.new ≡ block_header block.old }
@@ -209,13 +237,13 @@ pub(crate) fn set_sum(block: &mut Block, sum: u32)
     ensures whole { length block.new ≡ 128 }
 {
     let [lowest, low, high, highest] = sum.to_le_bytes();
-    block[26] = lowest;
-    block[27] = low;
-    block[28] = high;
-    block[29] = highest;
+    block[SUM_AT] = lowest;
+    block[SUM_AT + 1] = low;
+    block[SUM_AT + 2] = high;
+    block[SUM_AT + 3] = highest;
 }
 
-/// Says how many octets a file has. The rest of the block stays.
+/// Writes the size of a file, in octets. The rest of the block stays.
 pub(crate) fn set_size(block: &mut Block, size: u32)
     ensures fields { node_fields_of block.new ≡ record (node_fields_of block.old) { size = size } }
     ensures header { block_header block.new ≡ block_header block.old }
@@ -223,8 +251,8 @@ pub(crate) fn set_size(block: &mut Block, size: u32)
     ensures whole { length block.new ≡ 128 }
 {
     let [lowest, low, high, highest] = size.to_le_bytes();
-    block[14] = lowest;
-    block[15] = low;
-    block[16] = high;
-    block[17] = highest;
+    block[SIZE_AT] = lowest;
+    block[SIZE_AT + 1] = low;
+    block[SIZE_AT + 2] = high;
+    block[SIZE_AT + 3] = highest;
 }

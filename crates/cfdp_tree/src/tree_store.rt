@@ -131,11 +131,11 @@ impl TreeStore {
         ensures { self.new ≡ with_changes self.old (Becomes path.now (Some (empty_node kind)) ∷ []) }
     {
         let depth = path.depth() - 1;
-        let directory = &lookup(&self.arena, &self.heads, &self.orders, path, depth);
+        let directory = lookup(&self.arena, &self.heads, &self.orders, path, depth);
         let name = path.name(depth);
-        let node = create_node(&mut self.arena, *directory, kind, name);
-        self.orders.enter(&self.arena, node, *directory, name);
-        insert(&mut self.arena, &mut self.heads, node, *directory, name);
+        let node = create_node(&mut self.arena, directory, kind, name);
+        self.orders.enter(&self.arena, node, directory, name);
+        insert(&mut self.arena, &mut self.heads, node, directory, name);
     }
 }
 
@@ -265,28 +265,28 @@ impl Filestore for TreeStore {
         let node = find_path(&self.arena, &self.heads, &self.orders, path).unwrap();
         let block = self.arena.bytes(node);
         let held = held_by(block);
-        let directory = &home_of(block, node);
+        let directory = home_of(block, node);
         let name = path.name(path.depth() - 1);
         let blocks = held.run.count;
-        self.orders.leave(&self.arena, node, *directory, name);
+        self.orders.leave(&self.arena, node, directory, name);
         held.release(&mut self.arena);
-        index::remove(&mut self.arena, &mut self.heads, node, *directory, name);
+        index::remove(&mut self.arena, &mut self.heads, node, directory, name);
         delete_node(&mut self.arena, node);
         Ok(blocks + 1)
     }
 
     fn rename(&mut self, from: &Path, to: &Path) -> Result<u32, Memory> {
         let node = find_path(&self.arena, &self.heads, &self.orders, from).unwrap();
-        let old = &home_of(self.arena.bytes(node), node);
+        let old = home_of(self.arena.bytes(node), node);
         let old_name = from.name(from.depth() - 1);
         let depth = to.depth() - 1;
-        let new = &lookup(&self.arena, &self.heads, &self.orders, to, depth);
+        let new = lookup(&self.arena, &self.heads, &self.orders, to, depth);
         let new_name = to.name(depth);
-        self.orders.leave(&self.arena, node, *old, old_name);
-        index::remove(&mut self.arena, &mut self.heads, node, *old, old_name);
-        rename_node(&mut self.arena, node, *new, new_name);
-        self.orders.enter(&self.arena, node, *new, new_name);
-        insert(&mut self.arena, &mut self.heads, node, *new, new_name);
+        self.orders.leave(&self.arena, node, old, old_name);
+        index::remove(&mut self.arena, &mut self.heads, node, old, old_name);
+        rename_node(&mut self.arena, node, new, new_name);
+        self.orders.enter(&self.arena, node, new, new_name);
+        insert(&mut self.arena, &mut self.heads, node, new, new_name);
         Ok(0)
     }
 
