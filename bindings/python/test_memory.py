@@ -1,5 +1,5 @@
 #!/usr/bin/env python3
-"""Tests of the Python package where the library is refused memory. `.ci/clients` runs it: CEZHUTAL_LIBRARY names a
+"""Tests of the Python package where the library is out of memory. `.ci/clients` runs it: CEZHUTAL_LIBRARY names a
 library that is linked with bindings/python/refusing.c."""
 
 from __future__ import annotations

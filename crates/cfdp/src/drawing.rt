@@ -10,7 +10,7 @@ use crate::notes::{is_bad_end, is_noted, push_became, push_cause, push_indicatio
 use cfdp_draw::{Blocks, Chart, Direction, Full, MOST_MOMENTS, MarkKind};
 use cfdp_lines::{NEWLINE, decode_words};
 use cfdp_receiver::Receiver;
-use cfdp_run::{CommandFault, HeadProgress, RunCommand, default_mib, read_command};
+use cfdp_run::{CommandFault, HeadProgress, RunCommand, default_mib, read_run_command};
 use cfdp_run_script::RunScript;
 use cfdp_status::TransactionId;
 use std::alloc::{AllocError, Global};
@@ -86,7 +86,7 @@ pub struct Drawing {
 
 /// What a line hands to the receiving entity, if it is such a line.
 fn input_of(alloc: Global, line: &[u8]) -> Result<Option<Timed>, Full> {
-    match read_command(alloc, line, default_mib(), HeadProgress::Playing) {
+    match read_run_command(alloc, line, default_mib(), HeadProgress::Playing) {
         Ok(Some(RunCommand::Receive { now, octets })) => Ok(Some(Timed {
             now,
             input: DrawnInput::Came(octets),

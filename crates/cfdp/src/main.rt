@@ -29,7 +29,6 @@
 mod answers;
 mod capture;
 mod clock;
-mod commands;
 mod compose;
 mod disturb;
 mod draw;
@@ -62,6 +61,7 @@ mod setting_lines;
 mod setup;
 mod show;
 mod uploads;
+mod usage;
 mod words;
 
 use end::End;

@@ -3,7 +3,7 @@
 use crate::capture::{Capture, CaptureDirection};
 use crate::end::End;
 use cfdp_lines::{LineFault, NEWLINE, decode_words};
-use cfdp_run::{CommandFault, HeadProgress, RunCommand, default_mib, read_command};
+use cfdp_run::{CommandFault, HeadProgress, RunCommand, default_mib, read_run_command};
 use cfdp_words::{Style, show};
 use std::alloc::{AllocError, Global};
 use std::io::Write;
@@ -119,7 +119,7 @@ impl<'a, F: Write + Drop> PduLog<'a, F> {
 
     /// A line is carried out, which may be an input.
     fn input(&mut self, alloc: Global, line: &[u8], out: &mut Vec<u8>) -> Result<(), End> {
-        match read_command(alloc, line, default_mib(), HeadProgress::Playing) {
+        match read_run_command(alloc, line, default_mib(), HeadProgress::Playing) {
             Ok(Some(RunCommand::Receive { now, octets })) => {
                 self.latest = self.latest.max(now);
                 let mut octets = octets;

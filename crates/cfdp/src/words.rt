@@ -1,11 +1,11 @@
 //! The words of the command line.
 
-use crate::commands::program;
 use crate::compose::ScriptPlayer;
 use crate::disturb::Odds;
 use crate::end::End;
 use crate::receive::LiveOptions;
 use crate::run::Options;
+use crate::usage::program;
 use cfdp_words::Style;
 use clap::error::ErrorKind;
 use clap::{ArgMatches, Error};

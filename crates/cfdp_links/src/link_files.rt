@@ -91,9 +91,7 @@ pub fn read_files(alloc: Global, scripts: &[Vec<u8>]) -> Result<Prepared, LinkFa
     let mut setup = Setup::new();
     let mut files = Vec::new(alloc);
     for (index, script) in scripts.iter().enumerate() {
-        if let Err(fault) = read_next(alloc, index as u8, script, &mut setup, &mut files) {
-            return Err(fault);
-        }
+        read_next(alloc, index as u8, script, &mut setup, &mut files)?;
     }
     let core = core_of(alloc, setup.take_config())?;
     Ok(Prepared { core, files })

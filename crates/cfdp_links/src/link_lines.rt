@@ -77,11 +77,10 @@ fn read_words(
         ≡ Some (setup_of setup.new, said_in message)) }
     ensures bad { (result ≡ Err Bad) ↔ (link_answer (setup_of setup.old) line.now ≡ None) }
 {
-    match read_command(line, room) {
-        Ok(Some(command)) => message_by(alloc, setup, command),
-        Ok(None) => Ok(None),
-        Err(fault) => Err(fault),
-    }
+    let Some(command) = read_command(line, room)? else {
+        return Ok(None);
+    };
+    message_by(alloc, setup, command)
 }
 
 /// What a line says.
@@ -116,16 +115,13 @@ fn add_line(
         (map said_of messages.old.items) (map said_of messages.new.items)) }
     ensures bad { (result ≡ Err Bad) ↔ (line_answer link_answer (setup_of setup.old) line.now ≡ None) }
 {
-    match read_line(alloc, setup, line, room) {
-        Ok(Some(message)) => {
-            let Ok(()) = messages.push(message) else {
-                return Err(LineFault::Memory);
-            };
-            Ok(())
-        }
-        Ok(None) => Ok(()),
-        Err(fault) => Err(fault),
-    }
+    let Some(message) = read_line(alloc, setup, line, room)? else {
+        return Ok(());
+    };
+    let Ok(()) = messages.push(message) else {
+        return Err(LineFault::Memory);
+    };
+    Ok(())
 }
 
 /// What the lines of the file with this number say, in order.

@@ -3,7 +3,7 @@ use Rattle.std.proofs.Common.{◌≡◌, ℕ, List, [], ◌∷◌, ◌++◌, Opt
 use Rattle.std.specs.List.{join_with_byte}
 use Rattle.cfdp_lines.proofs.Answering.{NotFew, too_few}
 use Rattle.cfdp_texts.specs.Replies.{word}
-use Rattle.cfdp_run.specs.declared.commands.HeadProgress.{HeadProgress}
+use Rattle.cfdp_run.specs.declared.run_commands.HeadProgress.{HeadProgress}
 use Rattle.cfdp_run.specs.declared.words.FirstWord.TheVariants.{Config}
 use Rattle.cfdp_run.specs.declared.wrong.Wrong.TheVariants.{Expected}
 use Rattle.cfdp_run.specs.Commands.{config_in}

@@ -38,14 +38,14 @@ use Rattle.cfdp_run.specs.declared.words.FirstWord.{FirstWord}
 use Rattle.cfdp_run.specs.declared.words.FirstWord.TheVariants as word
 use Rattle.cfdp_run.specs.declared.wrong.Wrong.{Wrong}
 use Rattle.cfdp_run.specs.declared.wrong.Wrong.TheVariants as wrong
-use Rattle.cfdp_run.specs.declared.commands.HeadProgress.{HeadProgress}
-use Rattle.cfdp_run.specs.declared.commands.HeadProgress.TheVariants as progress
-use Rattle.cfdp_run.specs.declared.commands.RunCommand.{RunCommand}
-use Rattle.cfdp_run.specs.declared.commands.RunCommand.TheVariants as command
-use Rattle.cfdp_run.specs.declared.commands.FileContent.{FileContent as ContentValue}
-use Rattle.cfdp_run.specs.declared.commands.FileContent.TheVariants as content
-use Rattle.cfdp_run.specs.declared.commands.CommandFault.{CommandFault}
-use Rattle.cfdp_run.specs.declared.commands.CommandFault.TheVariants as fault
+use Rattle.cfdp_run.specs.declared.run_commands.HeadProgress.{HeadProgress}
+use Rattle.cfdp_run.specs.declared.run_commands.HeadProgress.TheVariants as progress
+use Rattle.cfdp_run.specs.declared.run_commands.RunCommand.{RunCommand}
+use Rattle.cfdp_run.specs.declared.run_commands.RunCommand.TheVariants as command
+use Rattle.cfdp_run.specs.declared.run_commands.FileContent.{FileContent as ContentValue}
+use Rattle.cfdp_run.specs.declared.run_commands.FileContent.TheVariants as content
+use Rattle.cfdp_run.specs.declared.run_commands.CommandFault.{CommandFault}
+use Rattle.cfdp_run.specs.declared.run_commands.CommandFault.TheVariants as fault
 
 -- nothing, octets, or those of the file with a name
 pub data PutContent : Type 0 where

@@ -34,8 +34,8 @@ use Rattle.cfdp_run.specs.Putting.{path_wrong, room_wrong, with_put}
 use Rattle.cfdp_run.specs.Questions.{gaps_line, phase_line}
 use Rattle.cfdp_run.specs.Settings.{default_mib}
 use Rattle.cfdp_run.specs.Stops.{ScriptEnd, Ended, IsWrong, Unmet, Unread}
-use Rattle.cfdp_run.specs.declared.commands.HeadProgress.{HeadProgress}
-use Rattle.cfdp_run.specs.declared.commands.HeadProgress.TheVariants as progress
+use Rattle.cfdp_run.specs.declared.run_commands.HeadProgress.{HeadProgress}
+use Rattle.cfdp_run.specs.declared.run_commands.HeadProgress.TheVariants as progress
 use Rattle.cfdp_run.specs.declared.words.FirstWord.{FirstWord}
 use Rattle.cfdp_run.specs.declared.words.FirstWord.TheVariants as word
 use Rattle.cfdp_run.specs.declared.wrong.Wrong.{Wrong}

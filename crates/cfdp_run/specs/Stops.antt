@@ -4,8 +4,8 @@
 --     stop_of         that of a value of the program
 --     stop_by         that of a line that is not read
 use Rattle.std.specs.Prelude.{ℕ, List}
-use Rattle.cfdp_run.specs.declared.commands.CommandFault.{CommandFault}
-use Rattle.cfdp_run.specs.declared.commands.CommandFault.TheVariants as fault
+use Rattle.cfdp_run.specs.declared.run_commands.CommandFault.{CommandFault}
+use Rattle.cfdp_run.specs.declared.run_commands.CommandFault.TheVariants as fault
 use Rattle.cfdp_run.specs.declared.stop.ScriptStop.{ScriptStop as StopValue}
 use Rattle.cfdp_run.specs.declared.stop.ScriptStop.TheVariants as stop
 use Rattle.cfdp_run.specs.declared.wrong.Wrong.{Wrong}

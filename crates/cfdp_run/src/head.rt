@@ -8,10 +8,10 @@ ghost use Rattle.cfdp_run.specs.Putting.{path_wrong};
 ghost use Rattle.cfdp_run.specs.Scripts.{begun, first_config, first_head, progress_by, head_protected, put_node, with_config, with_mib};
 ghost use Rattle.cfdp_run.specs.Stops.{IsWrong, NoMemory, stop_of};
 
-use crate::commands::HeadProgress;
 use crate::play::Play;
 use crate::putting::{path_fault, put_directory, put_file};
 use crate::reconfigured::reconfigured;
+use crate::run_commands::HeadProgress;
 use crate::settings::default_mib;
 use crate::stop::ScriptStop;
 use crate::wrong::Wrong;

@@ -8,7 +8,7 @@ ghost use Rattle.cfdp_plans.specs.Names.{name_in};
 ghost use Rattle.cfdp_run.specs.Words.{is_of_head};
 ghost use Rattle.cfdp_run.specs.Commands.{IfWrong, OnMemory, says_alone, asks_by, asks_memory, at_in, before_slash, meaning_in, config_in, config_of, content_in, content_of, directory_or_file, in_time, input_in, is_equals, is_fresh, is_playing, line_in, octets_spelled, only_name, only_path, put_alone, put_in, command_meaning, says, setting, settings_in, takes_memory, texts_say};
 
-use crate::commands::{CommandFault, FileContent, HeadProgress, RunCommand};
+use crate::run_commands::{CommandFault, FileContent, HeadProgress, RunCommand};
 use crate::settings::key_of;
 use crate::words::{FirstWord, word_of};
 use crate::wrong::Wrong;
@@ -414,7 +414,7 @@ fn read_worded<'a>(
 ///
 /// Cost: a pass over the line, and one more over a path. The octets of hexadecimal are decoded into a vector of their
 /// own, and a file's name is lent.
-pub fn read_command<'a>(
+pub fn read_run_command<'a>(
     alloc: Global,
     line: &'a [u8],
     mib: Mib,

@@ -1,6 +1,6 @@
 //! How a script stops before its end.
 
-use crate::commands::CommandFault;
+use crate::run_commands::CommandFault;
 use crate::wrong::Wrong;
 use std::alloc::AllocError;
 

@@ -16,7 +16,7 @@ use Rattle.cfdp_run.specs.Commands.{Nothing, LineMeaning, Settings, Configure, P
 use Rattle.cfdp_run.specs.Settings.{key_of, within_by, interval_of, limit_of, longest_of, keep_alive_of, nak_mode_of, yes_of, handler_of, with_value}
 use Rattle.cfdp_run.specs.code.Stages.{IsFit}
 use Rattle.cfdp_run.specs.Words.{is_of_head, word_of}
-use Rattle.cfdp_run.specs.declared.commands.HeadProgress.{HeadProgress}
+use Rattle.cfdp_run.specs.declared.run_commands.HeadProgress.{HeadProgress}
 use Rattle.cfdp_run.specs.declared.settings.Key.{Key}
 use Rattle.cfdp_run.specs.declared.settings.Key.TheVariants as key
 use Rattle.cfdp_run.specs.declared.words.FirstWord.{FirstWord}

@@ -11,7 +11,7 @@ ghost use Rattle.cfdp_run.specs.Scripts.{Head as SaidInHead, asked, script_at_fi
 ghost use Rattle.cfdp_run.specs.Stages.{head_of, play_from};
 ghost use Rattle.cfdp_run.specs.code.Stages.{IsFit};
 ghost use Rattle.cfdp_run.specs.Stops.{NoMemory, ScriptEnd as Why, stop_of};
-ghost use Rattle.cfdp_run.specs.declared.commands.HeadProgress.TheVariants as progress;
+ghost use Rattle.cfdp_run.specs.declared.run_commands.HeadProgress.TheVariants as progress;
 ghost use Rattle.cfdp_run.specs.declared.words.FirstWord.TheVariants as word;
 ghost use Rattle.cfdp_run_script.specs.Steps.{Leads, StopsScript, script_of};
 ghost use Rattle.cfdp_run_script.specs.code.Steps.{held};
@@ -22,7 +22,7 @@ use cfdp_paths::Path;
 use cfdp_receiver::{Mib, Receiver};
 use cfdp_run::{
     FileContent, FirstWord, Head, HeadProgress, Play, RunCommand, ScriptStop, Wrong, default_mib,
-    read_command,
+    read_run_command,
 };
 use cfdp_status::TransactionId;
 use cfdp_transactions::Config;
@@ -422,7 +422,7 @@ impl RunScript {
         ensures kept { OnErr result (text.new.items ≡ text.old.items) }
         ensures same { F.known files.new ≡ F.known files.old }
     {
-        match read_command(alloc, line, self.mib(), self.progress()) {
+        match read_run_command(alloc, line, self.mib(), self.progress()) {
             Ok(None) => Ok(()),
             Ok(Some(command)) => self.obey(alloc, files, command, text),
             Err(fault) => Err(ScriptStop::from(fault)),

@@ -1,4 +1,4 @@
-//! Worked rows and limits, a module for each crate that they are about.
+//! Worked examples and limits, a module for each crate that they are about.
 
 mod crc;
 mod directives;

@@ -199,12 +199,18 @@ fn entity_over<S: Filestore>(alloc: Global, store: S) -> Result<Core<S>, Memory>
 }
 
 /// The reply, by one call or by the one that gives it twice.
-fn apply<S: Filestore>(rt: &impl Abort, core: &mut Core<S>, event: &Event, twice: bool) -> Reply {
+fn apply<S: Filestore>(
+    rt: &impl Abort,
+    case: &str,
+    core: &mut Core<S>,
+    event: &Event,
+    twice: bool,
+) -> Reply {
     if !twice {
         return core.apply(event);
     }
     let (reply, again) = core.apply_both(event);
-    assert!(rt; reply.same(&again), "the reply that is given twice");
+    assert!(rt; reply.same(&again), "{case}: the reply that is given twice");
     reply
 }
 
@@ -236,6 +242,7 @@ fn may_lack_memory<S: Filestore>(core: &Core<S>, event: &Event) -> bool {
 /// The reply; out of memory, which may be, nothing has changed, and the same event is handed in again.
 fn hand_in<S: Filestore>(
     rt: &impl Abort,
+    case: &str,
     alloc: Global,
     core: &mut Core<S>,
     event: &Event,
@@ -245,7 +252,7 @@ fn hand_in<S: Filestore>(
         books(core, event.transaction()),
         core.store().listing(alloc)?,
     );
-    let reply = apply(rt, core, event, twice);
+    let reply = apply(rt, case, core, event, twice);
     if let Reply::Memory = reply {
         let after = (
             books(core, event.transaction()),
@@ -253,9 +260,9 @@ fn hand_in<S: Filestore>(
         );
         assert!(rt;
             before == after && may_lack_memory(core, event),
-            "an event that was out of memory"
+            "{case}: an event that was out of memory"
         );
-        return Ok(apply(rt, core, event, twice));
+        return Ok(apply(rt, case, core, event, twice));
     }
     Ok(reply)
 }
@@ -263,13 +270,14 @@ fn hand_in<S: Filestore>(
 /// Whether the reply to what is handed in is the one that is reported.
 fn replies<S: Filestore>(
     rt: &impl Abort,
+    case: &str,
     alloc: Global,
     core: &mut Core<S>,
     (given, replied): (Given, Replied),
     twice: bool,
 ) -> Result<bool, Memory> {
     let event = given.event(alloc)?;
-    let reply = hand_in(rt, alloc, core, &event, twice)?;
+    let reply = hand_in(rt, case, alloc, core, &event, twice)?;
     is_replied(rt, alloc, &reply, replied)
 }
 
@@ -302,13 +310,14 @@ fn has_order<S: Filestore>(core: &Core<S>, numbers: &[u8]) -> bool {
 /// Whether a row holds.
 fn is_met<S: Filestore>(
     rt: &impl Abort,
+    case: &str,
     alloc: Global,
     core: &mut Core<S>,
     row: Row,
     twice: bool,
 ) -> Result<bool, Memory> {
     match row {
-        Row::On(given, replied) => replies(rt, alloc, core, (given, replied), twice),
+        Row::On(given, replied) => replies(rt, case, alloc, core, (given, replied), twice),
         Row::Existing(expected) => is_listed(alloc, core, expected),
         Row::Store(free, spare) => Ok(core.store().free() == free && core.spare() == spare),
         Row::Gaps(number, expected) => match core.gaps(id(number)) {
@@ -346,7 +355,7 @@ fn meet<S: Filestore>(
     twice: bool,
 ) -> Result<(), Memory> {
     for (index, row) in rows.iter().enumerate() {
-        let met = is_met(rt, alloc, core, *row, twice)?;
+        let met = is_met(rt, name, alloc, core, *row, twice)?;
         assert!(rt; met, "{name}: row {index}, {}", row.about());
     }
     Ok(())

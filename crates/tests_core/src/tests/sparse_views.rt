@@ -230,13 +230,17 @@ fn apply(
     open: &mut View<'_>,
     sparse: &mut SparseView<'_>,
     list: &List,
+    seed: u64,
 ) -> Result<Went, Memory> {
     for (number, (request, status)) in list.requests.iter().zip(&list.statuses).enumerate() {
         let replied = open.apply(request)?;
-        assert!(rt; replied == *status, "request {number}");
+        assert!(rt; replied == *status, "seed {seed}: request {number}");
         match sparse.apply(request)? {
             None => return Ok(Went::Unseen),
-            Some(replied) => assert!(rt; replied == *status, "request {number}, sparse"),
+            Some(replied) => assert!(rt;
+                replied == *status,
+                "seed {seed}: request {number}, sparse"
+            ),
         }
         if !status.is_successful() {
             return Ok(Went::Refused);
@@ -271,7 +275,13 @@ fn names_inside(scene: &Scene, leased: &Footprint, list: &List) -> bool {
 }
 
 /// Compares a list on two views of the store.
-fn compare(rt: &impl Abort, alloc: Global, scene: &Scene, list: &List) -> Result<Went, Memory> {
+fn compare(
+    rt: &impl Abort,
+    alloc: Global,
+    scene: &Scene,
+    list: &List,
+    seed: u64,
+) -> Result<Went, Memory> {
     let leased = footprint(alloc, &list.requests, None)?;
     let mut open = View::of(alloc, &scene.store, &scene.protected, &leased)?;
     let made = SparseView::of(
@@ -283,14 +293,14 @@ fn compare(rt: &impl Abort, alloc: Global, scene: &Scene, list: &List) -> Result
         &list.requests,
     )?;
     let Some(mut sparse) = made else {
-        assert!(rt; false, "no view");
+        assert!(rt; false, "seed {seed}: no view");
         return Ok(Went::Unseen);
     };
-    let went = apply(rt, &mut open, &mut sparse, list)?;
+    let went = apply(rt, &mut open, &mut sparse, list, seed)?;
     let sparse = sparse.into_view();
     assert!(rt;
         went == Went::Unseen || is_same(&open, &sparse),
-        "the need and the steps of both"
+        "seed {seed}: the need and the steps of both"
     );
     let is_whole = went == Went::Whole || went == Went::Moved;
     if is_whole && names_inside(scene, &leased, list) {
@@ -310,7 +320,7 @@ fn compare_one(rt: &impl Abort, alloc: Global, seed: u64) -> Result<Went, Memory
     if seed % 2 == 1 {
         lengthen(alloc, &mut list, &mut after)?;
     }
-    compare(rt, alloc, &scene, &list)
+    compare(rt, alloc, &scene, &list, seed)
 }
 
 /// Most lists go to their end. Some name what is in a directory that they move or remove: the view says how each of

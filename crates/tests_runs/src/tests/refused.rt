@@ -226,20 +226,21 @@ const WITHOUT_CLOSURE: Steps = &[
 fn all_hold<R: Abort + Print>(
     rt: &R,
     alloc: Global,
+    name: &str,
     is_acknowledged: bool,
     steps: Steps,
 ) -> Result<(), AllocError> {
     let Some(mut actor) = Actor::new(alloc, is_acknowledged, 10_000)? else {
-        assert!(rt; false, "no receiver");
+        assert!(rt; false, "{name}: no receiver");
         return Ok(());
     };
     for (number, (input, text)) in steps.iter().enumerate() {
         actor.take(alloc, *input)?;
         let written = str::from_utf8(&actor.text).unwrap_or("no text");
-        assert_eq!(rt; written, *text, "step {number}");
+        assert_eq!(rt; written, *text, "{name}: step {number}");
         assert!(rt;
             !actor.has_changed,
-            "step {number} changed something before it was out of memory"
+            "{name}: step {number} changed something before it was out of memory"
         );
     }
     Ok(())
@@ -247,24 +248,36 @@ fn all_hold<R: Abort + Print>(
 
 #[test]
 fn requests(rt: HostRuntime) -> Result<(), AllocError> {
-    all_hold(&rt, rt.alloc(), true, WITH_REQUEST)?;
-    all_hold(&rt, rt.alloc(), true, FAILING)
+    all_hold(&rt, rt.alloc(), "with a request", true, WITH_REQUEST)?;
+    all_hold(&rt, rt.alloc(), "a list that would fail", true, FAILING)
 }
 
 #[test]
 fn held(rt: HostRuntime) -> Result<(), AllocError> {
-    all_hold(&rt, rt.alloc(), true, HELD)
+    all_hold(&rt, rt.alloc(), "held", true, HELD)
 }
 
 #[test]
 fn without_an_entry(rt: HostRuntime) -> Result<(), AllocError> {
-    all_hold(&rt, rt.alloc(), true, TOO_LONG)?;
-    all_hold(&rt, rt.alloc(), true, HELD_AND_TOO_LONG)?;
-    all_hold(&rt, rt.alloc(), true, HELD_AND_CANCELLED)
+    all_hold(&rt, rt.alloc(), "too long", true, TOO_LONG)?;
+    all_hold(
+        &rt,
+        rt.alloc(),
+        "held and too long",
+        true,
+        HELD_AND_TOO_LONG,
+    )?;
+    all_hold(
+        &rt,
+        rt.alloc(),
+        "held and cancelled",
+        true,
+        HELD_AND_CANCELLED,
+    )
 }
 
 #[test]
 fn unacknowledged(rt: HostRuntime) -> Result<(), AllocError> {
-    all_hold(&rt, rt.alloc(), false, UNACKNOWLEDGED)?;
-    all_hold(&rt, rt.alloc(), false, WITHOUT_CLOSURE)
+    all_hold(&rt, rt.alloc(), "unacknowledged", false, UNACKNOWLEDGED)?;
+    all_hold(&rt, rt.alloc(), "without closure", false, WITHOUT_CLOSURE)
 }

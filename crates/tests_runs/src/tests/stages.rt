@@ -64,13 +64,13 @@ fn all_hold<R: Abort + Print>(rt: &R, alloc: Global, scene: &Scene) -> Result<()
     for (number, (input, text, after)) in scene.cases.iter().enumerate() {
         let case = input.name();
         let Some(mut actor) = at_stage(alloc, scene)? else {
-            assert!(rt; false, "{name}: no receiver");
+            assert!(rt; false, "{name}: no receiver for case {number}, {case}");
             continue;
         };
         assert_eq!(rt;
             actor.stage(),
             name,
-            "the stage before case {number}, {case}"
+            "{name}: the stage before case {number}, {case}"
         );
         actor.take(alloc, *input)?;
         let written = str::from_utf8(&actor.text).unwrap_or("no text");

@@ -1,5 +1,5 @@
-//! Leases of two paths of one hash: one is found by its hash, the other by the path. Each grant goes on after it was
-//! refused memory.
+//! Leases of two paths of one hash: one is found by its hash, the other by the path. Each grant is made again where it
+//! was out of memory.
 
 use super::super::scene::{hold, path_of, request};
 use super::id;
@@ -139,7 +139,7 @@ fn leased_by(alloc: Global, pair: &Pair, change: Change) -> Result<Option<Footpr
     }
 }
 
-/// What each row leases. It is made before the first grant, so that only grants can be refused memory after it.
+/// What each row leases. It is made before the first grant, so that only grants can be out of memory after it.
 fn leased_by_each(alloc: Global, pair: &Pair) -> Result<Vec<Option<Footprint>>, Memory> {
     let mut all = Vec::with_capacity(alloc, ROWS.len())?;
     for row in &ROWS {

@@ -1,7 +1,7 @@
 //! Lines of scripts: those that take memory are read when they are handed in again, and what is wrong with a bad one
 //! is said without memory.
 
-use cfdp_run::{CommandFault, FirstWord, HeadProgress, Wrong, default_mib, read_command};
+use cfdp_run::{CommandFault, FirstWord, HeadProgress, Wrong, default_mib, read_run_command};
 use std::alloc::{AllocError, Global};
 
 /// A line, and what is wrong with it.
@@ -25,7 +25,7 @@ const LINES: &[Line] = &[
 
 /// What is wrong with a line, or that it was out of memory.
 fn fault_of(alloc: Global, line: &[u8]) -> Option<CommandFault> {
-    read_command(alloc, line, default_mib(), HeadProgress::Fresh).err()
+    read_run_command(alloc, line, default_mib(), HeadProgress::Fresh).err()
 }
 
 #[test]

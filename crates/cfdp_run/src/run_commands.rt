@@ -86,7 +86,7 @@ pub enum CommandFault {
 
 impl From<AllocError> for CommandFault {
     ghost use Rattle.std.specs.Prelude.{◌≡◌};
-    ghost use Rattle.cfdp_run.specs.declared.commands.CommandFault.TheVariants.{Memory};
+    ghost use Rattle.cfdp_run.specs.declared.run_commands.CommandFault.TheVariants.{Memory};
 
     ghost from_gives = { λ _ e. e ≡ Memory };
 
@@ -97,7 +97,7 @@ impl From<AllocError> for CommandFault {
 
 impl From<Wrong> for CommandFault {
     ghost use Rattle.std.specs.Prelude.{◌≡◌};
-    ghost use Rattle.cfdp_run.specs.declared.commands.CommandFault.TheVariants as fault;
+    ghost use Rattle.cfdp_run.specs.declared.run_commands.CommandFault.TheVariants as fault;
 
     ghost from_gives = { λ w e. e ≡ fault.Wrong w };
 
