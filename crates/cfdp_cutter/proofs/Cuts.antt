@@ -139,9 +139,6 @@ cut-lost : (s : List ℕ) → first_pdu s ≡ Lost → cut s ≡ uncut s
 cut-lost s e = cut_more s ∙ ap (λ f. cut_next f s (cut_some (length s))) e
 
 -- an induction on streams: what is after a whole PDU is shorter
-Holds : (List ℕ → Type 0) → Type 0
-Holds P = (s : List ℕ) → P s
-
 by_first : (P : List ℕ → Type 0) → ((s p r : List ℕ) → first_pdu s ≡ Whole p r → P r → P s) →
     ((s : List ℕ) → cut s ≡ uncut s → ((p r : List ℕ) → first_pdu s ≡ Whole p r → ⊥) → P s)
     → (n : ℕ) (s : List ℕ) (f : First) → first_pdu s ≡ f → ((r : List ℕ) → length r < length s → P r) → P s

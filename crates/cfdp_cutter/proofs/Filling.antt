@@ -159,9 +159,6 @@ lost_here b o x rest e f not bad =
     ap (λ s. cond (begins_pdu s) (first_by (pdu_len s) s) Lost) spelled
     ∙ ap (λ version. cond version (first_by (pdu_len (x ∷ rest)) (x ∷ rest)) Lost) bad
 
-some_octet : (b : List ℕ) → (length b ≡ 0 → ⊥) → b ≡ [] ⊎ (0 < length b)
-some_octet b h = inr (omega (arith, h))
-
 not_lost_by : (version : Bool) (o : Option ℕ) (s : List ℕ) → version ≡ true → cond version (first_by o s) Lost ≡ Lost → ⊥
 not_lost_by true None s e f = cc f
 not_lost_by true (Some n) s e f = elim (nat_lt (length s) n) as (λ b. cond b Open (Whole (take n s) (drop n s)) ≡ Lost → ⊥) [

@@ -41,9 +41,8 @@ fn header_len(fourth: u8) -> usize
     4 + 2 * id_len + number_len
 }
 
-/// How many octets the PDU has that these octets begin, by its header (CCSDS 727.0-B-5 §5.1): 7 to 65,563. `None` where
-/// they are fewer than
-/// 4. Takes no memory. Cost: constant.
+/// How many octets the PDU has that these octets begin, by its header (CCSDS 727.0-B-5 §5.1): 7 to 65,563. `None` if
+/// they are fewer than 4. Takes no memory. Cost: constant.
 pub fn pdu_len(octets: &[u8]) -> Option<usize>
     ensures { result ≡ pdu_len octets.now }
 {

@@ -90,7 +90,8 @@ fn read_whole(alloc: Global, octets: &[u8]) -> Result<Pdu, PduFault>
 /// that is not listed (`BadDirective`), fixed fields, segment metadata or names past its end (`LengthMismatch`). Then
 /// the TLV fields from the left: one that is cut, a filestore request or response that is none, an entity ID of another
 /// length than 1 to 8 (`BadTlv`), a request value of 255 octets (`RequestTooLong`). All of this is found before memory
-/// is asked for, so `Memory` is only returned instead of a PDU, and of none of EOF or not ours.
+/// is asked for. So `Memory` is returned only for octets that spell a PDU, and never for an EOF PDU or for one that is
+/// not ours.
 ///
 /// It goes over the octets twice at most: once without memory, and, where they spell a PDU, once to
 /// copy what is handed out.

@@ -18,11 +18,17 @@ use cfdp_paths::Memory;
 use cfdp_quota::Quota;
 use std::alloc::{AllocError, Global};
 
-/// The verdict on a list of filestore requests (CCSDS 727.0-B-5, filestore procedures), before its transaction begins:
-/// it is granted exactly where no test refuses it, and otherwise the first that does is returned. The tests are, in
-/// this order: it has at most 64 requests; its names are paths; its footprint conflicts with no lease; run alone on the
-/// store as it is, with unlimited room and a file of as many octets as the bound, its file may be installed, and each
-/// request is successful; it takes at most 65,536 steps; and it needs no more blocks than are to spare.
+/// The verdict on a list of filestore requests (CCSDS 727.0-B-5, filestore procedures), before its transaction begins.
+/// The list is granted exactly if it passes each test. Otherwise the first test that it fails refuses it. The tests are,
+/// in this order:
+///
+/// 1. It has at most 64 requests.
+/// 2. Its names are paths.
+/// 3. Its footprint conflicts with no lease.
+/// 4. Run alone on the store as it is, with unlimited room and a file of as many octets as the bound, its file may be
+///    installed, and each request is successful.
+/// 5. It takes at most 65,536 steps.
+/// 6. It needs no more blocks than are to spare.
 ///
 /// The list is run on a view of kinds and sizes, never on the store. Without a destination the bound has to be 0.
 ///

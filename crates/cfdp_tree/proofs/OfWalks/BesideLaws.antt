@@ -68,9 +68,6 @@ beside_below p others q e = by_test (is_below q p) refl
     by_test true is = is
     by_test false is = absurd (both_ways _ (ap (λ b. b && not (list_any (same_path (take (suc (length p)) q)) others)) is) e)
 
-one_more : (n : ℕ) → n + 1 ≡ suc n
-one_more n = omega arith
-
 module _ (nodes : Blocks) (tree : IsTree nodes) (arena : Blocks) (F : Filestore) (shows : Shows arena nodes F.nodes) (p : Path) (others : List Path) where
   -- where no node has the path
   module _ (some : 1 ≤ length p) (none : (b : ℕ) → IsNode nodes b → path_of_node nodes b ≡ p → ⊥) where
