@@ -19,8 +19,8 @@ use cfdp_quota::Quota;
 use std::alloc::{AllocError, Global};
 
 /// The verdict on a list of filestore requests (CCSDS 727.0-B-5, filestore procedures), before its transaction begins.
-/// The list is granted exactly if it passes each test. Otherwise the first test that it fails refuses it. The tests are,
-/// in this order:
+/// The list is granted exactly if it passes each test. Otherwise the first test that it fails refuses it. The tests, in
+/// this order:
 ///
 /// 1. It has at most 64 requests.
 /// 2. Its names are paths.
