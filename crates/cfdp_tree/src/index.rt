@@ -209,7 +209,7 @@ pub(crate) fn find(
     let head = heads[bucket];
     let mut node = head.first;
     for _step in 0..head.listed {
-        if is_entry(arena, node, directory, name) {
+        if is_entry(arena, node, &directory, name) {
             return Some(node);
         }
         node = same_head_of(arena.bytes(node));
@@ -217,15 +217,15 @@ pub(crate) fn find(
     if head.unlisted == 0 {
         return None;
     }
-    orders.find(arena, directory, name)
+    orders.find(arena, &directory, name)
 }
 
 /// Whether the node is in this directory under this name.
-fn is_entry(arena: &Arena, node: BlockId, directory: Option<BlockId>, name: &[u8]) -> bool
+fn is_entry(arena: &Arena, node: BlockId, directory: &Option<BlockId>, name: &[u8]) -> bool
     requires tree { IsTree (nodes_in arena.now) }
     requires node { IsNode (nodes_in arena.now) node }
     requires short { length name.now ≤ 96 }
-    ensures { IsTrue result ↔ IsEntry (nodes_in arena.now) directory name.now node }
+    ensures { IsTrue result ↔ IsEntry (nodes_in arena.now) directory.now name.now node }
 {
     let block = arena.bytes(node);
     home_is(block, node, directory) && name_is(block, name)

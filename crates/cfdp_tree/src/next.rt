@@ -51,7 +51,7 @@ impl TreeStore {
         ensures unchanged { IfNone result (text.new ≡ text.old) }
         ensures length { length text.new ≡ length text.old }
     {
-        let node = next_below(&self.arena, &self.orders, None, after)?;
+        let node = next_below(&self.arena, &self.orders, &None, after)?;
         let start = write_path(&self.arena, node, text);
         let found = found_at(&self.arena, node);
         Some(NextEntry {
@@ -69,24 +69,24 @@ impl TreeStore {
 fn next_below(
     arena: &Arena,
     orders: &Orders,
-    directory: Option<BlockId>,
+    directory: &Option<BlockId>,
     mut names: Names<'_>,
 ) -> Option<BlockId>
     requires tree { IsTree (nodes_in arena.now) }
     requires ordered { IsInOrders (nodes_in arena.now) orders.now None }
-    requires directory { (d : ℕ) → directory ≡ Some d → IsNode (nodes_in arena.now) d }
+    requires directory { (d : ℕ) → directory.now ≡ Some d → IsNode (nodes_in arena.now) d }
     requires names { All IsName names }
     ensures first { IfSome result (λ b. IsFirst (nodes_in arena.now)
-        (path_at (nodes_in arena.now) directory) (path_at (nodes_in arena.now) directory ++ names.entry) b) }
+        (path_at (nodes_in arena.now) directory.now) (path_at (nodes_in arena.now) directory.now ++ names.entry) b) }
     ensures none { IfNone result ((b : ℕ) → ComesAfter (nodes_in arena.now)
-        (path_at (nodes_in arena.now) directory) (path_at (nodes_in arena.now) directory ++ names.entry) b →
+        (path_at (nodes_in arena.now) directory.now) (path_at (nodes_in arena.now) directory.now ++ names.entry) b →
         ⊥) }
 {
     let Some(name) = names.next() else {
         return orders.least_after(arena, directory, None);
     };
     if let Some(node) = orders.find(arena, directory, name) {
-        let below = next_below(arena, orders, Some(node), names);
+        let below = next_below(arena, orders, &Some(node), names);
         if below.is_some() {
             return below;
         }

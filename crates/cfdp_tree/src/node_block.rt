@@ -75,12 +75,12 @@ pub(crate) fn name_in(block: &Block) -> &[u8]
 }
 
 /// Whether the node of this number is in this directory, `None` for the root.
-pub(crate) fn home_is(block: &Block, own: BlockId, directory: Option<BlockId>) -> bool
-    ensures { IsTrue result ↔ (home_in own block.now ≡ directory) }
+pub(crate) fn home_is(block: &Block, own: BlockId, directory: &Option<BlockId>) -> bool
+    ensures { IsTrue result ↔ (home_in own block.now ≡ directory.now) }
 {
     let parent = parent_of(block);
     match directory {
-        Some(directory) => parent != own && parent == directory,
+        Some(directory) => parent != own && parent == *directory,
         None => parent == own,
     }
 }

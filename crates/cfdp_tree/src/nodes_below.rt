@@ -24,19 +24,19 @@ pub(crate) fn nodes_below(
     alloc: Global,
     arena: &Arena,
     orders: &Orders,
-    top: Option<BlockId>,
+    top: &Option<BlockId>,
     depth: usize,
 ) -> Result<Vec<(Path, BlockId)>, Memory>
     requires tree { IsTree (nodes_in arena.now) }
     requires ordered { IsInOrders (nodes_in arena.now) orders.now None }
-    requires top { (d : ℕ) → top ≡ Some d → IsNode (nodes_in arena.now) d }
-    requires depth { length (path_at (nodes_in arena.now) top) ≡ depth }
+    requires top { (d : ℕ) → top.now ≡ Some d → IsNode (nodes_in arena.now) d }
+    requires depth { length (path_at (nodes_in arena.now) top.now) ≡ depth }
     ensures { IfOk result (λ found. found.items
-        ≡ map (path_and_node (nodes_in arena.now)) (walk_from orders.now depth top)) }
+        ≡ map (path_and_node (nodes_in arena.now)) (walk_from orders.now depth top.now)) }
 {
     let mut nodes = Vec::new(alloc);
     if let Some(node) = top {
-        nodes.push(node)?;
+        nodes.push(*node)?;
     }
     collect_nodes(arena, orders, orders.of(top), depth + 1, &mut nodes)?;
     with_paths(alloc, arena, &nodes)

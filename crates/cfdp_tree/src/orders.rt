@@ -68,9 +68,9 @@ impl Orders {
     }
 
     /// The order of a directory, `None` for the root. In constant time.
-    pub(crate) fn of(&self, directory: Option<BlockId>) -> Order
-        requires within { (d : ℕ) → directory ≡ Some d → d < length self.now.directories.items }
-        ensures { result ≡ order_at self.now directory }
+    pub(crate) fn of(&self, directory: &Option<BlockId>) -> Order
+        requires within { (d : ℕ) → directory.now ≡ Some d → d < length self.now.directories.items }
+        ensures { result ≡ order_at self.now directory.now }
     {
         match directory {
             Some(directory) => self.directories[directory.number() as usize],
@@ -79,10 +79,10 @@ impl Orders {
     }
 
     /// Changes the order of a directory, `None` for the root. In constant time.
-    fn set(&mut self, directory: Option<BlockId>, order: Order)
-        requires within { (d : ℕ) → directory ≡ Some d → d < length self.old.directories.items }
-        ensures here { order_at self.new directory ≡ order }
-        ensures others { (other : Option ℕ) → other ≢ directory
+    fn set(&mut self, directory: &Option<BlockId>, order: Order)
+        requires within { (d : ℕ) → directory.now ≡ Some d → d < length self.old.directories.items }
+        ensures here { order_at self.new directory.now ≡ order }
+        ensures others { (other : Option ℕ) → other ≢ directory.now
             → order_at self.new other ≡ order_at self.old other }
         ensures links { self.new.links.items ≡ self.old.links.items }
         ensures length { length self.new.directories.items ≡ length self.old.directories.items }
@@ -109,10 +109,10 @@ impl Orders {
     {
         // Read for its contract alone: an arena has 1 to 65,536 blocks.
         let _free = arena.free();
-        let order = self.of(directory);
+        let order = self.of(&directory);
         let sought = ByName { arena, name };
         let order = insert(&mut self.links, order, node.number() as u16, &sought);
-        self.set(directory, order);
+        self.set(&directory, order);
     }
 
     /// Takes a node out of the order of its directory, `None` for the root. In time logarithmic in the entries of the
@@ -131,10 +131,10 @@ impl Orders {
     {
         // Read for its contract alone: an arena has 1 to 65,536 blocks.
         let _free = arena.free();
-        let order = self.of(directory);
+        let order = self.of(&directory);
         let sought = ByName { arena, name };
         let order = remove(&mut self.links, order, node.number() as u16, &sought);
-        self.set(directory, order);
+        self.set(&directory, order);
     }
 
     /// The entry of a directory, `None` for the root, under this name. In time logarithmic in the entries of the
@@ -142,15 +142,15 @@ impl Orders {
     pub(crate) fn find(
         &self,
         arena: &Arena,
-        directory: Option<BlockId>,
+        directory: &Option<BlockId>,
         name: &[u8],
     ) -> Option<BlockId>
         requires tree { IsTree (nodes_in arena.now) }
         requires ordered { IsInOrders (nodes_in arena.now) self.now None }
-        requires directory { (d : ℕ) → directory ≡ Some d → IsNode (nodes_in arena.now) d }
+        requires directory { (d : ℕ) → directory.now ≡ Some d → IsNode (nodes_in arena.now) d }
         requires short { length name.now ≤ 96 }
-        ensures found { IfSome result (λ b. IsEntry (nodes_in arena.now) directory name.now b) }
-        ensures none { IfNone result ((b : ℕ) → IsEntry (nodes_in arena.now) directory name.now b → ⊥) }
+        ensures found { IfSome result (λ b. IsEntry (nodes_in arena.now) directory.now name.now b) }
+        ensures none { IfNone result ((b : ℕ) → IsEntry (nodes_in arena.now) directory.now name.now b → ⊥) }
     {
         // Read for its contract alone: an arena has 1 to 65,536 blocks.
         let _free = arena.free();
@@ -170,16 +170,16 @@ impl Orders {
     pub(crate) fn least_after(
         &self,
         arena: &Arena,
-        directory: Option<BlockId>,
+        directory: &Option<BlockId>,
         after: Option<&[u8]>,
     ) -> Option<BlockId>
         requires tree { IsTree (nodes_in arena.now) }
         requires ordered { IsInOrders (nodes_in arena.now) self.now None }
-        requires directory { (d : ℕ) → directory ≡ Some d → IsNode (nodes_in arena.now) d }
+        requires directory { (d : ℕ) → directory.now ≡ Some d → IsNode (nodes_in arena.now) d }
         ensures least { IfSome result (λ b. IsLeast (nodes_in arena.now)
-            (option_map (λ name. name.now) after.entry) (in_order self.now directory) b) }
+            (option_map (λ name. name.now) after.entry) (in_order self.now directory.now) b) }
         ensures none { IfNone result (All (λ c. IsFollowing (option_map (λ name. name.now) after.entry)
-            (name_at (nodes_in arena.now) c) → ⊥) (in_order self.now directory)) }
+            (name_at (nodes_in arena.now) c) → ⊥) (in_order self.now directory.now)) }
     {
         // Read for its contract alone: an arena has 1 to 65,536 blocks.
         let _free = arena.free();

@@ -131,11 +131,11 @@ impl TreeStore {
         ensures { self.new ≡ with_changes self.old (Becomes path.now (Some (empty_node kind)) ∷ []) }
     {
         let depth = path.depth() - 1;
-        let directory = lookup(&self.arena, &self.heads, &self.orders, path, depth);
+        let directory = &lookup(&self.arena, &self.heads, &self.orders, path, depth);
         let name = path.name(depth);
-        let node = create_node(&mut self.arena, directory, kind, name);
-        self.orders.enter(&self.arena, node, directory, name);
-        insert(&mut self.arena, &mut self.heads, node, directory, name);
+        let node = create_node(&mut self.arena, *directory, kind, name);
+        self.orders.enter(&self.arena, node, *directory, name);
+        insert(&mut self.arena, &mut self.heads, node, *directory, name);
     }
 }
 
@@ -160,7 +160,7 @@ impl Filestore for TreeStore {
 
     fn has_entries(&self, path: &Path) -> bool {
         match find_path(&self.arena, &self.heads, &self.orders, path) {
-            Some(node) => !self.orders.of(Some(node)).is_empty(),
+            Some(node) => !self.orders.of(&Some(node)).is_empty(),
             None => false,
         }
     }
@@ -168,7 +168,7 @@ impl Filestore for TreeStore {
     fn has_beside(&self, path: &Path, others: &[Path]) -> bool {
         match find_path(&self.arena, &self.heads, &self.orders, path) {
             Some(node) => {
-                let entries = self.orders.of(Some(node));
+                let entries = self.orders.of(&Some(node));
                 let left_out = Others::new(path, others);
                 any_beside(&self.arena, &self.orders, entries, &left_out)
             }
@@ -195,7 +195,7 @@ impl Filestore for TreeStore {
     fn deepest(&self, path: &Path) -> u8 {
         let node = find_path(&self.arena, &self.heads, &self.orders, path).unwrap();
         let depth = path.depth();
-        let entries = self.orders.of(Some(node));
+        let entries = self.orders.of(&Some(node));
         let below = deepest_in(&self.arena, &self.orders, entries, depth + 1);
         depth.max(below) as u8
     }
@@ -203,7 +203,7 @@ impl Filestore for TreeStore {
     fn deepest_beside(&self, path: &Path, others: &[Path]) -> u8 {
         match find_path(&self.arena, &self.heads, &self.orders, path) {
             Some(node) => {
-                let entries = self.orders.of(Some(node));
+                let entries = self.orders.of(&Some(node));
                 let left_out = Others::new(path, others);
                 deepest_beside(&self.arena, &self.orders, entries, &left_out, 0) as u8
             }
@@ -235,7 +235,7 @@ impl Filestore for TreeStore {
     }
 
     fn listing(&self, alloc: Global) -> Result<Vec<Entry>, Memory> {
-        let found = nodes_below(alloc, &self.arena, &self.orders, None, 0)?;
+        let found = nodes_below(alloc, &self.arena, &self.orders, &None, 0)?;
         entries(alloc, &self.arena, found)
     }
 
@@ -243,7 +243,7 @@ impl Filestore for TreeStore {
         let Some(node) = find_path(&self.arena, &self.heads, &self.orders, path) else {
             return Ok(Vec::new(alloc));
         };
-        let top = Some(node);
+        let top = &Some(node);
         if self.orders.of(top).is_empty() {
             return only_existing(alloc, &self.arena, path, node);
         }
@@ -265,28 +265,28 @@ impl Filestore for TreeStore {
         let node = find_path(&self.arena, &self.heads, &self.orders, path).unwrap();
         let block = self.arena.bytes(node);
         let held = held_by(block);
-        let directory = home_of(block, node);
+        let directory = &home_of(block, node);
         let name = path.name(path.depth() - 1);
         let blocks = held.run.count;
-        self.orders.leave(&self.arena, node, directory, name);
+        self.orders.leave(&self.arena, node, *directory, name);
         held.release(&mut self.arena);
-        index::remove(&mut self.arena, &mut self.heads, node, directory, name);
+        index::remove(&mut self.arena, &mut self.heads, node, *directory, name);
         delete_node(&mut self.arena, node);
         Ok(blocks + 1)
     }
 
     fn rename(&mut self, from: &Path, to: &Path) -> Result<u32, Memory> {
         let node = find_path(&self.arena, &self.heads, &self.orders, from).unwrap();
-        let old = home_of(self.arena.bytes(node), node);
+        let old = &home_of(self.arena.bytes(node), node);
         let old_name = from.name(from.depth() - 1);
         let depth = to.depth() - 1;
-        let new = lookup(&self.arena, &self.heads, &self.orders, to, depth);
+        let new = &lookup(&self.arena, &self.heads, &self.orders, to, depth);
         let new_name = to.name(depth);
-        self.orders.leave(&self.arena, node, old, old_name);
-        index::remove(&mut self.arena, &mut self.heads, node, old, old_name);
-        rename_node(&mut self.arena, node, new, new_name);
-        self.orders.enter(&self.arena, node, new, new_name);
-        insert(&mut self.arena, &mut self.heads, node, new, new_name);
+        self.orders.leave(&self.arena, node, *old, old_name);
+        index::remove(&mut self.arena, &mut self.heads, node, *old, old_name);
+        rename_node(&mut self.arena, node, *new, new_name);
+        self.orders.enter(&self.arena, node, *new, new_name);
+        insert(&mut self.arena, &mut self.heads, node, *new, new_name);
         Ok(0)
     }
 

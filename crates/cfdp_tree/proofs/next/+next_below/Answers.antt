@@ -31,7 +31,7 @@ here nodes directory node = record { node = node; path = refl }
 
 pub returns-in_default-clause-first : goal.returns-in_default-clause-first
 returns-in_default-clause-first t c =
-    let nodes = nodes_in c.args.arena.now in let directory = c.args.directory in let a = path_at nodes directory in let list =
+    let nodes = nodes_in c.args.arena.now in let directory = c.args.directory.now in let a = path_at nodes directory in let list =
     in_order c.args.orders.now directory in
     let exists = here nodes directory c.requires.directory in
     subst (λ (names : Path). IfSome c.least_after.result (λ b. IsFirst nodes a (a ++ names) b)) (sym c.in_default.ensures.steps.0)
@@ -41,7 +41,7 @@ returns-in_default-clause-first t c =
 
 pub returns-in_default-clause-none : goal.returns-in_default-clause-none
 returns-in_default-clause-none t c =
-    let nodes = nodes_in c.args.arena.now in let directory = c.args.directory in let a = path_at nodes directory in let list =
+    let nodes = nodes_in c.args.arena.now in let directory = c.args.directory.now in let a = path_at nodes directory in let list =
     in_order c.args.orders.now directory in
     let exists = here nodes directory c.requires.directory in
     subst (λ (names : Path). IfNone c.least_after.result ((b : ℕ) → ComesAfter nodes a (a ++ names) b → ⊥)) (sym c.in_default.ensures.steps.0)
@@ -73,7 +73,7 @@ next_below-below-requires t c =
 
 pub returns-then-is_some-clause-first : goal.returns-then-is_some-clause-first
 returns-then-is_some-clause-first t c =
-    let nodes = nodes_in c.args.arena.now in let directory = c.args.directory in let a = path_at nodes directory in let name =
+    let nodes = nodes_in c.args.arena.now in let directory = c.args.directory.now in let a = path_at nodes directory in let name =
     c.in-Some.name.now in let rest : Path =
     c.next.new.self in
     let exists = here nodes directory c.requires.directory in
@@ -95,7 +95,7 @@ none_found nodes tree directory exists name rest d entry none c follows =
 
 pub returns-clause-first : goal.returns-clause-first
 returns-clause-first t c =
-    let nodes = nodes_in c.args.arena.now in let tree = c.requires.tree in let directory = c.args.directory in let a = path_at nodes directory in let name =
+    let nodes = nodes_in c.args.arena.now in let tree = c.requires.tree in let directory = c.args.directory.now in let a = path_at nodes directory in let name =
     c.in-Some.name.now in let rest : Path = c.next.new.self in
     let list = in_order c.args.orders.now directory in
     let exists = here nodes directory c.requires.directory in
@@ -112,7 +112,7 @@ returns-clause-first t c =
 
 pub returns-clause-none : goal.returns-clause-none
 returns-clause-none t c =
-    let nodes = nodes_in c.args.arena.now in let tree = c.requires.tree in let directory = c.args.directory in let a = path_at nodes directory in let name =
+    let nodes = nodes_in c.args.arena.now in let tree = c.requires.tree in let directory = c.args.directory.now in let a = path_at nodes directory in let name =
     c.in-Some.name.now in let rest : Path = c.next.new.self in
     let list = in_order c.args.orders.now directory in
     let exists = here nodes directory c.requires.directory in

@@ -17,22 +17,22 @@ use Rattle.cfdp_tree.proofs.nodes_below.nodes_below.Goals.{in-Some+in_ok-push, i
 
 pub of-requires : goal.of-requires
 of-requires c = record {
-  within = directory_inside (nodes_in c.args.arena.now) c.args.orders.now None c.args.top c.requires.ordered
+  within = directory_inside (nodes_in c.args.arena.now) c.args.orders.now None c.args.top.now c.requires.ordered
       c.requires.top;
 }
 
 pub overflow_add-depth : goal.overflow_add-depth
-overflow_add-depth c = omega (arith, directory_few (nodes_in c.args.arena.now) c.args.top, c.requires.depth)
+overflow_add-depth c = omega (arith, directory_few (nodes_in c.args.arena.now) c.args.top.now, c.requires.depth)
 
 pub collect_nodes-requires-clause-deep : goal.collect_nodes-requires-clause-deep
 collect_nodes-requires-clause-deep c =
     let nodes_now = nodes_in c.args.arena.now in
     subst (λ (o : Order). AreAtDepth nodes_now (c.args.depth + 1) (nodes c.args.orders.now.links.items o)) (sym c.of.ensures)
-    (directory_deep nodes_now c.requires.tree c.args.orders.now c.requires.ordered c.args.top c.args.depth c.requires.depth)
+    (directory_deep nodes_now c.requires.tree c.args.orders.now c.requires.ordered c.args.top.now c.args.depth c.requires.depth)
 
 pub with_paths-requires-clause-nodes : goal.with_paths-requires-clause-nodes
 with_paths-requires-clause-nodes c =
-    let nodes_now = nodes_in c.args.arena.now in let orders = c.args.orders.now in let top = c.args.top in let depth = c.args.depth in
+    let nodes_now = nodes_in c.args.arena.now in let orders = c.args.orders.now in let top = c.args.top.now in let depth = c.args.depth in
     let found : c.collect_nodes.new.found.items ≡ c.match-top.nodes.items ++ walks orders (8 - depth) (in_order orders top) =
     c.in_ok-collect_nodes.ensures ∙ ap (λ xs. c.match-top.nodes.items ++ xs) (one_deeper orders depth (nodes orders.links.items c.of.result)
     ∙ ap (λ (o : Order). walks orders (8 - depth) (nodes orders.links.items o)) c.of.ensures) in

@@ -23,7 +23,7 @@ use Rattle.cfdp_tree.proofs.orders.Orders.find.Goals as goal
 
 pub of-order-requires : goal.of-order-requires
 of-order-requires c =
-    record { within = directory_inside (nodes_in c.args.arena.now) c.args.self.now _ c.args.directory c.requires.ordered c.requires.directory }
+    record { within = directory_inside (nodes_in c.args.arena.now) c.args.self.now _ c.args.directory.now c.requires.ordered c.requires.directory }
 
 -- what a search for a name finds
 module _ (nodes : Blocks) (orders : Orders) (directory : Option ℕ) (ordered : IsInOrders nodes orders None) (name : Name) (list : List ℕ) (is : list
@@ -54,7 +54,7 @@ module _ (nodes : Blocks) (orders : Orders) (directory : Option ℕ) (ordered : 
 
 pub returns-in_err-found-clause-none : goal.returns-in_err-found-clause-none
 returns-in_err-found-clause-none c =
-    let nodes = nodes_in c.args.arena.now in let directory = c.args.directory in let name = c.args.name.now in
+    let nodes = nodes_in c.args.arena.now in let directory = c.args.directory.now in let name = c.args.name.now in
     subst (λ r. IfNone r ((b : ℕ) → IsEntry nodes directory name b → ⊥)) (sym c.from_residual.ensures)
     (none_entry nodes c.args.self.now directory c.requires.ordered name _ (λ k. trees.nodes (c.deref.ensures.value k)
     (c.of-order.ensures k)) c.first_from.result
@@ -63,7 +63,7 @@ returns-in_err-found-clause-none c =
 pub bytes-requires : goal.bytes-requires
 bytes-requires c =
     let number = c.of_number-node.ensures.same_number ∙ c.from.ensures in
-    let member = found_member (nodes_in c.args.arena.now) c.args.self.now c.args.directory c.requires.ordered c.args.name.now _
+    let member = found_member (nodes_in c.args.arena.now) c.args.self.now c.args.directory.now c.requires.ordered c.args.name.now _
     (λ k. trees.nodes (c.deref.ensures.value k) (c.of-order.ensures k))
     c.first_from.result c.first_from.ensures c.of_number-node.result (c.in_ok-found.was ∙ ap Some (sym number)) in
     record { live = node_live c.args.arena.now c.of_number-node.result member.node }
@@ -71,7 +71,7 @@ bytes-requires c =
 pub name_is-requires-clause-fits : goal.name_is-requires-clause-fits
 name_is-requires-clause-fits c =
     let number = c.of_number-node.ensures.same_number ∙ c.from.ensures in let arena = c.args.arena.now in let b = c.of_number-node.result in
-    let member = found_member (nodes_in arena) c.args.self.now c.args.directory c.requires.ordered c.args.name.now _
+    let member = found_member (nodes_in arena) c.args.self.now c.args.directory.now c.requires.ordered c.args.name.now _
     (λ k. trees.nodes (c.deref.ensures.value k) (c.of-order.ensures k))
     c.first_from.result c.first_from.ensures b (c.in_ok-found.was ∙ ap Some (sym number)) in
     subst (λ o. (node_fields_of o).name_length ≤ 96) (sym (node_octets arena b member.node c.bytes.result.now c.bytes.ensures.octets))
@@ -80,7 +80,7 @@ name_is-requires-clause-fits c =
 pub returns-then-name_is-clause-found : goal.returns-then-name_is-clause-found
 returns-then-name_is-clause-found c =
     let number = c.of_number-node.ensures.same_number ∙ c.from.ensures in let arena = c.args.arena.now in let b = c.of_number-node.result in
-    let member = found_member (nodes_in arena) c.args.self.now c.args.directory c.requires.ordered c.args.name.now _
+    let member = found_member (nodes_in arena) c.args.self.now c.args.directory.now c.requires.ordered c.args.name.now _
     (λ k. trees.nodes (c.deref.ensures.value k) (c.of-order.ensures k))
     c.first_from.result c.first_from.ensures b (c.in_ok-found.was ∙ ap Some (sym number)) in
     record {
@@ -93,9 +93,9 @@ pub returns-else-name_is-clause-none : goal.returns-else-name_is-clause-none
 returns-else-name_is-clause-none c =
     let number = c.of_number-node.ensures.same_number ∙ c.from.ensures in let arena = c.args.arena.now in let b = c.of_number-node.result in
     let some = c.in_ok-found.was ∙ ap Some (sym number) in
-    let member = found_member (nodes_in arena) c.args.self.now c.args.directory c.requires.ordered c.args.name.now _
+    let member = found_member (nodes_in arena) c.args.self.now c.args.directory.now c.requires.ordered c.args.name.now _
     (λ k. trees.nodes (c.deref.ensures.value k) (c.of-order.ensures k)) c.first_from.result c.first_from.ensures b some in
-    other_entry (nodes_in arena) c.args.self.now c.args.directory c.requires.ordered c.args.name.now _
+    other_entry (nodes_in arena) c.args.self.now c.args.directory.now c.requires.ordered c.args.name.now _
     (λ k. trees.nodes (c.deref.ensures.value k) (c.of-order.ensures k)) c.first_from.result c.first_from.ensures b some
     (λ same. both_ways _ c.if-name_is.false (c.name_is.ensures.1 (ap node_name (node_octets arena b member.node c.bytes.result.now c.bytes.ensures.octets)
     ∙ same)))

@@ -20,7 +20,7 @@ use Rattle.cfdp_tree.proofs.orders.Orders.least_after.Goals.{in-Some+in_ok-found
 
 pub of-order-requires : goal.of-order-requires
 of-order-requires c =
-    record { within = directory_inside (nodes_in c.args.arena.now) c.args.self.now _ c.args.directory c.requires.ordered c.requires.directory }
+    record { within = directory_inside (nodes_in c.args.arena.now) c.args.self.now _ c.args.directory.now c.requires.ordered c.requires.directory }
 
 -- what a search after a name finds
 abbrev FoundAfter : Blocks → Option Name → List ℕ → Option ℕ → Type 0
@@ -54,14 +54,14 @@ some_stated nodes given after list r b c is some same both =
 pub returns-in_err-found-in-Some-clause-none : goal.returns-in_err-found-in-Some-clause-none
 returns-in_err-found-in-Some-clause-none c =
     let nodes = nodes_in c.args.arena.now in
-    let both = described nodes c.args.self.now c.args.directory c.requires.ordered c.in-Some.name.now _
+    let both = described nodes c.args.self.now c.args.directory.now c.requires.ordered c.in-Some.name.now _
     (λ k. trees.nodes (c.deref.ensures.value k) (c.of-order.ensures k)) c.first_after.result c.first_after.ensures in
-    none_stated nodes c.args.after (Some c.in-Some.name.now) (in_order c.args.self.now c.args.directory) c.first_after.result c.from_residual.result
+    none_stated nodes c.args.after (Some c.in-Some.name.now) (in_order c.args.self.now c.args.directory.now) c.first_after.result c.from_residual.result
     (ap (option_map (λ name. name.now)) c.in-Some.is) (c.in_err-found-in-Some.was) c.from_residual.ensures both
 
 pub returns-in_err-found-in-None-clause-none : goal.returns-in_err-found-in-None-clause-none
 returns-in_err-found-in-None-clause-none c =
-    let nodes = nodes_in c.args.arena.now in let orders = c.args.self.now in let directory = c.args.directory in
+    let nodes = nodes_in c.args.arena.now in let orders = c.args.self.now in let directory = c.args.directory.now in
     let same : trees.nodes c.deref-in-None.result.now c.of-order.result ≡ in_order orders directory =
     λ k. trees.nodes (c.deref-in-None.ensures.value k) (c.of-order.ensures k) in
     let both = first_least nodes (in_order orders directory) (c.requires.ordered.rising directory) c.first.result
@@ -71,7 +71,7 @@ returns-in_err-found-in-None-clause-none c =
 
 pub returns-clause-least : goal.returns-clause-least
 returns-clause-least c =
-    let nodes = nodes_in c.args.arena.now in let orders = c.args.self.now in let directory = c.args.directory in
+    let nodes = nodes_in c.args.arena.now in let orders = c.args.self.now in let directory = c.args.directory.now in
     let is = c.of_number.ensures.same_number ∙ c.from.ensures in
     elim c.match-after.branch [
       | in-Some+in_ok-found-in-Some w ↦ (
