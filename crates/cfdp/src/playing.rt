@@ -76,8 +76,8 @@ fn end_of(
     }
 }
 
-/// Hands octets to a session, and returns how many it took. It takes none of no octets, and no more lines than are
-/// counted.
+/// Hands octets to a session, and returns how many it took. It returns 0 where there are no octets, or where the number
+/// of lines is the greatest u64.
 fn hand_on<R: Files>(
     alloc: Global,
     session: &mut ScriptSession,
