@@ -68,7 +68,7 @@ fn take_at_last<S: Filestore, R: Abort + Print>(
 ) -> Result<(), Memory> {
     for (number, step) in steps.iter().enumerate() {
         let holds = holds_at_last(rt, alloc, store, step)?;
-        assert!(rt; holds, "{name}: step {number}");
+        assert!(rt; holds, "script {name}: step {number} does not hold");
     }
     Ok(())
 }
