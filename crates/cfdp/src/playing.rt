@@ -190,7 +190,7 @@ impl<'a, R: AllocGlobal + Clock + Eprint + Files, I: Read + Drop> Playing<'a, R,
         }
     }
 
-    /// Says how far the script is, where it is time to do that.
+    /// Prints how far the script is, where it is time to do that.
     fn tell(&mut self, since: Instant) {
         if let Some(seconds) = self.time_taken.add(self.rt, since) {
             let name = self.name;
