@@ -320,7 +320,8 @@ impl Receiver {
     }
 
     /// Takes the outcome of the first transaction that is over. The answer has its indication, and its Finished PDU
-    /// where one has to be sent (CCSDS 727.0-B-5, the notice of completion procedures at the receiving entity).
+    /// where one has to be sent (CCSDS 727.0-B-5, the notice of completion procedures at the receiving entity). Of an
+    /// abandoned transaction it has neither.
     ///
     /// # Errors
     ///

@@ -11,7 +11,7 @@ use crate::streams::{Failed, ScriptIn};
 ///
 /// [`Failed`] when the reader failed: its call did nothing, or nobody can say what it did.
 ///
-/// Cost: one call of the reader. Takes no memory.
+/// Cost: one call of the reader. Takes no memory of its own.
 pub fn read_piece<'a, R: ScriptIn>(
     reader: &mut R,
     buffer: &'a mut [u8],

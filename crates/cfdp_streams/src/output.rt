@@ -11,7 +11,7 @@ use crate::streams::{Failed, ScriptOut};
 ///
 /// [`Failed`] when a write failed: a beginning of the text was written then, or nobody can say what was written.
 ///
-/// Cost: one call of the writer for each part that it takes, and none for an empty text. Takes no memory.
+/// Cost: one call of the writer for each part that it takes, and none for an empty text. Takes no memory of its own.
 pub fn write_all<W: ScriptOut>(writer: &mut W, text: &[u8]) -> Result<(), Failed>
     ensures ok { OnOk result (Appends (W.contents writer.old) (W.contents writer.new) text.now) }
     ensures well { OnOk result (W.failed writer.new ≡ W.failed writer.old) }
