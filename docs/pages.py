@@ -3,7 +3,8 @@
 law.
 
     docs/pages.py            writes both pages
-    docs/pages.py --check    compares them with the sources; the last line says how many agree
+    docs/pages.py --check    compares them with the sources, and the table of crates in docs/ARCHITECTURE.md with
+                             crates.txt; the last line says how many agree
 
 What comes before the line MARK of a page is written by hand and stays. All after it is made: from the docstrings,
 from the names of the clauses, and from crates.txt, which gives the order.
@@ -20,6 +21,9 @@ OWNER = re.compile(r"^(?:pub )?(impl|trait)(?:<.*?>)? +(\w+)(.*)$")
 FUNCTION = re.compile(r"^\s*(pub )?(?:const )?(?:unsafe )?(extern \"C\" )?fn (\w+)")
 # a clause: what kind, its name, and where it begins with a definition's name that one
 CLAUSE = re.compile(r"^\s*(requires|ensures)(?: (\w+))? \{(?: ([A-Z]\w+) )?")
+
+# a crate's row in the table of crates: its name, and what it uses
+ROW = re.compile(r"^\| `(\w+)` \|([^|]*)\|", re.M)
 
 
 class Function:
@@ -177,6 +181,30 @@ def proved():
             yield ""
 
 
+def uses():
+    """The libraries that each crate uses, by crates.txt."""
+    lines = [line.split(":") for line in (ROOT / "crates.txt").read_text().splitlines() if ":" in line]
+    return {crate.split()[0]: set(libraries.split()) for crate, libraries in lines}
+
+
+def with_those_below(names, used):
+    """These libraries, and all that they use."""
+    return names.union(*(with_those_below(used.get(name, set()), used) for name in names))
+
+
+def rows_that_differ():
+    """The crates that do not use what their row in docs/ARCHITECTURE.md says, or that have no row."""
+    used = uses()
+    rows = dict(ROW.findall((ROOT / "docs/ARCHITECTURE.md").read_text()))
+    for crate in used | rows:
+        row = rows.get(crate, "")
+        words = re.sub(r"and those below|,? for its [\w ]+", "", row)
+        names = {f"cfdp_{word}" if f"cfdp_{word}" in used else word for word in re.findall(r"\w+", words)}
+        allowed = with_those_below(names, used) if "and those below" in row else names
+        if crate not in rows or not names <= used.get(crate, set()) <= allowed:
+            yield crate
+
+
 def page(name, parts):
     """A page: what is written by hand, and what is made."""
     path = ROOT / "docs" / name
@@ -196,7 +224,11 @@ def main():
             failed += 1
             print(f"docs/{name} differs from the sources: run docs/pages.py")
     if sys.argv[1:]:
-        print(f"{2 - failed} passed, {failed} failed")
+        differing = list(rows_that_differ())
+        failed += bool(differing)
+        for crate in differing:
+            print(f"docs/ARCHITECTURE.md: the row of {crate} differs from crates.txt")
+        print(f"{3 - failed} passed, {failed} failed")
     return 1 if failed else 0
 
 

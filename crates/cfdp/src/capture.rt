@@ -150,7 +150,7 @@ impl<'a, F: Write + Drop> Capture<'a, F> {
         self.write(alloc, &frame)
     }
 
-    /// Says on standard error how many PDUs were left out, if there are any.
+    /// Prints on standard error how many PDUs were left out, if there are any.
     pub fn tell_left_out<R: Eprint>(&self, rt: &R) {
         if self.left_out > 0 {
             let (name, count) = (self.name, self.left_out);

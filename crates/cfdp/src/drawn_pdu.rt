@@ -106,7 +106,8 @@ fn no_pdu(words: Vec<u8>) -> DrawnPdu {
     }
 }
 
-/// What a picture shows of octets. They are scratch afterwards: a CRC is taken off in place.
+/// What a picture shows of octets. The call may change them, since it takes a CRC off in place: do not use them after
+/// it.
 pub fn look_at(alloc: Global, octets: &mut [u8]) -> Result<DrawnPdu, AllocError> {
     let mut words = Vec::new(alloc);
     let mut scratch = Vec::from_slice(alloc, octets)?;

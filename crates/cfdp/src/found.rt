@@ -60,7 +60,7 @@ impl InputPdus {
         }
     }
 
-    /// Says on standard error how many frames of a capture are left out, if there are any.
+    /// Prints on standard error how many frames of a capture are left out, if there are any.
     pub fn tell_left_out<R: Eprint>(&self, rt: &R, name: &str) {
         // Where standard error cannot be written, nothing is said.
         if self.cut > 0 {

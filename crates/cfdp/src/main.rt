@@ -20,10 +20,13 @@
 //! `cfdp receive --into DIR [--mib FILE]` is a live receiving entity of both modes, by the clock of the system: PDUs
 //! come on standard input and go to standard output, and a folder holds what its filestore holds.
 //!
-//! What goes wrong is said on standard error, and by the exit status: 1 for a fault of reading, writing or memory, 2
-//! for unknown words, 3 for a line that is not hexadecimal, for a capture that is cut, for something wrong in a plan or
-//! in a setup, for a bad line of a script or one that a picture has no room for, or for a stream that is no PDUs, 4 for
-//! a plan of which a transaction is refused, or for a line that a script expects and that does not come.
+//! A line on standard error says what goes wrong, and the exit status says of what kind it is:
+//!
+//! - 1: a fault of reading, writing or memory.
+//! - 2: unknown words.
+//! - 3: a fault of the input. It is a line that is not hexadecimal, a capture that is cut, something wrong in a plan or
+//!   in a setup, a bad line of a script or one that a picture has no room for, or a stream that is no PDUs.
+//! - 4: a plan of which a transaction is refused, or a line that a script expects and that does not come.
 #![tactic(auto)]
 
 mod answers;

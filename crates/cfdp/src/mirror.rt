@@ -339,8 +339,8 @@ impl<'a> Mirror<'a> {
     }
 
     /// The folder changes to what the filestore has now. What is new is written before a file is replaced, and before
-    /// what is gone is removed, so that a file which was renamed is always there: but what is in the way is removed
-    /// first, and of files that take each other's names one is replaced before the other.
+    /// what is gone is removed. So a file that was renamed is always there, with two exceptions: what is in the way is
+    /// removed first, and of files that take each other's names one is replaced before the other.
     fn change<R: AllocGlobal + Files>(&self, rt: &R, now: &[Kept]) -> Result<(), End> {
         let turned = turned_paths(rt.alloc(), now, &self.all)?;
         self.put_new(rt, now, &turned, FolderPart::Free)?;

@@ -47,7 +47,7 @@ fn is_shown_field(field: &[u8]) -> bool {
     !field.is_empty() && !NOT_SHOWN.iter().any(|start| field.starts_with(start))
 }
 
-/// Appends what a PDU says, in one line. The octets are scratch afterwards.
+/// Appends what a PDU says, in one line. The call may change the octets, since it takes a CRC off in place.
 pub fn push_fields(alloc: Global, octets: &mut [u8], out: &mut Vec<u8>) -> Result<(), AllocError> {
     let said = show(alloc, Style::Text, octets)?;
     for (index, line) in said.as_slice().split(|octet| *octet == NEWLINE).enumerate() {

@@ -76,8 +76,8 @@ fn end_of(
     }
 }
 
-/// Hands octets to a session, and returns how many it took. It takes none of no octets, and no more lines than are
-/// counted.
+/// Hands octets to a session, and returns how many it took. It returns 0 where there are no octets, or where the number
+/// of lines is the greatest u64.
 fn hand_on<R: Files>(
     alloc: Global,
     session: &mut ScriptSession,
@@ -190,7 +190,7 @@ impl<'a, R: AllocGlobal + Clock + Eprint + Files, I: Read + Drop> Playing<'a, R,
         }
     }
 
-    /// Says how far the script is, where it is time to do that.
+    /// Prints how far the script is, where it is time to do that.
     fn tell(&mut self, since: Instant) {
         if let Some(seconds) = self.time_taken.add(self.rt, since) {
             let name = self.name;

@@ -72,7 +72,7 @@ fn cut_off(alloc: Global, offset: u64, count: usize) -> End {
     )
 }
 
-/// Says lines on standard error. Where it cannot be written, nothing is said.
+/// Prints lines on standard error. Where that cannot be written, nothing is printed.
 fn say<R: Eprint>(rt: &R, lines: &[u8]) {
     if let Ok(text) = str::from_utf8(lines) {
         if !text.is_empty() {

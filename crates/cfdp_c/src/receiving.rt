@@ -106,7 +106,8 @@ fn answer_of(why: Dropped) -> CallAnswer
     }
 }
 
-/// The octets of a PDU came. They are scratch afterwards.
+/// Takes the octets of one PDU that came. The call may change them, since it takes a CRC off in place: do not use them
+/// after it.
 #[unsafe(no_mangle)]
 pub extern "C" fn cfdp_receiver_receive(
     alloc: Global,

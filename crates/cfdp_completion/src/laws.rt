@@ -12,9 +12,10 @@ pub fn file_is_kept()
     ensures { FileIsKept }
 {}
 
-/// An upload with a file, whose Metadata PDU was admitted, is complete once its PDUs came, if nothing else comes
-/// between them and no more than 32 separate pieces are kept at any time: each File Data PDU is stored, the checksum is
-/// right, and its items are performed next. That none of these fails is the headline of `cfdp_transactions`.
+/// Let the Metadata PDU of an upload with a file be admitted, let nothing else come between its PDUs, and let no more
+/// than 32 separate pieces be kept at any time. Then the upload is complete once its PDUs came: each File Data PDU is
+/// stored, the checksum is right, and its items are performed next. That none of these fails is the headline of
+/// `cfdp_transactions`.
 pub fn admitted_is_complete()
     ensures { AdmittedIsComplete }
 {}

@@ -142,13 +142,16 @@ impl Entity {
     }
 
     /// Takes an event, which is lent (CCSDS 727.0-B-5, the procedures at the receiving entity): the reply, and the
-    /// world after it, are those of the table of events. The event is one that may come from a PDU that was read, so
-    /// that each outcome fits a Finished PDU: its header's lengths are 1 to 8 octets and its numbers fit them, an EOF
-    /// PDU's condition code is at most 15, and a request's value has at most 254 octets.
+    /// world after it, are those of the table of events. The event has to be one that reading a PDU can give. Each
+    /// outcome then fits a Finished PDU.
+    ///
+    /// - The lengths in the PDU's header are 1 to 8 octets, and the header's numbers fit them.
+    /// - The condition code of an EOF PDU is at most 15.
+    /// - The value of a request has at most 254 octets.
     ///
     /// Out of memory the reply is [`Reply::Memory`] and the entity is as before: the event can be handed in again. Only
-    /// a Metadata PDU and a request for an outcome get that reply, and no Metadata PDU that is for another entity, that
-    /// came before, that has more than 64 requests, or that comes while the table is full.
+    /// a Metadata PDU and a request for an outcome get that reply. These Metadata PDUs never get it: one for another
+    /// entity, one that came before, one with more than 64 requests, and one that comes while the table is full.
     ///
     /// Cost: a Metadata PDU is judged, and copied once. File data costs its octets and the pieces that they touch. A
     /// step costs what its request says, and an outcome two allocations and a move of each request. All else costs a

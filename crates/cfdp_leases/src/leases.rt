@@ -81,8 +81,8 @@ impl Leases {
     /// The first transaction, in order of admission, whose footprint conflicts with this one. Takes no memory, and
     /// makes no path.
     ///
-    /// Cost: nothing where no transaction is live. Else for each path of this footprint a pass over its octets and two
-    /// searches at most among all leased paths, and where it conflicts there a pass over the transactions.
+    /// Cost: nothing where no transaction is live. Else, for each path of this footprint, a pass over its octets and at
+    /// most two searches among all leased paths. Where a path conflicts, also a pass over the transactions.
     pub fn conflict(&self, footprint: &Footprint) -> Option<TransactionId>
         ensures first { result ≡ first_conflict self.now footprint.now }
         ensures apart { AreApart self.now }
@@ -106,9 +106,13 @@ impl Leases {
     ///
     /// # Errors
     ///
-    /// [`Memory`] where there was none: nothing has changed then, and the footprint is dropped. Cost: for each path of
-    /// the footprint a pass over its octets, one search among all leased paths, and a copy where nobody leased it yet;
-    /// where leased paths have shared a hash, up to three searches more; the footprint itself is moved.
+    /// [`Memory`] when out of memory: nothing has changed then, and the footprint is dropped.
+    ///
+    /// Cost: the footprint is moved. For each of its paths:
+    ///
+    /// - a pass over its octets, and one search among all leased paths;
+    /// - a copy, where nobody leased it yet;
+    /// - up to three searches more, where leased paths have shared a hash.
     pub fn grant(&mut self, transaction: TransactionId, footprint: Footprint) -> Result<(), Memory>
         requires free { first_conflict self.old footprint ≡ None }
         requires unheld { IsFalse (holds self.old transaction) }
@@ -126,9 +130,11 @@ impl Leases {
 
     /// Takes a transaction's footprint away; nothing changes where it holds none. Takes no memory.
     ///
-    /// Cost: a pass over the transactions. If another one is live, also for each path of the footprint a pass over its
-    /// octets, for each exclusive one two searches among all leased paths, and for each shared one three at most and a
-    /// pass over its holders. If none is live, each path is dropped without a search.
+    /// Cost: a pass over the transactions. If no other one is live, each path is dropped without a search. Else also:
+    ///
+    /// - for each path of the footprint, a pass over its octets;
+    /// - for each exclusive one, two searches among all leased paths;
+    /// - for each shared one, at most three searches and a pass over its holders.
     pub fn release(&mut self, transaction: TransactionId)
         ensures { self.new ≡ without_grant self.old transaction }
     {

@@ -26,7 +26,22 @@ fn room_for(left: usize) -> usize
     left.clamp(1, PIECE)
 }
 
-/// Runs the script that `reader` gives, and writes its text to `writer`.
+/// Runs the script that `reader` gives, and writes its text to `writer`. A script has at most 268,435,456 octets, and a
+/// line at most 200,000.
+///
+/// # Errors
+///
+/// - [`RunFault::BadLine`] for the first bad line, with its number, counted from 1. The text of the lines before it was
+///   written.
+/// - [`RunFault::Read`] when the reader failed, or gave more octets than a script may have.
+/// - [`RunFault::Write`] when the writer failed.
+/// - [`RunFault::Memory`] when out of memory.
+///
+/// After each of the last three, what was written is a beginning of the text of what was read, as far as the writer
+/// shows.
+///
+/// Cost: one pass over the octets, and that of the lines. Memory: one line, the text that is not written yet, and on
+/// the stack a piece of 65,536 octets.
 pub fn run<S: Script, R: ScriptIn, W: ScriptOut>(
     alloc: Global,
     script: S,

@@ -150,8 +150,8 @@ impl Live {
         Ok(())
     }
 
-    /// A PDU came, and all is settled; or it is none, is dropped, and nothing changes. Its octets are scratch
-    /// afterwards.
+    /// Takes the octets of one PDU that came, and settles all. Where they are dropped, nothing changes. The call may
+    /// change them, since it takes a CRC off in place: do not use them after it.
     ///
     /// # Errors
     ///

@@ -134,7 +134,7 @@ impl Output {
         Ok(self.pdus.push(pdu)?)
     }
 
-    /// Appends the PDUs of an answer. `room` is scratch.
+    /// Appends the PDUs of an answer. `room` is where each PDU is made: the call writes over what is in it.
     fn push_pdus(
         &mut self,
         alloc: Global,
@@ -155,7 +155,8 @@ impl Output {
         Ok(())
     }
 
-    /// Appends what was answered to the last input of a receiver. `room` is scratch.
+    /// Appends what was answered to the last input of a receiver. `room` is where each PDU is made: the call writes
+    /// over what is in it.
     pub(crate) fn push(
         &mut self,
         alloc: Global,

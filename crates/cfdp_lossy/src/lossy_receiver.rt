@@ -58,9 +58,9 @@ impl Sent {
         true
     }
 
-    /// Whether they are no more than the input may be answered by: an EOF PDU by exactly one ACK PDU, each PDU and
-    /// each expiry by one sequence of NAK PDUs or one Keep Alive PDU, an expiry or an outcome by one Finished PDU,
-    /// and an item by none.
+    /// Whether they are no more than the input may be answered by. An EOF PDU is answered by exactly one ACK PDU. Each
+    /// PDU and each expiry may be answered by one sequence of NAK PDUs or one Keep Alive PDU, and an expiry or an
+    /// outcome by one Finished PDU. An item is answered by none.
     fn are_few(&self, came: ReceivedKind, most_naks: u64) -> bool {
         let Sent {
             acks,
@@ -323,9 +323,9 @@ impl LossyReceiver {
         }
     }
 
-    /// The file is whole: after one round more than PDUs were lost in the rounds; with one more where its EOF PDU
-    /// came before its Metadata PDU, which was lost before the first round, and with one more where 32 pieces without
-    /// the first octet were there.
+    /// Whether the file, which is whole, was whole in time: after one round more than PDUs were lost in the rounds. One
+    /// more is allowed where its EOF PDU came before its Metadata PDU, which was lost before the first round. One more
+    /// is allowed where 32 pieces without the first octet were there.
     fn is_in_time(&self, lost: u64) -> bool {
         let seen = &self.seen;
         let lost_in_rounds = lost.saturating_sub(seen.lost_before);

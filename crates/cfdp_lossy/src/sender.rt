@@ -1,5 +1,5 @@
-//! An honest sender of a file in acknowledged mode (CCSDS 727.0-B-5, the procedures at the sending entity): it sends
-//! all of the file, answers each NAK PDU in the order of its requests, repeats its EOF PDU until that is
+//! An honest sender of a file in acknowledged mode (CCSDS 727.0-B-5, the procedures at the sending entity). It sends
+//! all of the file, and answers each NAK PDU in the order of its requests. It repeats its EOF PDU until that is
 //! acknowledged, and acknowledges each Finished PDU.
 ghost use Rattle.std.specs.Prelude.{◌≡◌, ◌<◌, ◌^◌, IfOk};
 ghost use Rattle.cfdp_pdus.specs.Canonical.{IsHeader};

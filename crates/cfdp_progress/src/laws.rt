@@ -64,9 +64,9 @@ pub fn delivered_after_losses()
     cfdp_retransmission::laws::whole_after_losses();
 }
 
-/// A transaction takes no file data any more, as one whose file was delivered. Whatever comes then: once no transaction
-/// has an item to be performed, and of none is the outcome to be handed out, one of the inputs has handed out its
-/// outcome.
+/// Of a transaction that takes no file data any more: its file was delivered, or it has none, or it ended otherwise.
+/// Any inputs may come. When no transaction has an item to be performed any more, and none has an outcome to be handed
+/// out, one of these inputs has handed out the outcome of this transaction.
 pub fn concluded_when_done()
     ensures { ConcludedWhenDone }
 {
@@ -74,14 +74,14 @@ pub fn concluded_when_done()
     cfdp_transactions::laws::next_is_promised();
 }
 
-/// In acknowledged mode its Finished PDU is sent then, unless it was abandoned, and its session waits for the
-/// acknowledgement, with no expiry counted.
+/// In acknowledged mode, the input that hands out the outcome of a transaction also sends its Finished PDU, unless the
+/// transaction was abandoned. The session then waits for the acknowledgement, with no expiry counted.
 pub fn finished_is_sent()
     ensures { FinishedIsSent }
 {}
 
-/// So it is of a transaction that ended while its EOF PDU was held, by a limit, a cancel or an EOF PDU with a
-/// condition, and of which the core kept no entry.
+/// The same holds of a transaction of which the core kept no entry. It ended while its EOF PDU was held: by a limit, by
+/// a cancel, or by an EOF PDU with a condition.
 pub fn finished_is_sent_alone()
     ensures { FinishedIsSentAlone }
 {}
@@ -120,11 +120,11 @@ pub fn metadata_comes()
 {}
 
 /// From such an EOF PDU until the session is closed. A round in which the first NAK PDU or the Metadata PDU is lost
-/// counts as 1. Once the Metadata PDU comes, and octets are missing, what is lost counts as in [`closed_in_all`]. They
-/// may come twice then, since the NAK PDUs that ask for the Metadata PDU ask for the whole file, too. The
-/// session is closed after one round more than is lost in all, at the latest, if the NAK limit is above what is lost
-/// before the Metadata PDU comes and above what is lost after it, and the ACK limit above the latter. No round more is
-/// needed, since nothing of the file is there when its Metadata PDU comes.
+/// counts as 1. Once the Metadata PDU comes, and octets are missing, what is lost counts as in [`closed_in_all`]. These
+/// octets may come twice, since the NAK PDUs that ask for the Metadata PDU ask for the whole file, too. The session is
+/// closed, at the latest, after one round more than is lost in all. This needs a NAK limit above what is lost before
+/// the Metadata PDU comes, and above what is lost after it. It also needs an ACK limit above the latter. No second
+/// round more is needed, since nothing of the file is there when its Metadata PDU comes.
 pub fn closed_from_held()
     ensures { ClosedFromHeld }
 {

@@ -102,7 +102,7 @@ impl Quota {
         self.reserves[usize::from(slot)] = Some(n);
     }
 
-    /// Says that `n` blocks of the slot's reserve are in use from now on. The spare blocks stay.
+    /// Counts `n` blocks of the slot's reserve as in use from now on. The spare blocks stay.
     pub fn took(&mut self, slot: u8, n: u32)
         requires slot { slot < SLOTS }
         requires reserved { n ≤ reserve_at self.old slot }
@@ -115,8 +115,8 @@ impl Quota {
         }
     }
 
-    /// Says that the transaction in the slot has given back `n` used blocks: they are free, and its own reserve
-    /// grows by them. The spare blocks stay.
+    /// Counts `n` used blocks as given back by the transaction in the slot: they are free, and its reserve grows by
+    /// them. The spare blocks stay.
     pub fn gave(&mut self, slot: u8, n: u32)
         requires slot { slot < SLOTS }
         requires open { IsOpen self.old slot }

@@ -1,4 +1,4 @@
--- Worked rows: what is answered to each input, computed from the definitions.
+-- Worked examples: what is answered to each input, computed from the definitions.
 use Rattle.std.proofs.Common.{◌≡◌, ℕ, ◌+◌, ◌*◌, List, [], ◌∷◌, refl, ap, ◌∙◌}
 use Rattle.std.specs.Prelude.{pos, true, false, Some, codes, map, max, slice_set}
 use Rattle.cfdp_actions.specs.Filestore.{empty_filestore, blocks_of, blocks}

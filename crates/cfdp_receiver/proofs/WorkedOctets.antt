@@ -1,4 +1,4 @@
--- Worked rows over octets: what is heard of them, and what is sent.
+-- Worked examples over octets: what is heard of them, and what is sent.
 use Rattle.std.proofs.Common.{◌≡◌, [], ◌∷◌, refl}
 use Rattle.std.specs.Prelude.{true, Ok, Err}
 use Rattle.cfdp_crc.specs.Seal.{sealed_at, plain_len}

@@ -1,5 +1,5 @@
--- The words of the worked rows: entity 2 with 64 blocks, sender 1, transaction 1/n; intervals 10, limits 3, inactivity 100; a file `f` of the 15
--- octets 0 to 14, with the checksum 181c2015, and closure requested.
+-- The words of the worked examples: entity 2 with 64 blocks, sender 1, transaction 1/n; intervals 10, limits 3,
+-- inactivity 100; a file `f` of the 15 octets 0 to 14, with the checksum 181c2015, and closure requested.
 --     mib                       how the entity is set up
 --     header n                  of transaction 1/n;  header_un n: in unacknowledged mode
 --     M, D low high, E          the file's Metadata, its octets from one offset to another, its EOF

@@ -43,7 +43,7 @@ pub enum Indication {
     Abandoned(TransactionId, u8),
 }
 
-/// What became of an input, where the core has no word for it.
+/// What became of an input, in a word of the receiver's own: no reply of the core says it.
 #[derive(Clone, Copy, Debug, PartialEq, Eq)]
 pub enum Word {
     /// The PDU is for another entity.

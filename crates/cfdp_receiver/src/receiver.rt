@@ -147,7 +147,8 @@ impl Receiver {
         self.machine.sessions.distinct();
     }
 
-    /// The octets of a PDU came. They are scratch afterwards: a CRC is taken off in place.
+    /// Takes the octets of one PDU that came. The call may change them, since it takes a CRC off in place: do not use
+    /// them after it.
     ///
     /// # Errors
     ///
@@ -318,8 +319,9 @@ impl Receiver {
         self.machine.work()
     }
 
-    /// The outcome of the first transaction that is over is taken, indicated, and its Finished PDU sent where it is to
-    /// be.
+    /// Takes the outcome of the first transaction that is over. The answer has its indication, and its Finished PDU
+    /// where one has to be sent (CCSDS 727.0-B-5, the notice of completion procedures at the receiving entity). Of an
+    /// abandoned transaction it has neither.
     ///
     /// # Errors
     ///

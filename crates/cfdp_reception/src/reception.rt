@@ -47,8 +47,8 @@ impl Reception {
         }
     }
 
-    /// The octets of a PDU came. They are scratch afterwards: a CRC is taken off in place. See [`Receiver::receive`],
-    /// also for the cost.
+    /// Takes the octets of one PDU that came. The call may change them, since it takes a CRC off in place: do not use
+    /// them after it. See [`Receiver::receive`], also for the cost.
     ///
     /// # Errors
     ///

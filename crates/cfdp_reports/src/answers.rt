@@ -77,7 +77,7 @@ pub fn push_indications(answer: &Answer, text: &mut Vec<u8>) -> Result<(), Alloc
 }
 
 /// Appends what a receiver answered to its last input: a line for each PDU that is sent, one for an indication, and one
-/// for what became of the input. `room` is scratch, for a PDU.
+/// for what became of the input. `room` is where each PDU is made: the call writes over what is in it.
 ///
 /// # Errors
 ///

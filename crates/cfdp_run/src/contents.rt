@@ -11,7 +11,7 @@ use cfdp_paths::Path;
 use cfdp_texts::{encode, push_labelled, push_path};
 use std::alloc::{AllocError, Global};
 
-/// Appends the octets of a file; nothing of none.
+/// Appends a space and the octets of a file, in hexadecimal. Of an empty file it appends nothing.
 fn push_octets(octets: &[u8], text: &mut Vec<u8>) -> Result<(), AllocError>
     ensures { OnOk result (text.new.items ≡ text.old.items ++ octets_text octets.now) }
 {

@@ -62,7 +62,12 @@ pub struct Head {
 impl Head {
     ghost use Rattle.cfdp_run.specs.Stages.{head_of, play_from};
 
-    /// Before the first line.
+    /// The head before its first line: the settings are those of [`default_mib`], and the filestore is empty. The
+    /// entity has the ID 2 and 64 blocks, and nothing is protected.
+    ///
+    /// # Errors
+    ///
+    /// [`AllocError`] when out of memory. Cost: that of [`Entity::new`].
     pub fn new(alloc: Global) -> Result<Head, AllocError>
         ensures { IfOk result (λ head. head_of head ≡ first_head) }
     {
@@ -74,7 +79,7 @@ impl Head {
         })
     }
 
-    /// The settings.
+    /// The settings of the receiver, as the lines `mib` so far say. Each is within its limits. Costs nothing.
     pub fn mib(&self) -> Mib
         ensures value { result ≡ (head_of self.now).mib }
         ensures fits { mib_fault result ≡ None }
@@ -82,14 +87,14 @@ impl Head {
         self.mib
     }
 
-    /// The entity, for its filestore.
+    /// The entity whose filestore has what was put so far. Costs nothing.
     pub fn entity(&self) -> &Entity
         ensures { result.now.filestore ≡ (head_of self.now).world.filestore }
     {
         &self.entity
     }
 
-    /// How far the head is.
+    /// Whether a line `config`, `protect` or `put` came: after one of these a `config` is too late. Costs nothing.
     pub fn progress(&self) -> HeadProgress
         ensures { result ≡ progress_by (head_of self.now).has_begun }
     {
@@ -100,7 +105,7 @@ impl Head {
         }
     }
 
-    /// A line `mib`.
+    /// Carries out a line `mib`: these are the settings from now on. Each has to be within its limits. Costs nothing.
     #[tactic(auto, unfolding(crate::specs::Scripts::with_mib))]
     pub fn set(&mut self, mib: Mib)
         requires { mib_fault mib ≡ None }
@@ -109,7 +114,12 @@ impl Head {
         self.mib = mib;
     }
 
-    /// A line `config`.
+    /// Carries out a line `config`: the entity has this configuration from now on, and an empty filestore. What was put
+    /// before is gone. The prefixes that were protected stay so.
+    ///
+    /// # Errors
+    ///
+    /// [`AllocError`] when out of memory: the head is as before. Cost: that of [`Entity::new`].
     #[tactic(auto, unfolding(crate::specs::Scripts::with_config))]
     pub fn configure(&mut self, alloc: Global, config: Config) -> Result<(), AllocError>
         ensures { OnOk result (head_of self.new ≡ with_config (head_of self.old) config) }
@@ -119,7 +129,12 @@ impl Head {
         Ok(())
     }
 
-    /// A line `protect`.
+    /// Carries out a line `protect`: what is at or below the path is protected from now on.
+    ///
+    /// # Errors
+    ///
+    /// [`Wrong::TooManyProtected`] where eight paths are protected already: the head is as before. Costs nothing but
+    /// the move of the path.
     #[tactic(auto, unfolding(crate::specs::Scripts::head_protected))]
     pub fn protect(&mut self, path: Path) -> Result<(), ScriptStop>
         ensures ok { OnOk result (head_protected (head_of self.old) path ≡ Ok (head_of self.new)) }
@@ -133,7 +148,16 @@ impl Head {
         Ok(())
     }
 
-    /// Whether something can be put at a path.
+    /// Checks that something can be put at a path, whatever it is. [`put_directory`](Head::put_directory) and
+    /// [`put_file`](Head::put_file) need this.
+    ///
+    /// # Errors
+    ///
+    /// - [`Wrong::Taken`] where a file or a directory has the path.
+    /// - [`Wrong::ParentIsFile`] where one of its parents is a file.
+    /// - [`ScriptStop::Memory`] when out of memory.
+    ///
+    /// Cost: a look-up of the path and of each of its parents.
     pub fn check_path(&self, alloc: Global, path: &Path) -> Result<(), ScriptStop>
         ensures ok { OnOk result (path_wrong (head_of self.now).world.filestore path.now ≡ None) }
         ensures err { IfErr result (λ why. stop_of why ≢ NoMemory →
@@ -145,7 +169,17 @@ impl Head {
         }
     }
 
-    /// Puts a directory at a path, where one can be put.
+    /// Puts a directory at a path, and directories at the parents that are missing. [`check_path`](Head::check_path)
+    /// must find nothing wrong with the path.
+    ///
+    /// # Errors
+    ///
+    /// - [`Wrong::NoRoom`] where the filestore has too few free blocks.
+    /// - [`ScriptStop::Memory`] when out of memory.
+    ///
+    /// The head is as before then.
+    ///
+    /// Cost: a look-up of the path and of each of its parents, and one block for each directory that is made.
     #[tactic(auto, unfolding(crate::specs::Scripts::put_node))]
     pub fn put_directory(&mut self, alloc: Global, path: &Path) -> Result<(), ScriptStop>
         requires { path_wrong (head_of self.old).world.filestore path.now ≡ None }
@@ -161,7 +195,17 @@ impl Head {
         Ok(())
     }
 
-    /// Puts a file with these octets at a path, where one can be put.
+    /// Puts a file with these octets at a path, and directories at the parents that are missing.
+    /// [`check_path`](Head::check_path) must find nothing wrong with the path.
+    ///
+    /// # Errors
+    ///
+    /// - [`Wrong::NoRoom`] where the filestore has too few free blocks.
+    /// - [`ScriptStop::Memory`] when out of memory.
+    ///
+    /// The head is as before then.
+    ///
+    /// Cost: as for a directory, and two passes over the octets.
     #[tactic(auto, unfolding(crate::specs::Scripts::put_node))]
     pub fn put_file(&mut self, alloc: Global, path: &Path, octets: &[u8]) -> Result<(), ScriptStop>
         requires { path_wrong (head_of self.old).world.filestore path.now ≡ None }

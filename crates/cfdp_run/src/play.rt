@@ -45,7 +45,12 @@ pub struct Play {
 }
 
 impl Play {
-    /// After the head.
+    /// A script whose head is over, with this receiver. The time is 0, and no line has written anything.
+    ///
+    /// # Errors
+    ///
+    /// [`AllocError`] when out of memory: the receiver is dropped. Cost: the memory for the longest PDU that the
+    /// receiver sends.
     pub fn new(alloc: Global, receiver: Receiver) -> Result<Play, AllocError>
         ensures state { IfOk result (λ play. play.player.receiver ≡ receiver) }
         ensures latest { IfOk result (λ play. play.latest ≡ 0) }
@@ -59,21 +64,22 @@ impl Play {
         })
     }
 
-    /// What the last line wrote.
+    /// The text that the last line wrote: some lines, each with its newline, or nothing. A blank line, a comment and
+    /// `expect` leave it as it was. Costs nothing.
     pub fn lines(&self) -> &[u8]
         ensures { result.now ≡ (play_from self.now).lines }
     {
         &self.lines
     }
 
-    /// The entity, for its filestore.
+    /// The entity under the receiver, for its filestore. Costs nothing.
     pub fn entity(&self) -> &Entity
         ensures { result.now ≡ (play_from self.now).state.world }
     {
         self.player.receiver().entity()
     }
 
-    /// The receiving entity.
+    /// The receiving entity. Costs nothing.
     pub fn receiver(&self) -> &Receiver
         ensures { result.now.state ≡ (play_from self.now).state }
     {
@@ -90,7 +96,16 @@ impl Play {
         self.lines.clear();
     }
 
-    /// Octets come.
+    /// Takes the octets of one PDU that came, performs all work and takes each outcome after it, and keeps the lines of
+    /// what was answered. Of octets that the receiver drops, the one line says why. The time is `now`, in ticks, or the
+    /// greatest time so far where that is later. The call may change the octets, since it takes a CRC off in place: do
+    /// not use them after it.
+    ///
+    /// # Errors
+    ///
+    /// [`AllocError`] when out of memory: the input may be played in part, and its lines written in part.
+    ///
+    /// Cost: that of the PDU, and of all that is due after it.
     #[tactic(auto, unfolding(crate::specs::Scripts::heard_at))]
     pub fn receive(&mut self, alloc: Global, now: u64, octets: &mut [u8]) -> Result<(), AllocError>
         ensures { OnOk result (play_from self.new ≡ heard_at (play_from self.old)
@@ -101,7 +116,15 @@ impl Play {
             .receive(alloc, self.latest, octets, &mut self.lines)
     }
 
-    /// The user cancels a transaction.
+    /// The user cancels a transaction (condition code 15). All work is performed after it and each outcome taken, and
+    /// the lines of what was answered are kept. The time is `now`, in ticks, or the greatest time so far where that is
+    /// later.
+    ///
+    /// # Errors
+    ///
+    /// [`AllocError`] when out of memory: the input may be played in part, and its lines written in part.
+    ///
+    /// Cost: that of [`Receiver::cancel`], and of all that is due after it.
     #[tactic(auto, unfolding(crate::specs::Scripts::cancelled_at))]
     pub fn cancel(&mut self, alloc: Global, now: u64, id: TransactionId) -> Result<(), AllocError>
         ensures { OnOk result (play_from self.new ≡ cancelled_at (play_from self.old)
@@ -111,7 +134,15 @@ impl Play {
         self.player.cancel(alloc, self.latest, id, &mut self.lines)
     }
 
-    /// Time passes.
+    /// Moves the time on, and serves each timer that is due, at most [`MOST_TIMERS`](crate::MOST_TIMERS). After each,
+    /// all work is performed and each outcome taken. The lines of what was answered are kept. The time is `now`, in
+    /// ticks, or the greatest time so far where that is later.
+    ///
+    /// # Errors
+    ///
+    /// [`AllocError`] when out of memory: the input may be played in part, and its lines written in part.
+    ///
+    /// Cost: a pass over the sessions for each timer that is served, and all that is due after it.
     #[tactic(auto, unfolding(crate::specs::Scripts::passed_at))]
     pub fn pass(&mut self, alloc: Global, now: u64) -> Result<(), AllocError>
         ensures { OnOk result (play_from self.new ≡ passed_at (play_from self.old) (time_of (play_from self.old) now)) }
@@ -120,7 +151,14 @@ impl Play {
         self.player.pass(alloc, self.latest, &mut self.lines)
     }
 
-    /// What there is at a path is asked for.
+    /// Writes the line of what is at a path: a file with its octets, a directory, or nothing. The time and the receiver
+    /// stay as they are.
+    ///
+    /// # Errors
+    ///
+    /// [`AllocError`] when out of memory: the lines may be written in part. The receiver is as before.
+    ///
+    /// Cost: a look-up, and three passes over the octets of the file.
     #[tactic(auto, unfolding(crate::specs::Scripts::asked))]
     pub fn get(&mut self, alloc: Global, path: &Path) -> Result<(), AllocError>
         ensures { OnOk result (play_from self.new ≡ asked (play_from self.old)
@@ -135,7 +173,14 @@ impl Play {
         )
     }
 
-    /// What is missing of a transaction is asked for.
+    /// Writes the line of what is missing of a transaction: the ranges of octets that a NAK PDU would ask for now, or
+    /// `none`. Of a transaction without a session it says `unknown`. The time and the receiver stay as they are.
+    ///
+    /// # Errors
+    ///
+    /// [`AllocError`] when out of memory: the lines may be written in part. The receiver is as before.
+    ///
+    /// Cost: a pass over the sessions, and one over the ranges.
     #[tactic(auto, unfolding(crate::specs::Scripts::asked))]
     pub fn gaps(&mut self, id: TransactionId) -> Result<(), AllocError>
         ensures { OnOk result (play_from self.new ≡ asked (play_from self.old)
@@ -145,7 +190,15 @@ impl Play {
         push_gaps_line(self.player.receiver(), id, &mut self.lines)
     }
 
-    /// How far a transaction is, is asked for.
+    /// Writes the line of how far a transaction is, in one word: `held`, `receiving`, `awaiting`, `other`, `over`,
+    /// `waiting`, `closed` or `unknown`. The time and the receiver stay as they are.
+    ///
+    /// # Errors
+    ///
+    /// [`AllocError`] when out of memory: the lines may be written in part. The receiver is as before.
+    ///
+    /// Cost: a pass over the sessions. Of a transaction without a session, also one over the names of those closed
+    /// last.
     #[tactic(auto, unfolding(crate::specs::Scripts::asked))]
     pub fn phase(&mut self, id: TransactionId) -> Result<(), AllocError>
         ensures { OnOk result (play_from self.new ≡ asked (play_from self.old)
@@ -155,7 +208,14 @@ impl Play {
         push_phase_line(self.player.receiver(), id, &mut self.lines)
     }
 
-    /// All of the filestore is asked for.
+    /// Writes the line of the blocks, and a line for each file and each directory, in path order. The time and the
+    /// receiver stay as they are.
+    ///
+    /// # Errors
+    ///
+    /// [`AllocError`] when out of memory: the lines may be written in part. The receiver is as before.
+    ///
+    /// Cost: that of [`write_listing`].
     #[tactic(auto, unfolding(crate::specs::Scripts::asked))]
     pub fn list(&mut self, alloc: Global) -> Result<(), AllocError>
         ensures { OnOk result (play_from self.new ≡ asked (play_from self.old)
@@ -169,7 +229,7 @@ impl Play {
         )
     }
 
-    /// Whether a line is among those that were written last.
+    /// Whether a line, given without its newline, is among those that were written last. Cost: one pass over these.
     pub fn has_written(&self, line: &[u8]) -> bool
         ensures { result ≡ is_written (play_from self.now).lines line.now }
     {

@@ -176,8 +176,8 @@ impl Player {
         Ok(())
     }
 
-    /// Octets come, and all is settled; or they are dropped, which has a line, and nothing else is done. They are
-    /// scratch afterwards.
+    /// Takes the octets of one PDU that came, and settles all. Where they are dropped, a line says why, and nothing
+    /// else is done. The call may change them, since it takes a CRC off in place: do not use them after it.
     ///
     /// # Errors
     ///

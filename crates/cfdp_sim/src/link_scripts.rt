@@ -210,20 +210,29 @@ fn text_of_scripts<R: Threads + Wait + Sync, G: Gate + Sync>(
 ///
 /// The lines of all files are read before a worker starts; they are those of `replay`, without `list`. Only the first
 /// file may begin with `config` and `protect`. The seats are numbered from 0 in the order of the files. Each worker has
-/// an inbox of 16 messages, and all are fed line by line in turn; it passes the gate with each message. A message for a
-/// worker that has stopped is given up. What is written is each entry of the journal with the number of its seat, each
-/// seat with the number of its receipts and of the PDUs without an event, the length of the journal, and all that
-/// is in the filestore. Who comes first among the workers is free, and so is the order of the entries of different
-/// seats. There are at most four files, each of at most 268,435,456 octets.
+/// an inbox of 16 messages, and passes the gate with each message. All are fed line by line in turn. A message for a
+/// worker that has stopped is given up. Who comes first among the workers is free, and so is the order of the entries
+/// of different seats. There are at most four files, each of at most 268,435,456 octets.
+///
+/// The text has:
+///
+/// - each entry of the journal with the number of its seat;
+/// - each seat with the number of its receipts, and of the PDUs without an event;
+/// - the length of the journal;
+/// - all that is in the filestore.
 ///
 /// # Errors
 ///
-/// [`LinkFault::BadLine`] for the first bad line of the first file that has one; [`LinkFault::Memory`] out of memory
-/// or where a thread could not be started; [`LinkFault::JournalFull`] where the journal was full (of several workers
-/// that stopped the one with the lowest seat decides); [`LinkFault::ReceiptsDiffer`] where a worker did not take what
-/// its file says, the receipts are not the journal, or the entity has not the configuration of the files;
-/// [`LinkFault::Write`] where the writer failed: then a beginning of the text was written, as far as the writer shows.
-/// After each other fault nothing was written.
+/// - [`LinkFault::BadLine`] for the first bad line of the first file that has one.
+/// - [`LinkFault::Memory`] when out of memory, or where a thread could not be started.
+/// - [`LinkFault::JournalFull`] where the journal was full. Of several workers that stopped, the one with the lowest
+///   seat decides.
+/// - [`LinkFault::ReceiptsDiffer`] where a worker did not take what its file says, where the receipts are not the
+///   journal, or where the entity does not have the configuration of the files.
+/// - [`LinkFault::Write`] where the writer failed: then a beginning of the text was written, as far as the writer
+///   shows.
+///
+/// After each fault but the last, nothing was written.
 ///
 /// Memory: the messages of all files twice, the journal, the filestore and the text. Cost: one pass over the octets,
 /// and that of the events.

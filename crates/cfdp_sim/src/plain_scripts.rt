@@ -26,10 +26,12 @@ const BLOCKS: u32 = 64;
 ///
 /// # Errors
 ///
-/// [`RunFault::BadLine`] for the first line that has more than 200,000 octets, even if it begins with `#`, or is
-/// no hexadecimal; [`RunFault::Read`] where the reader failed, or gave more than 268,435,456 octets, unless a line is
-/// bad that ends within those or is too long within them; [`RunFault::Write`] where the writer failed;
-/// [`RunFault::Memory`] out of memory.
+/// - [`RunFault::BadLine`] for the first line that is no hexadecimal, or has more than 200,000 octets, even if it
+///   begins with `#`.
+/// - [`RunFault::Read`] where the reader failed, or gave more than 268,435,456 octets. A line that ends within these
+///   and is bad, or that is too long within them, comes first.
+/// - [`RunFault::Write`] where the writer failed.
+/// - [`RunFault::Memory`] when out of memory.
 ///
 /// Memory: the filestore, one line and its answer. Cost: one pass over the octets, and that of the requests.
 pub fn plain<R: ScriptIn, W: ScriptOut>(

@@ -14,23 +14,35 @@ use std::alloc::Global;
 
 /// Runs a script of PDUs and local events of one receiving entity (CCSDS 727.0-B-5, copy file procedures).
 ///
-/// Words are between spaces. `config E B C K J` gives this entity's ID, the blocks of its filestore, the octets that
-/// a file of unbounded size may have, the check limit and the journal's entries; without it they are 2, 64, 2400, 2 and
-/// 1000. `protect HEX` protects what is at or below a path. `pdu HEX` is a PDU that came; `step S N`, `cancel S N`,
-/// `check S N` and `take S N` perform the next item of the transaction with source entity S and sequence number N,
-/// cancel it, expire its check timer and hand its outcome out; `run` performs items until there are none, 4,224 at
-/// most; `list` writes what is in the filestore. Each reply is a line that begins with its transaction's name. A
-/// line that begins with `#`, and one without words, is passed over. Lines end with a newline, and a last one without
-/// it counts.
+/// Words are between spaces. S is the source entity of a transaction, and N its sequence number.
+///
+/// - `config E B C K J` gives this entity's ID, the blocks of its filestore, the octets that a file of unbounded size
+///   may have, the check limit and the journal's entries. Without it they are 2, 64, 2400, 2 and 1000.
+/// - `protect HEX` protects what is at or below a path.
+/// - `pdu HEX` is a PDU that came.
+/// - `step S N` performs the next item of the transaction.
+/// - `cancel S N` cancels it, `check S N` expires its check timer, and `take S N` hands its outcome out.
+/// - `run` performs items until there are none, 4,224 at most.
+/// - `list` writes what is in the filestore.
+///
+/// Each reply is a line that begins with its transaction's name. A line that begins with `#`, and one without words, is
+/// passed over. Lines end with a newline, and a last one without it counts.
 ///
 /// # Errors
 ///
-/// [`RunFault::BadLine`] for the first line that has more than 200,000 octets, even if it begins with `#`, or says none
-/// of these: another word, a word too many or too few, numbers that are no decimal digits or at least 2^64, no
-/// hexadecimal, no pair of digits, no path, a ninth path, numbers outside the configuration's limits, `config` that is
-/// not the first, `protect` after any line but these two; [`RunFault::Read`] where the reader failed, or gave more
-/// than 268,435,456 octets, unless a line is bad that ends within those or is too long within them; [`RunFault::Write`]
-/// where the writer failed; [`RunFault::Memory`] out of memory.
+/// - [`RunFault::BadLine`] for the first bad line. It has more than 200,000 octets, even if it begins with `#`; or it
+///   says none of the above, as the list below shows.
+/// - [`RunFault::Read`] where the reader failed, or gave more than 268,435,456 octets. A line that ends within these
+///   and is bad, or that is too long within them, comes first.
+/// - [`RunFault::Write`] where the writer failed.
+/// - [`RunFault::Memory`] when out of memory.
+///
+/// A line is bad that has:
+///
+/// - another first word, or a word too many or too few;
+/// - a number that is no decimal digits or at least 2^64, or outside the configuration's limits;
+/// - no hexadecimal, no pair of digits, no path, or a ninth path;
+/// - `config` that is not the first line, or `protect` after any line but these two.
 ///
 /// Memory: the receiving entity, one line and what it wrote. Cost: one pass over the octets, and that of the events.
 pub fn replay<R: ScriptIn, W: ScriptOut>(

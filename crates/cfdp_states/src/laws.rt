@@ -106,9 +106,9 @@ pub fn view_goes_on()
     only_leased();
 }
 
-/// The bound that a view gives for a path within its footprint ([`View::bound`](crate::View::bound)) is the length of
-/// the file that is there once the items so far have run alone on the whole filestore, or the greatest u64 where
-/// that is less; none where no file exists.
+/// The bound that a view gives for a path within its footprint ([`View::bound`](crate::View::bound)) is a length: that
+/// of the file that is there once the items so far have run alone on the whole filestore. It is the greatest u64 where
+/// that is less, and none where no file exists.
 pub fn view_bounds()
     ensures { ViewBounds }
 {}

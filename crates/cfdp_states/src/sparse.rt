@@ -44,12 +44,14 @@ impl<'a> SparseView<'a> {
     /// - each named path: a comparison with each path that was named before it and with each rename before its item,
     ///   and a copy at each rename that moves it;
     /// - these paths and those of the footprint: they are put into path order, each once;
-    /// - each of them and each of their ancestors, once: a `kind`, a `has_entries`, a `size` if that is a file, a look
-    ///   at the footprint as by [`covers`](cfdp_leases::covers), and an insertion at or near the end of what the view
-    ///   has, which is a search for each of its names if the view keeps paths by their names;
+    /// - each of them and each of their ancestors, once: a `kind`, a `has_entries`, a `size` if that is a file, and a
+    ///   look at the footprint as by [`covers`](cfdp_leases::covers);
+    /// - each of them and each of their ancestors, once: an insertion at or near the end of what the view has. It is a
+    ///   search for each of its names if the view keeps paths by their names;
     /// - each directory with entries that is leased exclusively: some searches among these paths, a look at each that
-    ///   is below it, a copy of each child that leads to one, a `has_beside` with these children, a comparison with
-    ///   each rename, and a `deepest_beside` if one of the renames moves it;
+    ///   is below it, and a copy of each child that leads to one;
+    /// - each such directory also: a `has_beside` with these children, a comparison with each rename, and a
+    ///   `deepest_beside` if one of the renames moves it;
     /// - each rename, if there are at least two, and at least 128 of these paths, up to the first that renames a path
     ///   with some of these paths below it: two searches among these paths. If there is such a rename, the view keeps
     ///   paths by their names, else in path order.

@@ -5,7 +5,13 @@ ghost use Rattle.cfdp_streams.specs.Streams.{KeptOrLost};
 
 use crate::streams::{Failed, ScriptIn};
 
-/// Reads some octets into `buffer`, at most `room`, and lends them. There are none only at the end.
+/// Reads some octets into `buffer`, at most `room`, and lends them. An empty piece means that the reader is at its end.
+///
+/// # Errors
+///
+/// [`Failed`] when the reader failed: its call did nothing, or nobody can say what it did.
+///
+/// Cost: one call of the reader. Takes no memory of its own.
 pub fn read_piece<'a, R: ScriptIn>(
     reader: &mut R,
     buffer: &'a mut [u8],

@@ -5,7 +5,13 @@ ghost use Rattle.cfdp_streams.specs.Streams.{AppendsOrLost, Begins};
 
 use crate::streams::{Failed, ScriptOut};
 
-/// Writes all of `text`, in as many writes as it takes.
+/// Writes all of `text`, in as many calls of the writer as that takes.
+///
+/// # Errors
+///
+/// [`Failed`] when a write failed: a beginning of the text was written then, or nobody can say what was written.
+///
+/// Cost: one call of the writer for each part that it takes, and none for an empty text. Takes no memory of its own.
 pub fn write_all<W: ScriptOut>(writer: &mut W, text: &[u8]) -> Result<(), Failed>
     ensures ok { OnOk result (Appends (W.contents writer.old) (W.contents writer.new) text.now) }
     ensures well { OnOk result (W.failed writer.new ≡ W.failed writer.old) }

@@ -47,8 +47,13 @@ fn push_blocks<S: Filestore>(core: &Core<S>, text: &mut Vec<u8>) -> Result<(), A
     Ok(text.push(b'\n')?)
 }
 
-/// Appends the line of the blocks, and those of all that exists, in path order. Cost: one pass over the filestore's
-/// octets.
+/// Appends the line of the blocks, and a line for each file and each directory, in path order.
+///
+/// # Errors
+///
+/// [`AllocError`] when out of memory: a beginning of the text may be appended.
+///
+/// Cost: that of the store's listing, and one pass over the text.
 pub fn write_listing<S: Filestore>(
     alloc: Global,
     core: &Core<S>,

@@ -26,6 +26,10 @@ fn push_octet(octet: u8, text: &mut Vec<u8>) -> Result<(), AllocError>
 }
 
 /// Appends octets: visible ASCII as it is, but for `%`; each other octet as `%` and two hexadecimal digits.
+///
+/// # Errors
+///
+/// [`AllocError`] when out of memory: a beginning of the text may be appended. Cost: one pass over the octets.
 #[tactic(auto, unfolding(crate::specs::Replies::shown))]
 pub fn push_shown(octets: &[u8], text: &mut Vec<u8>) -> Result<(), AllocError>
     ensures { OnOk result (text.new.items ≡ text.old.items ++ shown octets.now) }
@@ -36,7 +40,12 @@ pub fn push_shown(octets: &[u8], text: &mut Vec<u8>) -> Result<(), AllocError>
     Ok(())
 }
 
-/// Appends a path. Out of memory a part of it may be appended.
+/// Appends a path, its octets as [`push_shown`] writes them.
+///
+/// # Errors
+///
+/// [`AllocError`] when out of memory: a beginning of the text may be appended. Cost: a copy of the path's octets, and
+/// one pass over them.
 #[tactic(auto, unfolding(crate::specs::Replies::shown))]
 pub fn push_path(alloc: Global, path: &Path, text: &mut Vec<u8>) -> Result<(), AllocError>
     ensures { OnOk result (text.new.items ≡ text.old.items ++ shown_path path.now) }

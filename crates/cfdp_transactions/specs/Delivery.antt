@@ -4,8 +4,7 @@
 --     is_right_checksum e sum           the octets have the EOF's checksum, or it is not looked at
 --     whole W k e checksum              all octets are there: Executing, where the checksum is right
 --     storing, stores W k e received    an entry for which what came is staged, its blocks being taken;
---                                       the world after
---                                       it
+--                                       the world after it
 --     limit phase c e                   where octets may end
 --     stored, after_eof                 what follows once they are staged: in Awaiting they may have been the last
 --     data_came, data_at                file data;  for an entry that takes data

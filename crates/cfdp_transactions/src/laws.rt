@@ -109,9 +109,9 @@ pub fn other_entries_stay()
     lower_laws();
 }
 
-/// Where each PDU event of a list has a header whose lengths are 1 to 8 octets and whose numbers fit
-/// them, an EOF's condition is at most 15 and request values have at most 254 octets, every outcome
-/// of the run meets what the writer of Finished PDUs needs, and all its lengths fit.
+/// Let the header of each PDU event of a list have lengths of 1 to 8 octets and numbers that fit them. Let an EOF's
+/// condition be at most 15, and let request values have at most 254 octets. Then every outcome of the run meets what
+/// the writer of Finished PDUs needs, and all its lengths fit.
 pub fn outcomes_fit()
     ensures { OutcomesFit }
 {}
@@ -152,9 +152,9 @@ pub fn done_is_installed()
     ensures { DoneIsInstalled }
 {}
 
-/// Whatever the events before, 'installed' is replied to a step at the first item of a transaction whose
-/// Metadata names a destination, and to no other event: the answers to a transaction's items begin with
-/// 'installed' exactly where there is a file, and no other is 'installed'.
+/// Whatever the events before, 'installed' is replied to a step at the first item of a transaction whose Metadata names
+/// a destination, and to no other event. So the answers to a transaction's items begin with 'installed' exactly where
+/// there is a file, and no other answer is 'installed'.
 pub fn first_is_installed()
     ensures { FirstIsInstalled }
 {

@@ -313,10 +313,14 @@ impl<S: Filestore> Core<S> {
     /// those of the table of events.
     ///
     /// Out of memory, the reply is [`Reply::Memory`] and the world is as before: the event can be handed in again. Over
-    /// a store that takes no memory only Metadata and Take get that reply. Over any store an EOF PDU, a request to
-    /// cancel and a check never get it. Nor does Take of a transaction that is live or not known, nor a Metadata PDU
-    /// that is for another entity, that came before, that has more than 64 requests, or that comes while the table is
-    /// full. Journal-full is no reply of the core.
+    /// a store that takes no memory only Metadata and Take get that reply. Over any store these never get it:
+    ///
+    /// - an EOF PDU, a request to cancel, and a check;
+    /// - Take of a transaction that is live or not known;
+    /// - a Metadata PDU that is for another entity, that came before, or that has more than 64 requests;
+    /// - a Metadata PDU that comes while the table is full.
+    ///
+    /// Journal-full is no reply of the core.
     ///
     /// Cost: that of what the event brings. Metadata costs what [`verify`](cfdp_verifier::verify) does and one copy of
     /// it. File data costs its octets and the pieces that they touch, and what the store takes to reach its offset.

@@ -6,7 +6,11 @@ ghost use Rattle.cfdp_uploads.specs.Orders.{neighbour};
 
 use std::alloc::{AllocError, Global};
 
-/// From the first piece to the last, of this number of pieces.
+/// The indices from the first piece to the last, of `count` pieces.
+///
+/// # Errors
+///
+/// [`AllocError`] when out of memory. Cost: one allocation, and one pass over the indices.
 pub fn in_order(alloc: Global, count: usize) -> Result<Vec<usize>, AllocError>
     ensures { IfOk result (λ order. order.items ≡ range_with_len 0 count) }
 {
@@ -17,7 +21,11 @@ pub fn in_order(alloc: Global, count: usize) -> Result<Vec<usize>, AllocError>
     Ok(order)
 }
 
-/// From the last piece to the first, of this number of pieces.
+/// The indices from the last piece to the first, of `count` pieces.
+///
+/// # Errors
+///
+/// [`AllocError`] when out of memory. Cost: one allocation, and two passes over the indices.
 pub fn reversed(alloc: Global, count: usize) -> Result<Vec<usize>, AllocError>
     ensures { IfOk result (λ order. order.items ≡ reverse (range_with_len 0 count)) }
 {
@@ -40,8 +48,12 @@ fn neighbour(count: usize, index: usize) -> usize
     }
 }
 
-/// Of each two pieces the second one first: 1, 0, 3, 2 and so on. Of an odd number of pieces the last one stays the
-/// last.
+/// The indices of `count` pieces, of each two the second one first: 1, 0, 3, 2 and so on. Of an odd number of pieces
+/// the last one stays the last.
+///
+/// # Errors
+///
+/// [`AllocError`] when out of memory. Cost: the allocations of the list, and one pass over the indices.
 pub fn swapped(alloc: Global, count: usize) -> Result<Vec<usize>, AllocError>
     ensures { IfOk result (λ order. order.items ≡ map (neighbour count) (range_with_len 0 count)) }
 {

@@ -605,7 +605,8 @@ fn push_plain(
 }
 
 /// What octets say: the kind of their PDU and each of its fields by its name (CCSDS 727.0-B-5 §5); or that they are
-/// damaged, and the first fault. The octets are scratch afterwards: a CRC is taken off in place.
+/// damaged, and the first fault. The call may change the octets, since it takes a CRC off in place: do not use them
+/// after it.
 ///
 /// Of the octets of a file it says how many they are. The fault location of an EOF PDU is left out.
 ///

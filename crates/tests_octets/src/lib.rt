@@ -1,5 +1,6 @@
-//! Tests of what reads and writes octets, and of what acknowledged mode keeps beside the core: CRCs, messages to user,
-//! directives, timers and NAK sequences, sessions. This crate has tests alone.
+//! Tests of CRCs, of directives (ACK, NAK, Prompt and Keep Alive PDUs), of messages to user, of timers and NAK
+//! sequences, of the table of sessions, of verdicts in words, and of PDUs in words as `cfdp show` prints them. The
+//! other PDUs, TLVs and paths are in `tests_stores`. This crate has tests alone.
 #![tactic(auto)]
 
 #[cfg(test)]

@@ -190,7 +190,7 @@ fn go_on(
             Replied::JournalFull
         };
         let well = replies(rt, alloc, journaled, *given, replied)?;
-        assert!(rt; well, "event {before}, of which {count} are fillers");
+        assert!(rt; well, "event {before} from 0, after {count} fillers: another reply");
         before = before.saturating_add(1);
     }
     Ok(())

@@ -1,6 +1,6 @@
-//! Each call that can run out of memory, for runs in which one allocation is refused (`rt try --test --fail-alloc
-//! N`): a call whose own allocation it is answers `Memory` and leaves the store as before, and made once more it
-//! succeeds; where it is the test's own, the test ends. With every allocation granted each call succeeds at once. Of a
+//! Each call that can run out of memory, for runs in which one allocation is refused (`rt try --test --fail-alloc N`).
+//! A call whose own allocation it is answers `Memory` and leaves the store as before. Made once more it succeeds. Where
+//! the allocation is the test's own, the test ends. With every allocation granted each call succeeds at once. Of a
 //! `TreeStore` no change can be refused.
 
 use super::calls::{Asked, read_staged, staged_size};
@@ -68,7 +68,7 @@ fn take_at_last<S: Filestore, R: Abort + Print>(
 ) -> Result<(), Memory> {
     for (number, step) in steps.iter().enumerate() {
         let holds = holds_at_last(rt, alloc, store, step)?;
-        assert!(rt; holds, "{name}: step {number}");
+        assert!(rt; holds, "script {name}: step {number} does not hold");
     }
     Ok(())
 }

@@ -325,7 +325,7 @@ pub fn take<S: Filestore>(
 ) -> Result<(), Memory> {
     for (number, step) in steps.iter().enumerate() {
         let holds = step.holds(alloc, store, protected)?;
-        assert!(rt; holds, "{name}: step {number}");
+        assert!(rt; holds, "script {name}: step {number} of a part does not hold");
     }
     Ok(())
 }

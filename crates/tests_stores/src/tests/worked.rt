@@ -132,9 +132,9 @@ const STAGES: &[Step<'static>] = &[
     takes!(Asked::Unstage(0) => ticks 62, free 64),
 ];
 
-/// The sum of what is staged after each piece: among zeros, over a part of the last one, over its beginning, twice,
-/// over all with the greatest octets and with zeros, and after the list grew within a word; then of files that are
-/// appended within a word, and of one that is replaced.
+/// The sum of what is staged after each piece: among zeros, over a part of the last one, over its beginning, and twice.
+/// Then over all with the greatest octets and with zeros, and after the list grew within a word. Then the sum of files
+/// that are appended within a word, and of one that is replaced.
 const KEEPS_SUMS: &[Step<'static>] = &[
     takes!(Asked::Extend(0, 7) => ticks 1, free 63),
     Step::Shows(Shown::StagedChecksum(0, 0)),
