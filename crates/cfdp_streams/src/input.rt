@@ -6,7 +6,7 @@ ghost use Rattle.cfdp_streams.specs.Streams.{KeptOrLost};
 use crate::streams::{Failed, ScriptIn};
 
 /// Reads some octets into `buffer`, at most `room`, and lends them. There are none only at the end.
-pub fn read_piece<'a, R: ScriptIn>(
+pub fn read_some<'a, R: ScriptIn>(
     reader: &mut R,
     buffer: &'a mut [u8],
     room: usize,
