@@ -90,15 +90,18 @@ static void hear(enum call call, uint64_t now) {
     send_all();
 }
 
-/* One file for 'f', which is renamed to 'g' and deleted by its own list. */
-static void play(uint32_t number, uint32_t octets, uint64_t now) {
+/* Hands in the Metadata PDU of a file for 'f', which is renamed to 'g' and deleted by its own list. */
+static void hear_metadata(uint32_t number, uint32_t octets, uint64_t now) {
     static const uint8_t list[] = {0, 5, 0x20, 1, 'f', 1, 'g', 0, 3, 0x10, 1, 'g'};
-    static const struct cfdp_path path = {.length = 1, .octets = "f"};
-    static uint8_t piece[PIECE], copy[65536];
-    uint32_t sum = 0;
     begin(0x20, number);
     put_octet(7), put_octet(0), put_number(octets), put("\001s\001f", 4), put(list, sizeof list), end();
     hear(RECEIVE_METADATA, now);
+}
+
+/* Hands in the octets of a file, in pieces, and returns its checksum. */
+static uint32_t hear_pieces(uint32_t number, uint32_t octets, uint64_t now) {
+    static uint8_t piece[PIECE];
+    uint32_t sum = 0;
     for (uint32_t at = 0; at < octets; at += PIECE) {
         uint32_t count = octets - at < PIECE ? octets - at : PIECE;
         for (uint32_t index = 0; index < count; index++) {
@@ -113,9 +116,13 @@ static void play(uint32_t number, uint32_t octets, uint64_t now) {
         cfdp_receiver_deadline(&receiver, &due);
         take_time(DEADLINE, begun);
     }
-    begin(0x20, number);
-    put_octet(4), put_octet(0), put_number(sum), put_number(octets), end();
-    hear(RECEIVE_EOF, now);
+    return sum;
+}
+
+/* Performs all items, and reads the file once it is installed. */
+static void work_off(uint64_t now) {
+    static const struct cfdp_path path = {.length = 1, .octets = "f"};
+    static uint8_t copy[65536];
     do {
         double begun = seconds();
         if (cfdp_receiver_work(&receiver, now, &report) != CFDP_ANSWER_DONE) fail("work");
@@ -127,6 +134,10 @@ static void play(uint32_t number, uint32_t octets, uint64_t now) {
             take_time(READ, begun);
         }
     } while (report.became != CFDP_BECAME_NOTHING);
+}
+
+/* Takes the outcome, and serves what is due. */
+static void finish(uint64_t now) {
     double begun = seconds();
     if (cfdp_receiver_finish(&receiver, now, &report) != CFDP_ANSWER_DONE || report.indication.condition != 0)
         fail("finish");
@@ -135,6 +146,17 @@ static void play(uint32_t number, uint32_t octets, uint64_t now) {
     begun = seconds();
     cfdp_receiver_expire(&receiver, now, &report);
     take_time(EXPIRE, begun);
+}
+
+/* A file, from its Metadata PDU until its Finished PDU is acknowledged. */
+static void play(uint32_t number, uint32_t octets, uint64_t now) {
+    hear_metadata(number, octets, now);
+    uint32_t sum = hear_pieces(number, octets, now);
+    begin(0x20, number);
+    put_octet(4), put_octet(0), put_number(sum), put_number(octets), end();
+    hear(RECEIVE_EOF, now);
+    work_off(now);
+    finish(now);
     begin(0x20, number);
     put_octet(6), put_octet(0x51), put_octet(1), end();
     hear(RECEIVE_ACK, now);
@@ -166,6 +188,19 @@ static void *run(void *nothing) {
     return NULL;
 }
 
+static void show_times(void) {
+    double total = 0;
+    for (int call = 0; call < CALLS; call++) total += times[call].total;
+    printf("%" PRIu32 " files of %" PRIu32 " octets in File Data PDUs of %d\n", files, octets_each, PIECE);
+    printf("receive File Data: %.0f a second, %.0f MB a second\n",
+        (double)times[RECEIVE_DATA].count / times[RECEIVE_DATA].total,
+        (double)files * octets_each / times[RECEIVE_DATA].total / 1e6);
+    for (int call = 0; call < CALLS; call++)
+        printf("%-18s %8" PRIu64 " calls, mean %8.2f us, longest %8.2f us\n", names[call], times[call].count,
+            times[call].count ? 1e6 * times[call].total / (double)times[call].count : 0, 1e6 * times[call].longest);
+    printf("all calls: %.2f s\n", total);
+}
+
 int main(int count, char **words) {
     if (count > 1) files = (uint32_t)atol(words[1]);
     if (count > 2) octets_each = (uint32_t)atol(words[2]);
@@ -178,16 +213,7 @@ int main(int count, char **words) {
     if (pthread_create(&thread, &attributes, run, NULL) != 0 || pthread_join(thread, NULL) != 0) return 1;
     size_t unused = 0;
     while (unused < sizeof stack && stack[unused] == 0xa5) unused++;
-    double total = 0;
-    for (int call = 0; call < CALLS; call++) total += times[call].total;
-    printf("%" PRIu32 " files of %" PRIu32 " octets in File Data PDUs of %d\n", files, octets_each, PIECE);
-    printf("receive File Data: %.0f a second, %.0f MB a second\n",
-        (double)times[RECEIVE_DATA].count / times[RECEIVE_DATA].total,
-        (double)files * octets_each / times[RECEIVE_DATA].total / 1e6);
-    for (int call = 0; call < CALLS; call++)
-        printf("%-18s %8" PRIu64 " calls, mean %8.2f us, longest %8.2f us\n", names[call], times[call].count,
-            times[call].count ? 1e6 * times[call].total / (double)times[call].count : 0, 1e6 * times[call].longest);
-    printf("all calls: %.2f s\n", total);
+    show_times();
     printf("stack: %zu octets, with those of this program and of the thread\n", sizeof stack - unused);
     printf("memory: %zu octets in use at most, %zu of the region\n", pool_most_in_use(), pool_used());
     return 0;

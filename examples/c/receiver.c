@@ -147,7 +147,8 @@ static void show_filestore(void) {
     expect(cfdp_receiver_read(&receiver, &path, 0, NULL, 0, &count), CFDP_ANSWER_NOTHING);
 }
 
-int main(void) {
+/* Without a receiver there is only one answer; one that was just made has nothing to do. */
+static void begin(void) {
     const struct cfdp_config config = {.entity = 2, .cap = 2400, .blocks = 64, .checks = 2};
     const struct cfdp_mib mib = {.ack_interval = 50,
         .ack_limit = 2,
@@ -165,8 +166,6 @@ int main(void) {
     struct cfdp_report report = {0};
     uint64_t moment = 7;
     size_t count = 0;
-
-    if (cfdp_receiver_octets() != sizeof receiver) return 1;
     expect(cfdp_receiver_new(&receiver, &engine, &mib), CFDP_ANSWER_NO_ENGINE);
     expect(cfdp_receiver_work(&receiver, 0, &report), CFDP_ANSWER_NO_ENGINE);
     expect(cfdp_receiver_free(&receiver), CFDP_ANSWER_NO_ENGINE);
@@ -177,11 +176,15 @@ int main(void) {
     expect(cfdp_receiver_write(&receiver, 0, NULL, 0, &count), CFDP_ANSWER_NOTHING);
     expect(cfdp_receiver_receive(&receiver, 0, NULL, 0, &report), CFDP_ANSWER_TRUNCATED);
     expect(cfdp_receiver_receive(&receiver, 0, bad_crc, sizeof bad_crc, &report), CFDP_ANSWER_BAD_CRC);
+}
 
+/* The EOF PDU comes first; what is missing is asked for, and comes. */
+static void receive_file(void) {
+    uint8_t name[2] = {9, 9};
+    size_t count = 0;
     RECEIVE(100, eof);
     expire();
     RECEIVE(150, metadata);
-    uint8_t name[2] = {9, 9};
     expect(cfdp_receiver_destination_name(&receiver, 1, 5, name, sizeof name, &count), CFDP_ANSWER_DONE);
     expect(count, 1);
     expect(name[0], 'f');
@@ -193,7 +196,11 @@ int main(void) {
     RECEIVE(220, ack);
     RECEIVE(230, metadata);
     show_filestore();
+}
 
+/* The user cancels the other transaction, whose Finished PDU nobody acknowledges. */
+static void cancel_other(void) {
+    struct cfdp_report report = {0};
     RECEIVE(240, other);
     expect(cfdp_receiver_cancel(&receiver, 250, 1, 6, &report), CFDP_ANSWER_DONE);
     show(&report);
@@ -203,6 +210,13 @@ int main(void) {
     expect(cfdp_receiver_forget_closed(&receiver, &report), CFDP_ANSWER_DONE);
     show(&report);
     RECEIVE(400, data);
+}
+
+int main(void) {
+    if (cfdp_receiver_octets() != sizeof receiver) return 1;
+    begin();
+    receive_file();
+    cancel_other();
     expect(cfdp_receiver_free(&receiver), CFDP_ANSWER_DONE);
     expect(cfdp_receiver_free(&receiver), CFDP_ANSWER_NO_ENGINE);
     return failed;

@@ -354,18 +354,7 @@ static void compare(const struct pool_size *first) {
     if (pool_used() > worst) fail("more of the region than in the worst case");
 }
 
-int main(int count, char **words) {
-    if (count < 3 || count > 6) {
-        fprintf(stderr, "usage: soak TRANSACTIONS SEED [LIVE [REQUESTS [DEPTH]]]\n");
-        return 2;
-    }
-    const uint64_t transactions = strtoull(words[1], NULL, 10);
-    random_state = strtoull(words[2], NULL, 10) * 2 + 1;
-    if (count > 3) live = strtoul(words[3], NULL, 10);
-    if (count > 4) requests = strtoul(words[4], NULL, 10);
-    if (count > 5) depth = strtoul(words[5], NULL, 10);
-    if (live < 1 || live > MOST_LIVE || requests < 2 || requests > MOST_REQUESTS) return 2;
-    if (depth < 1 || depth > MOST_DEPTH) return 2;
+static void open_receiver(void) {
     const struct cfdp_config config = {.entity = 2, .cap = 100000, .blocks = 4096, .checks = 2};
     const struct cfdp_mib mib = {.ack_interval = 3,
         .ack_limit = 1000,
@@ -382,8 +371,12 @@ int main(int count, char **words) {
     struct cfdp_engine engine = CFDP_ENGINE_EMPTY;
     if (cfdp_new(&engine, &config, NULL, 0) != CFDP_ANSWER_DONE) fail("new");
     if (cfdp_receiver_new(&receiver, &engine, &mib) != CFDP_ANSWER_DONE) fail("receiver");
-    struct pool_size first[64];
-    for (size_t index = 0; index < 64; index++) first[index] = pool_size_at(index);
+}
+
+/* Plays this many transactions, after which the filestore is as before. */
+static void play(uint64_t transactions) {
+    struct cfdp_path path = {0};
+    struct cfdp_entry entry;
     while (finished < transactions) {
         struct upload *it = &uploads[below((uint32_t)live)];
         if (it->number == 0 && begun < transactions) begin_upload(it);
@@ -391,9 +384,25 @@ int main(int count, char **words) {
         now += below(2);
         work_off();
     }
-    struct cfdp_path path = {0};
-    struct cfdp_entry entry;
     if (cfdp_receiver_next(&receiver, &path, &entry) != CFDP_ANSWER_NOTHING) fail("the filestore is not as before");
+}
+
+int main(int count, char **words) {
+    if (count < 3 || count > 6) {
+        fprintf(stderr, "usage: soak TRANSACTIONS SEED [LIVE [REQUESTS [DEPTH]]]\n");
+        return 2;
+    }
+    const uint64_t transactions = strtoull(words[1], NULL, 10);
+    random_state = strtoull(words[2], NULL, 10) * 2 + 1;
+    if (count > 3) live = strtoul(words[3], NULL, 10);
+    if (count > 4) requests = strtoul(words[4], NULL, 10);
+    if (count > 5) depth = strtoul(words[5], NULL, 10);
+    if (live < 1 || live > MOST_LIVE || requests < 2 || requests > MOST_REQUESTS) return 2;
+    if (depth < 1 || depth > MOST_DEPTH) return 2;
+    open_receiver();
+    struct pool_size first[64];
+    for (size_t index = 0; index < 64; index++) first[index] = pool_size_at(index);
+    play(transactions);
     printf("%" PRIu64 " transactions, %" PRIu64 " requests performed, %" PRIu64 " segments asked for again\n", finished,
         performed, asked_again);
     compare(first);

@@ -148,13 +148,11 @@ static void show_all(void) {
     expect(cfdp_next(&engine, &(struct cfdp_path){.length = 4, .octets = "app/"}, &entry), CFDP_ANSWER_BAD_PATH);
 }
 
-int main(void) {
+/* Misuse that the handle can see is an answer. */
+static void open_engine(void) {
     const struct cfdp_config config = {.entity = 2, .cap = 2400, .blocks = 64, .checks = 2};
     const struct cfdp_path boot = {.length = 4, .octets = "boot"};
     struct cfdp_reply reply = {0};
-
-    if (cfdp_engine_octets() != sizeof engine) return 1;
-    /* Misuse that the handle can see is an answer. */
     expect(cfdp_receive(&engine, list_eof, sizeof list_eof, &reply), CFDP_ANSWER_NO_ENGINE);
     expect(cfdp_free(&engine), CFDP_ANSWER_NO_ENGINE);
     expect(cfdp_new(&engine, &(struct cfdp_config){.entity = 2, .cap = 2400, .blocks = 15, .checks = 2}, &boot, 1),
@@ -166,28 +164,37 @@ int main(void) {
     expect(cfdp_new(&engine, &config, &(struct cfdp_path){.length = 2, .octets = ".."}, 1), CFDP_ANSWER_BAD_PATH);
     expect(cfdp_new(&engine, &config, &boot, 1), CFDP_ANSWER_DONE);
     expect(cfdp_new(&engine, &config, &boot, 1), CFDP_ANSWER_HAS_ENGINE);
+}
 
-    /* Octets that bring no event. */
+/* Octets that bring no event, a text that does not fit, and one that there is not. */
+static void receive_bad(void) {
+    struct cfdp_reply reply = {0};
+    uint8_t line[24];
+    size_t count = 0;
     expect(cfdp_receive(&engine, list_eof, 0, &reply), CFDP_ANSWER_TRUNCATED);
     expect(cfdp_receive(&engine, list_eof, sizeof list_eof - 1, &reply), CFDP_ANSWER_TRUNCATED);
     expect(cfdp_receive(&engine, (const uint8_t[]){0x44}, 1, &reply), CFDP_ANSWER_BAD_VERSION);
     expect(cfdp_receive(&engine, (const uint8_t[]){0x26}, 1, &reply), CFDP_ANSWER_CRC_NOT_SUPPORTED);
     show_answer(CFDP_ANSWER_CRC_NOT_SUPPORTED);
-    /* A text that does not fit, and one that there is not. */
-    uint8_t line[24];
-    size_t count = 0;
     expect(cfdp_answer_text(CFDP_ANSWER_TRUNCATED, line, 21, &count), CFDP_ANSWER_TOO_SHORT);
     expect((uint32_t)count, 22);
     expect(cfdp_answer_text(CFDP_ANSWER_NO_ENGINE, line, sizeof line, &count), CFDP_ANSWER_NOTHING);
     expect(cfdp_reply_text(&(struct cfdp_reply){.kind = 18}, list_eof, 0, line, sizeof line, &count),
         CFDP_ANSWER_NOTHING);
+}
 
+static void receive_list(void) {
     RECEIVE(list_metadata);
     show_metadata(1, 1);
     RECEIVE(list_eof);
     run();
     take(1, 1);
+}
 
+/* The file in pieces out of order, one of which is missing when the check timer expires. */
+static void receive_file(void) {
+    struct cfdp_reply reply = {0};
+    struct cfdp_gap gap;
     RECEIVE(file_metadata);
     show_metadata(1, 2);
     show_progress(1, 2);
@@ -202,43 +209,74 @@ int main(void) {
     show(&reply, file_eof, 0);
     show_gaps(1, 2);
     RECEIVE(second_piece);
+    expect(cfdp_gap(&engine, 1, 2, 0, &gap), CFDP_ANSWER_NOTHING);
+}
+
+/* Performs the items of the file's transaction, with what was granted to it and what it spent. */
+static void perform_items(void) {
     struct cfdp_phase phase;
     struct cfdp_grant grant;
-    struct cfdp_gap gap;
-    expect(cfdp_gap(&engine, 1, 2, 0, &gap), CFDP_ANSWER_NOTHING);
+    int64_t blocks_spent = 0;
+    uint32_t steps_spent = 0;
     expect(cfdp_phase(&engine, 1, 2, &phase), CFDP_ANSWER_DONE);
     expect(cfdp_grant(&engine, 1, 2, &grant), CFDP_ANSWER_DONE);
     printf("phase %" PRIu32 " item %" PRIu32 ", granted blocks %" PRIu32 " steps %" PRIu32 "\n", phase.phase,
         phase.detail, grant.blocks, grant.steps);
     run();
-    int64_t blocks_spent = 0;
-    uint32_t steps_spent = 0;
     expect(cfdp_blocks_spent(&engine, 1, 2, &blocks_spent), CFDP_ANSWER_DONE);
     expect(cfdp_steps_spent(&engine, 1, 2, &steps_spent), CFDP_ANSWER_DONE);
     printf("spent blocks %" PRId64 " steps %" PRIu32 "\n", blocks_spent, steps_spent);
+}
+
+/* Of a transaction that was taken nothing is there. */
+static void take_file(void) {
+    struct cfdp_phase phase;
+    struct cfdp_metadata metadata;
+    uint64_t progress = 0;
+    uint8_t line[24];
+    size_t count = 0;
     take(1, 2);
     expect(cfdp_phase(&engine, 1, 2, &phase), CFDP_ANSWER_NOTHING);
-    uint64_t progress = 0;
     expect(cfdp_progress(&engine, 1, 2, &progress), CFDP_ANSWER_NOTHING);
     expect(cfdp_reach(&engine, 1, 2, &progress), CFDP_ANSWER_NOTHING);
-    struct cfdp_metadata metadata;
     expect(cfdp_metadata(&engine, 1, 2, &metadata), CFDP_ANSWER_NOTHING);
     expect(cfdp_source_name(&engine, 1, 2, line, sizeof line, &count), CFDP_ANSWER_NOTHING);
     show_order();
+}
 
-    show_file(&(struct cfdp_path){.length = 8, .octets = "app/prog"});
+static void show_filestore(void) {
     struct cfdp_entry entry;
+    struct cfdp_blocks blocks;
+    show_file(&(struct cfdp_path){.length = 8, .octets = "app/prog"});
     expect(cfdp_look_up(&engine, &(struct cfdp_path){.length = 7, .octets = "app/new"}, &entry), CFDP_ANSWER_NOTHING);
     expect(cfdp_look_up(&engine, &(struct cfdp_path){.length = 777, .octets = "app"}, &entry), CFDP_ANSWER_BAD_PATH);
     expect(cfdp_look_up(&engine, &(struct cfdp_path){.length = 3, .octets = "app"}, &entry), CFDP_ANSWER_DONE);
     printf("app is of kind %" PRIu32 "\n", entry.kind);
     show_all();
-    struct cfdp_blocks blocks;
     expect(cfdp_blocks(&engine, &blocks), CFDP_ANSWER_DONE);
     printf("free %" PRIu32 " spare %" PRIu32 "\n", blocks.free, blocks.spare);
+}
+
+/* An engine that was freed is none. */
+static void free_engine(void) {
+    struct cfdp_metadata metadata;
+    uint8_t line[24];
+    size_t count = 0;
     expect(cfdp_free(&engine), CFDP_ANSWER_DONE);
     expect(cfdp_free(&engine), CFDP_ANSWER_NO_ENGINE);
     expect(cfdp_metadata(&engine, 1, 2, &metadata), CFDP_ANSWER_NO_ENGINE);
     expect(cfdp_destination_name(&engine, 1, 2, line, sizeof line, &count), CFDP_ANSWER_NO_ENGINE);
+}
+
+int main(void) {
+    if (cfdp_engine_octets() != sizeof engine) return 1;
+    open_engine();
+    receive_bad();
+    receive_list();
+    receive_file();
+    perform_items();
+    take_file();
+    show_filestore();
+    free_engine();
     return failed;
 }

@@ -2,7 +2,7 @@
 
 use crate::end::End;
 use crate::input::unread;
-use crate::pieces::PIECE;
+use crate::input_thread::PIECE;
 use crate::show::print;
 use cfdp_disturb::{Copies, Draw, Link, is_pdu_line};
 use cfdp_lines::{INPUT_LIMIT, LINE_LIMIT, LineFault, OpenLine};

@@ -2,8 +2,8 @@
 
 use crate::elapsed::{Elapsed, ProgressReport};
 use crate::end::End;
+use crate::input_thread::PIECE;
 use crate::path_text::push_path;
-use crate::pieces::PIECE;
 use cfdp_actions::{Entry, Filestore, Kind};
 use cfdp_entity::Entity;
 use cfdp_paths::Path;

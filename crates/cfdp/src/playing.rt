@@ -2,8 +2,8 @@
 
 use crate::elapsed::Elapsed;
 use crate::end::End;
-use crate::named::Named;
-use crate::pieces::PIECE;
+use crate::input_thread::PIECE;
+use crate::put_files::Named;
 use cfdp_lines::{INPUT_LIMIT, NEWLINE};
 use cfdp_run::{ScriptStop, push_wrong};
 use cfdp_run_script::{RunScript, ScriptSession};

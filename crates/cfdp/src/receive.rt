@@ -4,8 +4,8 @@
 use crate::clock::MillisecondClock;
 use crate::end::End;
 use crate::folder::FolderNames;
+use crate::input_thread::{InputPiece, Pieces};
 use crate::mirror::Mirror;
-use crate::pieces::{InputPiece, Pieces};
 use crate::setup::MibSetup;
 use crate::{folder, judge, mirror, setup};
 use cfdp_cutter::{CutFault, Cutter};

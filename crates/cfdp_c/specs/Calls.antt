@@ -13,7 +13,7 @@ use Rattle.cfdp_transactions.specs.CoreFields.{outcome_in}
 use Rattle.cfdp_transactions.specs.Events.{about}
 use Rattle.cfdp_transactions.specs.Next.{next}
 use Rattle.cfdp_transactions.specs.World.{World}
-use Rattle.cfdp_entity.specs.Hearing.{heard_event, MayWantMemory}
+use Rattle.cfdp_entity.specs.Hearing.{heard_event, MayLackMemory}
 use Rattle.cfdp_entity.specs.Sending.{sent}
 use Rattle.cfdp_entity.specs.declared.fault.NotHeard.{NotHeard}
 use Rattle.cfdp_c.specs.Answers.{answer_code, unheard_answer}
@@ -44,7 +44,7 @@ RepliesHeard (Err why) W after old new answer = WorldStays W after old new × (a
 abbrev pub Receives : List ℕ → Option World → Option World → ReplyFields → ReplyFields → ℕ → Type 0
 Receives octets None after old new answer = (after ≡ None) × (new ≡ old) × (answer ≡ answer_code NoEngine)
 Receives octets (Some W) after old new answer =
-    RepliesHeard (heard_event octets) W after old new answer ⊎ (MayWantMemory octets × WorldStays W after old new
+    RepliesHeard (heard_event octets) W after old new answer ⊎ (MayLackMemory octets × WorldStays W after old new
     × (answer ≡ answer_code Memory))
 
 abbrev pub Frees : Option World → ℕ → Type 0

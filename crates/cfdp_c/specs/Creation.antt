@@ -10,7 +10,7 @@ use Rattle.cfdp_paths.specs.Paths.{Path, path_of}
 use Rattle.cfdp_transactions.specs.Config.{Config, config_fault}
 use Rattle.cfdp_transactions.specs.declared.config.ConfigFault.{ConfigFault}
 use Rattle.cfdp_transactions.specs.World.{World, start}
-use Rattle.cfdp_c.specs.Answers.{answer_code, config_answer}
+use Rattle.cfdp_c.specs.Answers.{answer_code, config_answer, on_ok}
 use Rattle.cfdp_c.specs.declared.answer.CallAnswer.{CallAnswer}
 use Rattle.cfdp_c.specs.declared.answer.CallAnswer.TheVariants.{Done, HasEngine, Memory, BadPath, TooManyPrefixes}
 use Rattle.cfdp_c.specs.declared.fields.ConfigFields.{ConfigFields}
@@ -23,14 +23,9 @@ abbrev pub with_path : List Path → Option Path → Result (List Path) CallAnsw
 with_path protected None = Err BadPath
 with_path protected (Some path) = if length protected == 8 then Err TooManyPrefixes else Ok (protected ++ path ∷ [])
 
-abbrev pub and_then : Result (List Path) CallAnswer → (List Path → Result (List Path) CallAnswer) → Result
-    (List Path) CallAnswer
-and_then (Ok protected) next = next protected
-and_then (Err answer) next = Err answer
-
 abbrev pub protected_by : List PathFields → List Path → Result (List Path) CallAnswer
 protected_by [] protected = Ok protected
-protected_by (prefix ∷ prefixes) protected = and_then (with_path protected (path_in_fields prefix))
+protected_by (prefix ∷ prefixes) protected = on_ok (with_path protected (path_in_fields prefix))
     (protected_by prefixes)
 
 abbrev pub numbers_in : ConfigFields → List Path → Config

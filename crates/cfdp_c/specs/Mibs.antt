@@ -15,6 +15,7 @@ use Rattle.cfdp_receiver.specs.declared.mib.NakMode.TheVariants.{Deferred, Immed
 use Rattle.cfdp_receiver.specs.StateMachine.{mib_fault}
 use Rattle.cfdp_transactions.specs.Entry.{Entry}
 use Rattle.cfdp_transactions.specs.World.{World}
+use Rattle.cfdp_c.specs.Answers.{on_ok}
 use Rattle.cfdp_c.specs.declared.answer.CallAnswer.{CallAnswer}
 use Rattle.cfdp_c.specs.declared.answer.CallAnswer.TheVariants.{BadHandler, BadNakMode, BadInterval, BadLimit, BadLongestNak, HasTransactions}
 use Rattle.cfdp_c.specs.declared.mib.MibFields.{MibFields}
@@ -29,10 +30,6 @@ nak_mode_in number = if number == 1 then Ok Deferred else if number == 2 then Ok
 
 abbrev pub interval_in : ℕ → Option ℕ
 interval_in ticks = if ticks == 0 then None else Some ticks
-
-abbrev pub on_ok : {X Y : Type 0} → Result X CallAnswer → (X → Result Y CallAnswer) → Result Y CallAnswer
-on_ok (Ok x) next = next x
-on_ok (Err answer) next = Err answer
 
 abbrev pub mib_of_fields : MibFields → Handler → Handler → Handler → Handler → NakMode → Mib
 mib_of_fields fields ack nak check inactivity nak_mode = record {

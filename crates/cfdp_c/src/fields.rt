@@ -14,7 +14,8 @@ pub struct ConfigFields {
     pub checks: u32,
 }
 
-/// How many octets a C `struct cfdp_path` has room for: those of the longest path, and a 0 after them.
+/// How many octets a C `struct cfdp_path` has room for: those of the longest path, 8 names of 96 octets with a `/`
+/// before each. No 0 follows them.
 pub(crate) const PATH_OCTETS: usize = 776;
 
 /// A C `struct cfdp_path`: the octets that spell a path.

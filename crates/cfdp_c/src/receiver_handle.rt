@@ -1,11 +1,12 @@
 //! What C passes for a receiver: a slot, and a mark that says whether one is in it.
 ghost use Rattle.std.specs.Prelude.{◌≡◌, ◌==◌, Some, None, IsNone, MatchOption, is_some};
+ghost use Rattle.cfdp_c.specs.declared.receiver_handle.TheConstants.{MARK};
 
 use crate::receiver_slot::ReceiverSlot;
 use cfdp_reception::Reception;
 use std::alloc::Global;
 
-/// The mark of a handle that has a receiver. Zeros, and most other bits, are not this.
+/// The mark of a handle that has a receiver: the letters `CFDR`. Zeros, and most other bits, are not this.
 const MARK: u32 = 0x4346_4452;
 
 /// A C `struct cfdp_receiver`.
@@ -13,7 +14,7 @@ const MARK: u32 = 0x4346_4452;
 pub struct ReceiverHandle {
     mark: u32,
     pub(crate) slot: ReceiverSlot,
-    ghost ok: { (mark == 1128678482) ≡ is_some slot.receiver },
+    ghost ok: { (mark == MARK) ≡ is_some slot.receiver },
 }
 
 impl ReceiverHandle {

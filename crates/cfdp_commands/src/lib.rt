@@ -9,11 +9,11 @@
 
 mod commands;
 mod dropped;
+mod reply_lines;
 mod request_lines;
 mod requests;
 mod setup;
 mod stage;
-mod telling;
 mod transfers;
 
 pub use commands::{Command, CommandRoom, Local, read_command};

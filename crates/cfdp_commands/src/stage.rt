@@ -6,8 +6,8 @@ ghost use Rattle.cfdp_commands.specs.Stages.{setup_of, stage_of};
 ghost use Rattle.cfdp_lines.specs.declared.faults.LineFault.TheVariants.{Bad};
 
 use crate::commands::Command;
+use crate::reply_lines;
 use crate::setup::Setup;
-use crate::telling;
 use cfdp_entity::Entity;
 use cfdp_lines::LineFault;
 use std::alloc::Global;
@@ -26,10 +26,10 @@ fn happen(
 {
     match command {
         Command::Config { .. } | Command::Protect(_) => Err(LineFault::Bad),
-        Command::Pdu(octets) => Ok(telling::receive(alloc, entity, octets, text)?),
-        Command::Local(which, id) => Ok(telling::tell(alloc, entity, &which.event(id), text)?),
-        Command::Run => Ok(telling::run(alloc, entity, text)?),
-        Command::List => Ok(telling::list(alloc, entity, text)?),
+        Command::Pdu(octets) => Ok(reply_lines::receive(alloc, entity, octets, text)?),
+        Command::Local(which, id) => Ok(reply_lines::tell(alloc, entity, &which.event(id), text)?),
+        Command::Run => Ok(reply_lines::run(alloc, entity, text)?),
+        Command::List => Ok(reply_lines::list(alloc, entity, text)?),
     }
 }
 

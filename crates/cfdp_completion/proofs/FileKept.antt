@@ -1,11 +1,12 @@
 -- What is kept of the pieces of a file is the file.
 use Rattle.std.proofs.Common.{◌≡◌, ℕ, zero, suc, ◌+◌, ◌-◌, ◌<◌, ◌≤◌, ◌⊎◌, List, [], ◌∷◌, length, map, get_or, drop, Option, Some, None, inl, inr, refl, ap, sym, subst, ◌∙◌, arith}
+use Rattle.std.specs.Option.{option_or}
 use Rattle.std.specs.List.{AllByRecursion}
 use Rattle.std.proofs.lemmas.List.{get_or-take, get_or-drop}
 use Rattle.std.proofs.lemmas.Bool.{cases_lt}
 use Rattle.std.proofs.lemmas.Option.{slice_get_past, slice_get-get_or}
 use Rattle.cfdp_transactions.specs.Received.{Received, kept_with, brought}
-use Rattle.cfdp_transactions.specs.ReceivedLaws.{octet_at, or_offset}
+use Rattle.cfdp_transactions.specs.ReceivedLaws.{octet_at}
 use Rattle.cfdp_transactions.proofs.Received.OctetsAndGaps.{first_stays}
 use Rattle.cfdp_transactions.proofs.Received.Writing.{brought_before, brought_there}
 use Rattle.cfdp_pdus.specs.Values.{FileDataFields}
@@ -57,7 +58,7 @@ pub record Partly (file : List ℕ) (rs : Received) : Type 0 where
   pub each : (i : ℕ) → IsOf file (octet_at rs i) i
   pub within : length rs ≤ length file
 
-either : (file : List ℕ) (a b : Option ℕ) (i : ℕ) → IsOf file a i → IsOf file b i → IsOf file (or_offset a b) i
+either : (file : List ℕ) (a b : Option ℕ) (i : ℕ) → IsOf file a i → IsOf file b i → IsOf file (option_or a b) i
 either file None b i first second = second
 either file (Some x) b i first second = first
 
@@ -75,9 +76,9 @@ IsThere file rs i = octet_at rs i ≡ Some (get_or file i 0)
 
 stays_there : (file : List ℕ) (rs : Received) (piece : FileDataFields) (i : ℕ) → IsThere file rs i → IsThere file (kept_with rs piece.offset piece.octets) i
 stays_there file rs piece i there =
-    first_stays rs piece.offset piece.octets i ∙ ap (λ (o : Option ℕ). or_offset o (brought piece.offset piece.octets i)) there
+    first_stays rs piece.offset piece.octets i ∙ ap (λ (o : Option ℕ). option_or o (brought piece.offset piece.octets i)) there
 
-comes_by : (file : List ℕ) (a : Option ℕ) (i : ℕ) → IsOf file a i → or_offset a (Some (get_or file i 0)) ≡ Some (get_or file i 0)
+comes_by : (file : List ℕ) (a : Option ℕ) (i : ℕ) → IsOf file a i → option_or a (Some (get_or file i 0)) ≡ Some (get_or file i 0)
 comes_by file None i of = refl
 comes_by file (Some x) i (inl none) = absurd cc
 comes_by file (Some x) i (inr of) = of.0
@@ -85,7 +86,7 @@ comes_by file (Some x) i (inr of) = of.0
 comes : (file : List ℕ) (rs : Received) (piece : FileDataFields) → IsPart file piece → Partly file rs → (i : ℕ)
     → piece.offset ≤ i → i < piece.offset + length piece.octets → IsThere file (kept_with rs piece.offset piece.octets) i
 comes file rs piece is partly i from to =
-    first_stays rs piece.offset piece.octets i ∙ ap (or_offset (octet_at rs i)) (brings file piece is i from to)
+    first_stays rs piece.offset piece.octets i ∙ ap (option_or (octet_at rs i)) (brings file piece is i from to)
     ∙ comes_by file (octet_at rs i) i (partly.each i)
 
 partly_after : (u : UploadFields) → IsUpload u → (rs : Received) (indices : List ℕ) → AllByRecursion (λ index. index < pieces_of u) indices

@@ -1,7 +1,7 @@
 -- What octets that came bring to a receiving entity (CCSDS 727.0-B-5 §5.1 to §5.3).
 --   heard_event octets      the event of the PDU that they spell, or why there is none
 --   IsUnheard octets why    why there was no reply: that there is none, or out of memory
---   MayWantMemory octets    they spell a Metadata PDU: only this is copied
+--   MayLackMemory octets    they spell a Metadata PDU: only this is copied
 use Rattle.std.specs.Prelude.{◌≡◌, ◌⊎◌, ⊤, ℕ, List, Option, Some, None, Result, Ok, Err}
 use Rattle.cfdp_pdus.specs.First.{pdu_at}
 use Rattle.cfdp_pdus.specs.declared.pdu.Pdu.{Pdu}
@@ -25,8 +25,8 @@ abbrev pub IsReadMetadata : Result Pdu PduFault → Type 0
 IsReadMetadata (Ok (pdus.Metadata header metadata)) = ⊤
 IsReadMetadata read = ⊥
 
-abbrev pub MayWantMemory : List ℕ → Type 0
-MayWantMemory octets = IsReadMetadata (pdu_at octets)
+abbrev pub MayLackMemory : List ℕ → Type 0
+MayLackMemory octets = IsReadMetadata (pdu_at octets)
 
 abbrev pub IsUnheard : List ℕ → NotHeard → Type 0
-IsUnheard octets why = (heard_event octets ≡ Err why) ⊎ ((why ≡ Fault Memory) × MayWantMemory octets)
+IsUnheard octets why = (heard_event octets ≡ Err why) ⊎ ((why ≡ Fault Memory) × MayLackMemory octets)

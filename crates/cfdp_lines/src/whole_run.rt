@@ -9,7 +9,7 @@ use crate::faults::RunFault;
 use crate::limits::INPUT_LIMIT;
 use crate::script::Script;
 use crate::session::LineSession;
-use cfdp_streams::{ScriptIn, ScriptOut, read_piece};
+use cfdp_streams::{ScriptIn, ScriptOut, read_some};
 use std::alloc::Global;
 
 /// How much is read at once, in octets.
@@ -76,7 +76,7 @@ where
     let mut buffer = [0u8; PIECE];
     let mut left = INPUT_LIMIT;
     'pieces: loop {
-        let Ok(piece) = read_piece(reader, &mut buffer, room_for(left)) else {
+        let Ok(piece) = read_some(reader, &mut buffer, room_for(left)) else {
             return Err(RunFault::Read);
         };
         if piece.is_empty() {

@@ -30,7 +30,7 @@ use Rattle.cfdp_receiver.specs.Turning as Turning
 use Rattle.cfdp_receiver.specs.Turning.{most_nak_requests, parts, after_input, after_all, is_known}
 use Rattle.cfdp_receiver.specs.Laws.{knows, AreKnown}
 use Rattle.cfdp_receiver.proofs.Distinct.{distinct_after}
-use Rattle.cfdp_receiver.proofs.SessionsAreKnown.{Laws, known_after}
+use Rattle.cfdp_receiver.proofs.SessionsAreKnown.{Laws, known_after, known_all}
 use Rattle.cfdp_receiver.proofs.FinishedSentAtMost.{first_over_is}
 use Rattle.cfdp_progress.specs.Awaiting.{WasDelivered}
 use Rattle.cfdp_progress.specs.NakRounds.{requests_of_each, IsServed, FirstRound}
@@ -48,15 +48,6 @@ use Rattle.cfdp_progress.proofs.Concluding.{concluded_when_done, concluded_later
 use Rattle.cfdp_receiver.proofs.Delivering.{takes_none}
 use Rattle.cfdp_receiver.proofs.AfterInputs.{after_both}
 use Rattle.cfdp_leases.proofs.Held.{same_itself}
-
--- ---- what is known after several inputs
-
-pub known_all : Laws → NextIsSound → NextIsPromised → (R : State) (inputs : List Input) → Sound R.world → AreDistinct R.sessions → AreKnown R →
-    AreKnown (after_all R inputs)
-known_all laws next_sound promised R [] sound d known = known
-known_all laws next_sound promised R (i ∷ is) sound d known =
-    known_all laws next_sound promised (after_input R i) is (run_sound next_sound R.world (Handing.handed R i) sound) (distinct_after R i d)
-    (known_after laws next_sound promised R i sound d known)
 
 -- a session that is known
 record HasKnown (R : State) (id : TransactionId) : Type 0 where

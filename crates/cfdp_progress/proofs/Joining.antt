@@ -19,13 +19,13 @@ use Rattle.cfdp_receiver.specs.State.{State, Input, MetadataPdu, DataPdu, EofPdu
 use Rattle.cfdp_receiver.specs.Handing.{is_ours}
 use Rattle.cfdp_receiver.specs.Turning.{most_nak_requests, after_input, after_all}
 use Rattle.cfdp_receiver.proofs.Distinct.{distinct_after}
-use Rattle.cfdp_receiver.proofs.SessionsAreKnown.{Laws}
+use Rattle.cfdp_receiver.proofs.SessionsAreKnown.{Laws, known_all}
 use Rattle.cfdp_progress.specs.HeldRounds.{is_eof_held, holds_in, holds_eof, joins_held, comes, HeldRound, held_inputs, IsHeldRound, AreHeldRounds, comes_in, lost_while_held, AreHeldBelow, MetadataCame, MetadataComes, until_metadata, ClosedFromHeld}
 use Rattle.cfdp_progress.specs.InAll.{EitherRound, inputs_of, lost_in_all}
 use Rattle.cfdp_progress.specs.NakRounds.{MetadataOpens, Opens, FirstRound}
 use Rattle.cfdp_progress.proofs.ClosedAfterLosses.{closed_after}
 use Rattle.cfdp_progress.proofs.Holding.{StillHeld, stays_held, Opened, opened_again, opened_first}
-use Rattle.cfdp_progress.proofs.InAll.{AreBelowAll, known_all, closed_in_all}
+use Rattle.cfdp_progress.proofs.InAll.{AreBelowAll, closed_in_all}
 use Rattle.cfdp_progress.proofs.Runs.{sound_all, distinct_all, mib_all}
 use Rattle.cfdp_progress.proofs.NothingOfFile.{nothing_kept}
 use Rattle.cfdp_leases.proofs.Admitted.{same_is}

@@ -1,5 +1,6 @@
 -- What comes in answer to NAK PDUs completes the file.
 use Rattle.std.specs.Prelude.{nat_lt, ◌==◌, is_some, slice_get, slice_set}
+use Rattle.std.specs.Option.{option_or}
 use Rattle.std.specs.List.{AllByRecursion, list_all}
 use Rattle.std.proofs.Common.{◌≡◌, ◌⊎◌, inl, inr, ℕ, zero, suc, ◌+◌, ◌<◌, ◌≤◌, min, true, false, List, [], ◌∷◌, length, Option, Some, None, refl, sym, ap, subst, ◌∙◌, arith}
 use Rattle.std.proofs.lemmas.Bool.{cond_both, cond-true, cond-false, cases_lt, and_from, eq-eqb, ne_eqb, le-ltb, false≢true, both_ways}
@@ -12,7 +13,7 @@ use Rattle.cfdp_transactions.specs.Ending.{ended, ends}
 use Rattle.cfdp_transactions.specs.Entry.{Entry, id_of, takes_data}
 use Rattle.cfdp_transactions.specs.Entry as Entries
 use Rattle.cfdp_transactions.specs.Received.{Received, brought, kept_with, pieces, is_whole}
-use Rattle.cfdp_transactions.specs.ReceivedLaws.{octet_at, or_offset}
+use Rattle.cfdp_transactions.specs.ReceivedLaws.{octet_at}
 use Rattle.cfdp_transactions.specs.declared.event.Event.TheVariants.{Data as DataCame}
 use Rattle.cfdp_transactions.specs.declared.phase.Phase.{Phase}
 use Rattle.cfdp_transactions.specs.declared.phase.Phase.TheVariants.{Awaiting, Executing, Ended}
@@ -165,7 +166,7 @@ data_comes : (W : World) (h : Header) (eof : Eof) (made : ℕ) (e : Entry) (p : 
     (kept_with e.received p.0 p.1)
 data_comes W h eof made e p a within few = data_by W h eof made e p.0 p.1 a within few
 
-pub neither : (o q : Option ℕ) → or_offset o q ≡ None → (o ≡ None) × (q ≡ None)
+pub neither : (o q : Option ℕ) → option_or o q ≡ None → (o ≡ None) × (q ≡ None)
 neither None q e = (refl, e)
 neither (Some x) q e = absurd cc
 
@@ -193,7 +194,7 @@ Within W e size ps = AllByRecursion (λ p. p.0 + length p.1 ≤ min (bound W.con
 
 answered_later : (size : ℕ) (rs : Received) (p : Piece) (ps : List Piece) → BringsMissing size rs (p ∷ ps) → BringsMissing size (kept_with rs p.0 p.1) ps
 answered_later size rs p ps answers i low missing =
-    let both : or_offset (octet_at rs i) (brought p.0 p.1 i) ≡ None = sym (first_stays rs p.0 p.1 i) ∙ missing in
+    let both : option_or (octet_at rs i) (brought p.0 p.1 i) ≡ None = sym (first_stays rs p.0 p.1 i) ∙ missing in
     let parts = neither (octet_at rs i) (brought p.0 p.1 i) both in
     sym (cond-false (is_some (brought p.0 p.1 i)) true (brings ps i) (ap is_some parts.1)) ∙ answers i low parts.0
 

@@ -546,7 +546,7 @@ known_after laws next_sound promised R (Finish now) sound d known = known_but_wo
 known_after laws next_sound promised R (CancelAsked now id) sound d known = known_but_work laws next_sound promised R (CancelAsked now id) sound d known refl
 known_after laws next_sound promised R ForgetAsked sound d known = known_but_work laws next_sound promised R ForgetAsked sound d known refl
 
-known_all : Laws → NextIsSound → NextIsPromised → (R : State) (inputs : List Input) → Sound R.world → AreDistinct R.sessions → AreKnown R →
+pub known_all : Laws → NextIsSound → NextIsPromised → (R : State) (inputs : List Input) → Sound R.world → AreDistinct R.sessions → AreKnown R →
     AreKnown (Turning.after_all R inputs)
 known_all laws next_sound promised R [] sound d known = known
 known_all laws next_sound promised R (i ∷ is) sound d known =

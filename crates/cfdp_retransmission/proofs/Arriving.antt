@@ -1,10 +1,11 @@
 -- What comes in answer to a NAK sequence.
 use Rattle.std.proofs.Common.{◌≡◌, ◌⊎◌, inl, inr, ℕ, zero, suc, ◌+◌, ◌<◌, ◌≤◌, List, [], ◌∷◌, refl, ap, ◌∙◌, arith}
 use Rattle.std.specs.Prelude.{if◌then◌else◌, ◌&&◌, nat_le, nat_lt, Bool, true, false, Option, Some, None, is_some}
+use Rattle.std.specs.Option.{option_or}
 use Rattle.std.proofs.lemmas.Bool.{cases_lt, lt-ltb, le-ltb}
 use Rattle.cfdp_transactions.specs.Received.{Received, kept_with, brought, pieces, pieces_from, gaps_below}
 use Rattle.cfdp_retransmission.specs.Coming.{Piece, keep, keep_all, AreAllKept, brings, BringsMissing, continues, AreJoined, zero_missing, AnsweredIsWhole, AnsweredInOrder, cover_count, AskedOnce, NotAsked}
-use Rattle.cfdp_transactions.specs.ReceivedLaws.{octet_at, or_offset, IsIn, AreRuns}
+use Rattle.cfdp_transactions.specs.ReceivedLaws.{octet_at, IsIn, AreRuns}
 use Rattle.cfdp_retransmission.proofs.Sequences.{asks_for_all}
 use Rattle.std.proofs.lemmas.Bool.{le-leb, lt-leb}
 use Rattle.cfdp_transactions.proofs.Received.OctetsAndGaps.{first_stays, gaps_are_missing, gaps_are_runs, fewer_pieces}
@@ -16,16 +17,16 @@ pub kept_is : (rs : Received) (p : Piece) → pieces (kept_with rs p.0 p.1) ≤ 
 kept_is rs p h = rw (le-ltb 32 (pieces (kept_with rs p.0 p.1)) h) refl
 
 -- an offset that is there stays there, and one that is brought is there then
-pub stays : (o later : Option ℕ) → is_some o ≡ true → is_some (or_offset o later) ≡ true
+pub stays : (o later : Option ℕ) → is_some o ≡ true → is_some (option_or o later) ≡ true
 stays None later h = absurd cc
 stays (Some x) later h = refl
 
-pub comes : (o later : Option ℕ) → is_some later ≡ true → is_some (or_offset o later) ≡ true
+pub comes : (o later : Option ℕ) → is_some later ≡ true → is_some (option_or o later) ≡ true
 comes None later h = h
 comes (Some x) later h = refl
 
 -- an offset that was there or is still brought, once the first piece came
-went : (o later : Option ℕ) (rest : Bool) → (is_some o ≡ true) ⊎ ((if is_some later then true else rest) ≡ true) → (is_some (or_offset o later) ≡ true)
+went : (o later : Option ℕ) (rest : Bool) → (is_some o ≡ true) ⊎ ((if is_some later then true else rest) ≡ true) → (is_some (option_or o later) ≡ true)
     ⊎ (rest ≡ true)
 went o later rest (inl h) = inl (stays o later h)
 went o None rest (inr h) = inr h
@@ -38,7 +39,7 @@ there rs [] i kept (inr h) = absurd cc
 there rs (p ∷ ps) i kept h =
     let now = kept_with rs p.0 p.1 in
     let same : keep rs p ≡ now = kept_is rs p kept.0 in
-    let at : octet_at now i ≡ or_offset (octet_at rs i) (brought p.0 p.1 i) = first_stays rs p.0 p.1 i in
+    let at : octet_at now i ≡ option_or (octet_at rs i) (brought p.0 p.1 i) = first_stays rs p.0 p.1 i in
     let further : (is_some (octet_at now i) ≡ true) ⊎ (brings ps i ≡ true) = rw at (went (octet_at rs i) (brought p.0 p.1 i) (brings ps i) h) in
     ap (λ (x : Received). is_some (octet_at (keep_all x ps) i)) same ∙ there now ps i kept.1 further
 

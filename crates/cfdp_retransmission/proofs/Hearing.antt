@@ -4,6 +4,7 @@ use Rattle.std.specs.Prelude.{if◌then◌else◌, ◌||◌, nat_lt, Bool, true,
 use Rattle.std.specs.List.{AllByRecursion, flat_map}
 use Rattle.std.proofs.Common.{◌≡◌, ◌⊎◌, inl, inr, ℕ, zero, suc, ◌+◌, ◌-◌, ◌<◌, ◌≤◌, List, [], ◌∷◌, ◌++◌, map, length, refl, sym, ap, subst, ◌∙◌, arith}
 use Rattle.std.proofs.lemmas.Bool.{cond_both, cases_lt, cases_Bool, lt-ltb}
+use Rattle.cfdp_status.proofs.Appended.{all-append}
 use Rattle.cfdp_transactions.specs.Received.{Received, kept_with, brought, pieces, gaps_below}
 use Rattle.cfdp_transactions.specs.ReceivedLaws.{octet_at, IsIn, AreRuns}
 use Rattle.cfdp_transactions.proofs.Received.OctetsAndGaps.{first_stays, gaps_are_missing, gaps_are_runs}
@@ -25,10 +26,6 @@ each_of_both : (P : SegmentRequest → Type 0) (xs ys : List SegmentRequest) →
 each_of_both P [] ys h = (tt, h)
 each_of_both P (x ∷ xs) ys h = let rest = each_of_both P xs ys h.1 in ((h.0, rest.0), rest.1)
 
-each_joined : (P : SegmentRequest → Type 0) (xs ys : List SegmentRequest) → AllByRecursion P xs → AllByRecursion P ys → AllByRecursion P (xs ++ ys)
-each_joined P [] ys hx hy = hy
-each_joined P (x ∷ xs) ys hx hy = (hx.0, each_joined P xs ys hx.1 hy)
-
 -- what holds of each request holds of each that is heard
 each_heard : (P : SegmentRequest → Type 0) (asking : List Asking) → AllByRecursion P (all_requests asking) → AllByRecursion P (heard_requests asking)
 each_heard P [] h = tt
@@ -36,7 +33,7 @@ each_heard P (a ∷ more) h =
     let parts = each_of_both P a.requests (all_requests more) h in
     let rest = each_heard P more parts.1 in
     cond_both a.is_lost (heard_requests more) (a.requests ++ heard_requests more) (λ (rs : List SegmentRequest). AllByRecursion P rs)
-    (λ e. rest) (λ e. each_joined P a.requests (heard_requests more) parts.0 rest)
+    (λ e. rest) (λ e. all-append P a.requests (heard_requests more) parts.0 rest)
 
 none_of : (xs : List SegmentRequest) → AllByRecursion (λ (r : SegmentRequest). ⊥) xs → xs ≡ []
 none_of [] h = refl

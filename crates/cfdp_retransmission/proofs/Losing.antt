@@ -1,10 +1,11 @@
 -- What losses leave of a round whose NAK PDUs are all heard. The measure is the number of holes: the longest runs of offsets that were not
 -- received, below an offset. A piece that is lost makes one hole more at most; a piece that is passed over makes none, but at offset 0.
 use Rattle.std.specs.Prelude.{if◌then◌else◌, ◌&&◌, not, Bool, true, false, Option, Some, None, is_some}
+use Rattle.std.specs.Option.{option_or}
 use Rattle.std.proofs.Common.{◌≡◌, inl, inr, ℕ, zero, suc, ◌+◌, ◌-◌, ◌<◌, ◌≤◌, List, [], ◌∷◌, ◌++◌, length, refl, sym, ap, subst, ◌∙◌, arith}
 use Rattle.std.proofs.lemmas.Bool.{cases_lt, cases_Bool, and_left, and_right, not_from_true, lt-ltb, le-ltb, le-leb, lt-leb}
 use Rattle.cfdp_transactions.specs.Received.{Received, kept_with, brought, pieces, pieces_from, gaps_below}
-use Rattle.cfdp_transactions.specs.ReceivedLaws.{octet_at, or_offset, IsIn, AreRuns}
+use Rattle.cfdp_transactions.specs.ReceivedLaws.{octet_at, IsIn, AreRuns}
 use Rattle.cfdp_transactions.proofs.Received.OctetsAndGaps.{first_stays, gaps_are_missing, gaps_are_runs}
 use Rattle.cfdp_retransmission.specs.Naks.{SegmentRequest}
 use Rattle.cfdp_retransmission.specs.Coming.{Piece, keep, keep_all, zero_missing}
@@ -146,7 +147,7 @@ no_hole (suc (suc n)) rs none i h =
 
 -- ---- what a piece changes
 
-some_left : (o p : Option ℕ) → p ≡ None → is_some (or_offset o p) ≡ is_some o
+some_left : (o p : Option ℕ) → p ≡ None → is_some (option_or o p) ≡ is_some o
 some_left None p e = ap is_some e
 some_left (Some x) p e = refl
 
@@ -191,7 +192,7 @@ after_lost limit rs now x gone l inside missing = record {
   first = λ e. inside.first (omega (arith, e));
 }
 
-or_none : (o : Option ℕ) → or_offset o None ≡ o
+or_none : (o : Option ℕ) → option_or o None ≡ o
 or_none None = refl
 or_none (Some x) = refl
 
@@ -210,7 +211,7 @@ after_kept limit rs now x gone xs inside fits few =
     let below : (i : ℕ) → i < x → is_some (octet_at new i) ≡ is_some (octet_at now i) =
     λ i h. ap is_some (first_stays now x xs i) ∙ some_left (octet_at now i) (brought x xs i) (brought_before x xs i h) in
     record {
-      later = λ i h. first_stays now x xs i ∙ ap (or_offset (octet_at now i)) (brings_none_past x xs i h) ∙ or_none (octet_at now i)
+      later = λ i h. first_stays now x xs i ∙ ap (option_or (octet_at now i)) (brings_none_past x xs i h) ∙ or_none (octet_at now i)
           ∙ inside.later i (omega (arith, h));
       few_holes = omega (
         arith,

@@ -1,6 +1,6 @@
 -- What a script asks, and what `cfdp run` writes then.
 --     range_text range          a range of octets: its start, and the first offset after it
---     gaps_of, whole_of         what is missing of a transaction that the core knows;  of one whose EOF PDU is held
+--     whole_of size             what is missing of a transaction whose EOF PDU is held
 --     missing_at W id stage     the ranges that a NAK PDU would ask for now
 --     ranges_text ranges        several, or that there is none
 --     gaps_text, gaps_line      what is written of a question for what is missing
@@ -11,7 +11,7 @@ use Rattle.std.specs.Prelude.{ℕ, ◌==◌, if◌then◌else◌, List, [], ◌�
 use Rattle.cfdp_status.specs.Transaction.{transaction_name}
 use Rattle.cfdp_status.specs.declared.transaction.TransactionId.{TransactionId}
 use Rattle.cfdp_texts.specs.Replies.{line, labelled}
-use Rattle.cfdp_transactions.specs.Entry.{Entry, gaps}
+use Rattle.cfdp_transactions.specs.Entry.{Entry}
 use Rattle.cfdp_transactions.specs.World.{World, entry_of}
 use Rattle.cfdp_transactions.specs.declared.phase.Phase.{Phase}
 use Rattle.cfdp_transactions.specs.declared.phase.Phase.TheVariants.{Receiving, Awaiting}
@@ -21,13 +21,10 @@ use Rattle.cfdp_sessions.specs.Sessions.{SessionFields}
 use Rattle.cfdp_sessions.specs.declared.session.Stage.{Stage}
 use Rattle.cfdp_sessions.specs.declared.session.Stage.TheVariants.{Held, Known, Over, Waiting}
 use Rattle.cfdp_receiver.specs.State.{State, session_of, status_of}
+use Rattle.cfdp_receiver.specs.Turning.{gaps_at}
 
 abbrev pub range_text : ℕ × ℕ → List ℕ
 range_text range = labelled (codes " ") range.0 ++ labelled (codes "-") range.1
-
-abbrev pub gaps_of : Option Entry → List (ℕ × ℕ)
-gaps_of None = []
-gaps_of (Some entry) = gaps entry
 
 -- all of the file, where its EOF PDU is held
 abbrev pub whole_of : ℕ → List (ℕ × ℕ)
@@ -35,7 +32,7 @@ whole_of size = if size == 0 then [] else (0, size) ∷ []
 
 abbrev pub missing_at : World → TransactionId → Stage → List (ℕ × ℕ)
 missing_at W id (Held eof) = whole_of eof.size
-missing_at W id Known = gaps_of (entry_of W id)
+missing_at W id Known = gaps_at (entry_of W id)
 missing_at W id (Over ending) = []
 missing_at W id Waiting = []
 

@@ -3,7 +3,8 @@
 ghost use Rattle.std.specs.Prelude.{◌≡◌, ◌++◌, flat_map, OnOk};
 ghost use Rattle.cfdp_transactions.specs.World.{entry_of};
 ghost use Rattle.cfdp_receiver.specs.State.{session_of};
-ghost use Rattle.cfdp_run.specs.Questions.{core_word, gaps_line, gaps_of, gaps_text, phase_line, phase_text, phase_word, range_text, ranges_text, stage_word, name_word, whole_of};
+ghost use Rattle.cfdp_receiver.specs.Turning.{gaps_at};
+ghost use Rattle.cfdp_run.specs.Questions.{core_word, gaps_line, gaps_text, phase_line, phase_text, phase_word, range_text, ranges_text, stage_word, name_word, whole_of};
 
 use cfdp_directives::{NakRange, TransactionStatus};
 use cfdp_receiver::Receiver;
@@ -57,7 +58,7 @@ fn push_whole(size: u64, text: &mut Vec<u8>) -> Result<(), AllocError>
 /// Appends what is missing of a transaction that the core knows.
 fn push_gaps(receiver: &Receiver, id: TransactionId, text: &mut Vec<u8>) -> Result<(), AllocError>
     ensures { OnOk result (text.new.items ≡ text.old.items
-        ++ ranges_text (gaps_of (entry_of receiver.now.state.world id))) }
+        ++ ranges_text (gaps_at (entry_of receiver.now.state.world id))) }
 {
     match receiver.entity().core().gaps(id) {
         None => text.extend_from_slice(b" none"),

@@ -13,7 +13,7 @@ mod to_write;
 
 pub use from_read::FromRead;
 pub use from_slice::FromSlice;
-pub use input::read_piece;
+pub use input::read_some;
 pub use output::write_all;
 pub use streams::{Failed, ScriptIn, ScriptOut};
 pub use to_write::ToWrite;

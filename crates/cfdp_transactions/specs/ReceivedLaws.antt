@@ -6,19 +6,16 @@
 --     AreRuns from ranges       none is empty, and at least one offset is between any two, from `from` on
 --     GapsAreMissing, GapsAreRuns, FewGaps      the gaps are the longest runs of what was not received, and one more
 --                                               than the pieces at most
-use Rattle.std.specs.Prelude.{◌≡◌, ⊤, ℕ, ◌+◌, max, ◌≤◌, ◌<◌, ◌↔◌, ◌⊎◌, List, [], ◌∷◌, length, Option, Some, None, slice_index_or}
+use Rattle.std.specs.Prelude.{◌≡◌, ⊤, ℕ, ◌+◌, max, ◌≤◌, ◌<◌, ◌↔◌, ◌⊎◌, List, [], ◌∷◌, length, Option, None, slice_index_or}
+use Rattle.std.specs.Option.{option_or}
 use Rattle.cfdp_transactions.specs.Received.{Received, kept_with, brought, pieces, gaps_below}
 
 abbrev pub octet_at : Received → ℕ → Option ℕ
 octet_at rs i = slice_index_or rs i None
 
-abbrev pub or_offset : Option ℕ → Option ℕ → Option ℕ
-or_offset None later = later
-or_offset (Some x) later = Some x
-
 abbrev pub FirstStays : Type 0
 FirstStays = (rs : Received) (at : ℕ) (octets : List ℕ) (i : ℕ) → octet_at (kept_with rs at octets) i
-    ≡ or_offset (octet_at rs i) (brought at octets i)
+    ≡ option_or (octet_at rs i) (brought at octets i)
 
 abbrev pub GreatestEnd : Type 0
 GreatestEnd = (rs : Received) (at : ℕ) (x : ℕ) (xs : List ℕ) → length (kept_with rs at (x ∷ xs))

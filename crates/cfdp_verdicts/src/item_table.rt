@@ -10,7 +10,7 @@ ghost use Rattle.cfdp_texts.specs.Replies.{shown};
 ghost use Rattle.cfdp_verdicts.specs.Words.{grouped};
 
 use crate::costing::Cost;
-use crate::names::push_grouped;
+use crate::numbers::push_grouped;
 use crate::requests::push_acted;
 use cfdp_actions::Request;
 use cfdp_paths::Path;

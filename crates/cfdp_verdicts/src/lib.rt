@@ -9,7 +9,7 @@
 mod causes;
 mod costing;
 mod item_table;
-mod names;
+mod numbers;
 mod requests;
 mod verdicts;
 

@@ -8,7 +8,7 @@ ghost use Rattle.cfdp_verifier.specs.Verdict.{Grant, Proposal as ProposalOf, Ref
 ghost use Rattle.cfdp_verdicts.specs.Words.{bad_path_words, destination_words, failure_words, first_of, grant_words, long_words, many_words, refusal_words, room_words, second_name_of, status_in_brackets, verdict_line};
 
 use crate::causes::push_cause;
-use crate::names::{push_counted, push_grouped, push_text};
+use crate::numbers::{push_counted, push_grouped, push_text};
 use crate::requests::push_numbered;
 use cfdp_status::{Status, TransactionId};
 use cfdp_texts::{encode, push_number, push_shown};

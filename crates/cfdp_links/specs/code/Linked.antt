@@ -9,6 +9,7 @@
 --   IsWorkFault      why there is no text of what workers did: the first stop; without a stop, out of memory, or they
 --                    do not agree
 use Rattle.std.specs.Prelude.{◌≡◌, ⊤, ℕ, List, [], ◌∷◌, ◌++◌, map, Option, Some, None, Result, Err}
+use Rattle.std.specs.Option.{option_or}
 use Rattle.cfdp_transactions.specs.Config.{Config}
 use Rattle.cfdp_engine.specs.Journal.{Recorded}
 use Rattle.cfdp_engine.specs.Seats.{IsReconciled}
@@ -41,13 +42,9 @@ abbrev pub link_fault_of : Stop → LinkFault
 link_fault_of stops.Memory = Memory
 link_fault_of stops.JournalFull = JournalFull
 
-abbrev pub or_later : Option Stop → Option Stop → Option Stop
-or_later None later = later
-or_later (Some stop) later = Some stop
-
 abbrev pub first_stop : List Worked → Option Stop
 first_stop [] = None
-first_stop (worked ∷ workers) = or_later worked.stopped (first_stop workers)
+first_stop (worked ∷ workers) = option_or worked.stopped (first_stop workers)
 
 abbrev pub took_of : List Worked → List (List Said)
 took_of workers = map (λ worked. map said_of worked.taken.items) workers

@@ -23,9 +23,6 @@ use Rattle.cfdp_transactions.proofs.KeptTable.EntryChanged.{kept_entry}
 use Rattle.std.proofs.Math.Bool.{or-true}
 use Rattle.cfdp_transactions.proofs.Received.Writing.{length-received}
 
-pub eof_idle : (W : World) (k : ℕ) (eof : Eof) (e : Entry) → is_live e.phase ≡ false → eof_came W k eof (Some e) ≡ (W, Reply.Idle)
-eof_idle W k eof e final = rw final refl
-
 pub eof_fault : (W V : World) (k : ℕ) (eof : Eof) (e : Entry) → slice_get W.table k ≡ Some e → is_live e.phase ≡ true → (eof.condition == 0) ≡ false →
     EndsAt W V k true eof.condition →
     eof_came W k eof (Some e) ≡ (V, Reply.Faulted eof.condition)

@@ -1,12 +1,13 @@
 -- Received octets and their gaps.
 use Rattle.std.proofs.Common.{◌≡◌, ℕ, zero, suc, ◌+◌, ◌≤◌, ◌<◌, List, [], ◌∷◌, ◌++◌, length, ◌⊎◌, refl, arith}
 use Rattle.std.specs.Prelude.{⊤, Option, Some, None, true, false}
+use Rattle.std.specs.Option.{option_or}
 use Rattle.std.proofs.lemmas.Bool.{cases_lt}
 use mathlib.Core.Logic.{inl, inr}
 use Rattle.cfdp_transactions.specs.Received.{Received, brought, pieces_from, closed, started_at, gaps_from}
-use Rattle.cfdp_transactions.specs.ReceivedLaws.{octet_at, or_offset, FirstStays, GreatestEnd, IsIn, AreRuns, GapsAreMissing, GapsAreRuns, FewGaps}
+use Rattle.cfdp_transactions.specs.ReceivedLaws.{octet_at, FirstStays, GreatestEnd, IsIn, AreRuns, GapsAreMissing, GapsAreRuns, FewGaps}
 
-or_else_none : (o : Option ℕ) → o ≡ or_offset o None
+or_else_none : (o : Option ℕ) → o ≡ option_or o None
 or_else_none None = refl
 or_else_none (Some x) = refl
 

@@ -1,5 +1,5 @@
--- One range more: of ranges that are joined with another, of a search for what is missing, and of the gaps.
-use Rattle.std.proofs.Common.{◌≡◌, ℕ, zero, suc, ◌+◌, ◌≤◌, ◌<◌, true, false, List, [], ◌∷◌, length, drop, add-one, refl, ap, sym, ◌∙◌, arith}
+-- One range more: of a search for what is missing, and of the gaps.
+use Rattle.std.proofs.Common.{◌≡◌, ℕ, suc, ◌+◌, ◌≤◌, ◌<◌, true, false, List, [], ◌∷◌, length, drop, add-one, refl, ap, sym, ◌∙◌, arith}
 use Rattle.std.specs.Prelude.{◌-◌, ◌==◌, slice_index_or, ◌||◌, nat_lt, min, max, IfSome, if◌then◌else◌, Option, Some, None}
 use Rattle.std.proofs.lemmas.Bool.{cases_Bool, eqb-true, eq-eqb, and_parts, true≢false, cases_lt, lt-ltb, le-ltb, and_from, or_left}
 use Rattle.std.proofs.Math.Seq.{drop-cons}
@@ -7,25 +7,10 @@ use mathlib.Core.Logic.{inl, inr}
 use Rattle.cfdp_transactions.specs.Received.{is_whole}
 use Rattle.cfdp_transactions.specs.PieceLaws.{ArePieces}
 use Rattle.cfdp_transactions.specs.ReceivedLaws.{AreRuns}
-use Rattle.cfdp_transactions.specs.Pieces.{Ranges, is_in, received_in, with_range, between}
+use Rattle.cfdp_transactions.specs.Pieces.{Ranges, is_in, received_in, between}
 use Rattle.cfdp_transactions.specs.code.Pieces.{is_all, end_of, IsNextGap, HasAll}
 use Rattle.cfdp_transactions.proofs.Received.Writing.{whole_has_none}
 use Rattle.cfdp_transactions.proofs.Received.PieceRanges.{inside_true, outside_after, not_yet, runs_sooner}
-
-pub with_range_long : (a b : ℕ) (rs : Ranges) → length (with_range a b rs) ≤ 1 + length rs
-with_range_long a b [] = omega arith
-with_range_long a b (r ∷ rs) = elim (cases_lt r.1 a) [
-  | inl apart ↦ rw (lt-ltb r.1 a apart) (omega (arith, with_range_long a b rs))
-  | inr near ↦ rw (le-ltb r.1 a near) (elim (cases_lt b r.0) [
-    | inl before ↦ rw (lt-ltb b r.0 before) (omega arith)
-    | inr touches ↦ rw (le-ltb b r.0 touches) (omega (arith, with_range_long (min a r.0) (max b r.1) rs))
-  ])
-]
-
-pub runs_drop : (k from : ℕ) (rs : Ranges) → AreRuns from rs → AreRuns from (drop k rs)
-runs_drop zero from rs h = h
-runs_drop (suc k) from [] h = h
-runs_drop (suc k) from (r ∷ rs) h = runs_drop k from rs (runs_sooner (r.1 + 1) from rs (omega (arith, h.0, h.1)) h.2)
 
 -- the gaps: one more where the range does not begin at once
 pub gap_before : (at : ℕ) (r : ℕ × ℕ) (rs : Ranges) (limit : ℕ) → at < r.0 → between at (r ∷ rs) limit ≡ (at, r.0) ∷ between r.1 rs limit
@@ -33,16 +18,6 @@ gap_before at r rs limit h = rw (lt-ltb at r.0 h) refl
 
 pub no_gap_before : (at : ℕ) (r : ℕ × ℕ) (rs : Ranges) (limit : ℕ) → r.0 ≤ at → between at (r ∷ rs) limit ≡ between r.1 rs limit
 no_gap_before at r rs limit h = rw (le-ltb at r.0 h) refl
-
-pub between_long : (at : ℕ) (rs : Ranges) (limit : ℕ) → length (between at rs limit) ≤ 1 + length rs
-between_long at [] limit = elim (cases_lt at limit) [
-  | inl h ↦ rw (lt-ltb at limit h) (omega arith)
-  | inr h ↦ rw (le-ltb at limit h) (omega arith)
-]
-between_long at (r ∷ rs) limit = elim (cases_lt at r.0) [
-  | inl h ↦ rw (lt-ltb at r.0 h) (omega (arith, between_long r.1 rs limit))
-  | inr h ↦ rw (le-ltb at r.0 h) (omega (arith, between_long r.1 rs limit))
-]
 
 -- the search: `at` is how far all is there
 pub record IsSearched (ranges : Ranges) (from at : ℕ) (left : Ranges) : Type 0 where

@@ -1,12 +1,13 @@
 -- The ranges once octets came: where they end, that they are pieces of what is staged then, and how many they are.
 use Rattle.std.proofs.Common.{◌≡◌, ℕ, ◌+◌, ◌-◌, max, min, ◌≤◌, ◌<◌, List, [], ◌∷◌, length, refl, ap, sym, ◌∙◌, arith, get_or}
 use Rattle.std.specs.Prelude.{nat_lt, IsTrue, IsFalse, Option, Some, None, unwrap_or}
+use Rattle.std.specs.Option.{option_or}
 use Rattle.std.proofs.lemmas.Bool.{cond_both, cases_lt, ltb-true}
 use Rattle.std.proofs.lemmas.List.{get_or-map}
 use Rattle.std.proofs.lemmas.Option.{slice_get-get_or}
 use mathlib.Core.Logic.{inl, inr}
 use Rattle.cfdp_transactions.specs.Received.{Received, kept_with, brought, staged_of, pieces}
-use Rattle.cfdp_transactions.specs.ReceivedLaws.{octet_at, or_offset, AreRuns}
+use Rattle.cfdp_transactions.specs.ReceivedLaws.{octet_at, AreRuns}
 use Rattle.cfdp_transactions.specs.Pieces.{Range, Ranges, is_in, received_in, with_range}
 use Rattle.cfdp_transactions.specs.code.Pieces.{end_of}
 use Rattle.cfdp_transactions.specs.PieceLaws.{AreWithin, ArePieces, AreWritten}
@@ -86,7 +87,7 @@ module _ (ranges : Ranges) (xs : List ℕ) (at : ℕ) (octets : List ℕ) (p : A
   rs_long : length rs ≡ max (length xs) (at + length octets)
   rs_long = kept_length (received_in ranges xs) at octets some ∙ ap (λ (n : ℕ). max n (at + length octets)) (length-received 0 ranges xs)
 
-  ys_at : (i : ℕ) → i < length rs → get_or ys i 0 ≡ unwrap_or (or_offset (octet_at (received_in ranges xs) i) (brought at octets i)) 0
+  ys_at : (i : ℕ) → i < length rs → get_or ys i 0 ≡ unwrap_or (option_or (octet_at (received_in ranges xs) i) (brought at octets i)) 0
   ys_at i below = get_or-map (λ (r : Option ℕ). unwrap_or r 0) rs i None 0 below
       ∙ ap (λ (r : Option ℕ). unwrap_or r 0) (first_stays (received_in ranges xs) at octets i)
 

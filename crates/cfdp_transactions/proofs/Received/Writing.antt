@@ -1,13 +1,14 @@
 -- Received octets as ranges and a staged list: what is kept after octets came.
 use Rattle.std.proofs.Common.{◌≡◌, ℕ, zero, suc, ◌+◌, ◌-◌, max, min, ◌≤◌, ◌<◌, List, [], ◌∷◌, length, refl, ap, sym, ◌∙◌, arith, get_or}
 use Rattle.std.specs.Prelude.{◌||◌, ◌==◌, nat_le, nat_lt, if◌then◌else◌, Bool, true, false, IsTrue, IsFalse, Option, Some, None, is_some, slice_get, unwrap_or}
+use Rattle.std.specs.Option.{option_or}
 use Rattle.std.specs.List.{list_all}
 use Rattle.std.proofs.Math.Bool.{or_assoc}
 use Rattle.std.proofs.lemmas.Bool.{cases_lt, cases_Bool, cond_both, ltb-true, ltb-false, and_from, and_parts, or_left, or_right, or_from, or_cases, eqb-true, eq-eqb}
 use Rattle.std.proofs.lemmas.Option.{slice_get_past, slice_get-get_or}
 use mathlib.Core.Logic.{inl, inr}
 use Rattle.cfdp_transactions.specs.Received.{Received, kept_with, brought, staged_of, gaps_from}
-use Rattle.cfdp_transactions.specs.ReceivedLaws.{octet_at, or_offset, AreRuns}
+use Rattle.cfdp_transactions.specs.ReceivedLaws.{octet_at, AreRuns}
 use Rattle.cfdp_transactions.specs.Pieces.{Ranges, is_in, received_from, received_in, with_range}
 use Rattle.cfdp_transactions.specs.PieceLaws.{AreWithin, ArePieces, AreWritten, WholeHasNone, RangeIsAdded, RangesKeep, StagedAreKept}
 use Rattle.cfdp_transactions.proofs.Received.OctetsAndGaps.{first_stays, greatest_end}
@@ -117,7 +118,7 @@ member_below ((s, e) ∷ rs) end i within h = elim (or_cases (is_inside s e i) (
 kept_at : (ranges : Ranges) (xs : List ℕ) (at : ℕ) (octets ys : List ℕ) → ArePieces ranges xs → 0 < length octets → AreWritten ranges xs at octets ys →
     (i : ℕ) → i < length ys →
     (if is_in i (with_range at (at + length octets) ranges) then Some (get_or ys i 0) else None)
-    ≡ or_offset (octet_at (received_in ranges xs) i) (brought at octets i)
+    ≡ option_or (octet_at (received_in ranges xs) i) (brought at octets i)
 kept_at ranges xs at octets ys p some w i below = elim (cases_Bool (is_in i ranges)) [
   | inl old ↦
       let inside : i < length xs = member_below ranges (length xs) i p.within old in

@@ -39,7 +39,7 @@ pub struct Pieces {
 }
 
 /// Reads the next piece into the room, and copies it.
-fn read_piece<I: Read>(alloc: Global, input: &mut I, room: &mut [u8]) -> InputPiece {
+fn next_piece<I: Read>(alloc: Global, input: &mut I, room: &mut [u8]) -> InputPiece {
     match input.read(room) {
         Ok(0) => InputPiece::Ended,
         Ok(count) => {
@@ -69,7 +69,7 @@ fn read_all<R: Wait, I: Read + Drop>(
         return;
     };
     for _ in rt.forever() {
-        let piece = read_piece(alloc, &mut input, &mut room);
+        let piece = next_piece(alloc, &mut input, &mut room);
         if !send(rt, outbox, piece) {
             break;
         }

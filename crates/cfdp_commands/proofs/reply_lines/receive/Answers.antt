@@ -1,6 +1,6 @@
 use Rattle.std.proofs.lemmas.Result.{on_ok_weaker}
 use Rattle.cfdp_commands.proofs.Handing.{heard_fits, heard_stated}
-use Rattle.cfdp_commands.proofs.telling.receive.Goals as goal
+use Rattle.cfdp_commands.proofs.reply_lines.receive.Goals as goal
 
 pub write_reply-requires : goal.write_reply-requires
 write_reply-requires c =

@@ -2,7 +2,7 @@ use Rattle.std.proofs.Common.{◌≡◌, ◌+◌, ◌-◌, suc, inl, inr, None, 
 use Rattle.cfdp_transactions.specs.World.{next_runnable}
 use Rattle.cfdp_transactions.specs.MostSettled.{most_settled}
 use Rattle.cfdp_commands.proofs.Steps.{Steps, steps_next, steps_end}
-use Rattle.cfdp_commands.proofs.telling.run.Goals as goal
+use Rattle.cfdp_commands.proofs.reply_lines.run.Goals as goal
 
 pub returns-in_default-clause-world : goal.returns-in_default-clause-world
 returns-in_default-clause-world c =
