@@ -5,19 +5,14 @@ ghost use Rattle.cfdp_streams.specs.Streams.{KeptOrLost};
 
 use crate::streams::{Failed, ScriptIn};
 
-<<<<<<< HEAD
-/// Reads some octets into `buffer`, at most `room`, and lends them. An empty piece means that the reader is at its end.
+/// Reads some octets into `buffer`, at most `room`, and lends them. None come only where the reader is at its end.
 ///
 /// # Errors
 ///
 /// [`Failed`] when the reader failed: its call did nothing, or nobody can say what it did.
 ///
 /// Cost: one call of the reader. Takes no memory of its own.
-pub fn read_piece<'a, R: ScriptIn>(
-=======
-/// Reads some octets into `buffer`, at most `room`, and lends them. There are none only at the end.
 pub fn read_some<'a, R: ScriptIn>(
->>>>>>> 947e8e337c20f0a34a7f68c82d2be45af9f3ec2d
     reader: &mut R,
     buffer: &'a mut [u8],
     room: usize,

@@ -190,7 +190,10 @@ fn go_on(
             Replied::JournalFull
         };
         let well = replies(rt, alloc, journaled, *given, replied)?;
-        assert!(rt; well, "event {before} from 0, after {count} fillers: another reply");
+        assert!(rt;
+            well,
+            "event {before} from 0, after {count} fillers: another reply"
+        );
         before = before.saturating_add(1);
     }
     Ok(())

@@ -53,7 +53,10 @@ fn move_often(rt: &impl Abort, alloc: Global, scene: &Scene) -> Result<(), Memor
     let mut view = View::of(alloc, &scene.store, &scene.protected, &leased)?;
     for number in 0..32 {
         let holds = apply(&mut view, &requests)?;
-        assert!(rt; holds, "move {number} of `moves` there and back: a status differs");
+        assert!(rt;
+            holds,
+            "move {number} of `moves` there and back: a status differs"
+        );
     }
     assert!(rt;
         view.need() == 0 && view.steps() == 128,

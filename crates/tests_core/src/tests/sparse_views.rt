@@ -234,7 +234,10 @@ fn apply(
 ) -> Result<Went, Memory> {
     for (number, (request, status)) in list.requests.iter().zip(&list.statuses).enumerate() {
         let replied = open.apply(request)?;
-        assert!(rt; replied == *status, "seed {seed}: request {number}, whole view");
+        assert!(rt;
+            replied == *status,
+            "seed {seed}: request {number}, whole view"
+        );
         match sparse.apply(request)? {
             None => return Ok(Went::Unseen),
             Some(replied) => assert!(rt;

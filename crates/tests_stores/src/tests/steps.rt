@@ -325,7 +325,10 @@ pub fn take<S: Filestore>(
 ) -> Result<(), Memory> {
     for (number, step) in steps.iter().enumerate() {
         let holds = step.holds(alloc, store, protected)?;
-        assert!(rt; holds, "script {name}: step {number} of a part does not hold");
+        assert!(rt;
+            holds,
+            "script {name}: step {number} of a part does not hold"
+        );
     }
     Ok(())
 }
