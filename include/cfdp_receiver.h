@@ -149,11 +149,12 @@ enum cfdp_answer cfdp_receiver_new(struct cfdp_receiver *receiver, struct cfdp_e
  * CFDP_ANSWER_NO_ENGINE. Cost: that of cfdp_free. */
 enum cfdp_answer cfdp_receiver_free(struct cfdp_receiver *receiver);
 
-/* The octets of one whole PDU came (5.1 to 5.3), with a CRC or without. The buffer is scratch afterwards: a CRC is
- * taken off in place. Returns CFDP_ANSWER_DONE with the report; CFDP_ANSWER_BAD_CRC, or the first other fault that
- * the octets have (CFDP_ANSWER_TRUNCATED to CFDP_ANSWER_REQUEST_TOO_LONG); CFDP_ANSWER_NO_MEMORY for a Metadata PDU
- * alone (to try again, hand in a copy of what came); or CFDP_ANSWER_NO_ENGINE. Cost: that of the event, a pass over
- * the octets for a CRC, at most one over the 64 transactions, and the gaps where a NAK PDU is to be sent. */
+/* The octets of one whole PDU came (5.1 to 5.3), with a CRC or without. The call may change the octets, since it
+ * takes a CRC off in place: do not use them after it. Returns CFDP_ANSWER_DONE with the report; CFDP_ANSWER_BAD_CRC, or
+ * the first other fault that the octets have (CFDP_ANSWER_TRUNCATED to CFDP_ANSWER_REQUEST_TOO_LONG);
+ * CFDP_ANSWER_NO_MEMORY for a Metadata PDU alone (to try again, hand in a copy of what came); or
+ * CFDP_ANSWER_NO_ENGINE. Cost: that of the event, a pass over the octets for a CRC, at most one over the 64
+ * transactions, and the gaps where a NAK PDU is to be sent. */
 enum cfdp_answer cfdp_receiver_receive(struct cfdp_receiver *receiver, uint64_t now, uint8_t *octets, size_t length,
     struct cfdp_report *report);
 

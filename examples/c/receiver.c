@@ -147,7 +147,7 @@ static void show_filestore(void) {
     expect(cfdp_receiver_read(&receiver, &path, 0, NULL, 0, &count), CFDP_ANSWER_NOTHING);
 }
 
-/* Without a receiver there is only one answer; one that was just made has nothing to do. */
+/* Without a receiver each call answers NO_ENGINE. A new receiver has nothing to do, and drops what is no PDU. */
 static void begin(void) {
     const struct cfdp_config config = {.entity = 2, .cap = 2400, .blocks = 64, .checks = 2};
     const struct cfdp_mib mib = {.ack_interval = 50,

@@ -228,7 +228,7 @@ static void perform_items(void) {
     printf("spent blocks %" PRId64 " steps %" PRIu32 "\n", blocks_spent, steps_spent);
 }
 
-/* Of a transaction that was taken nothing is there. */
+/* After a take, nothing of the transaction is left. */
 static void take_file(void) {
     struct cfdp_phase phase;
     struct cfdp_metadata metadata;

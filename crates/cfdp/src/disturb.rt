@@ -1,8 +1,7 @@
 //! `cfdp disturb`: a script whose PDUs come over a bad link.
 
 use crate::end::End;
-use crate::input::unread;
-use crate::input_thread::PIECE;
+use crate::input::{PIECE, unread};
 use crate::show::print;
 use cfdp_disturb::{Copies, Draw, Link, is_pdu_line};
 use cfdp_lines::{INPUT_LIMIT, LINE_LIMIT, LineFault, OpenLine};

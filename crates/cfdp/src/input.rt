@@ -8,6 +8,9 @@ use std::fs;
 use std::io::{Error, ErrorKind, Read};
 use std::rt::Files;
 
+/// How many octets are read or written at once. A datagram has no more, so it is read whole.
+pub const PIECE: usize = 65_536;
+
 /// What is said of a capture in another format.
 const PCAPNG: &str =
     "a pcapng capture: expected the pcap format, into which 'editcap -F pcap' converts it";

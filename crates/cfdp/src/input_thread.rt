@@ -2,6 +2,7 @@
 //! waiting at a deadline.
 
 use crate::end::End;
+use crate::input::PIECE;
 use crossbeam_channel::{Receiver, RecvTimeoutError, Sender, bounded};
 use std::alloc::Global;
 use std::io::{ErrorKind, Read};
@@ -10,9 +11,6 @@ use std::sync::Wait;
 use std::thread;
 use std::thread::Threads;
 use std::time::Duration;
-
-/// How many octets are read or written at once. A datagram has no more, so it is read whole.
-pub const PIECE: usize = 65_536;
 
 /// How many pieces are read before they are taken.
 const AHEAD: usize = 16;

@@ -2,7 +2,7 @@
 
 use crate::elapsed::{Elapsed, ProgressReport};
 use crate::end::End;
-use crate::input_thread::PIECE;
+use crate::input::PIECE;
 use crate::path_text::push_path;
 use cfdp_actions::{Entry, Filestore, Kind};
 use cfdp_entity::Entity;

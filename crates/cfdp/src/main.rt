@@ -22,7 +22,7 @@
 //!
 //! A line on standard error says what goes wrong, and the exit status says of what kind it is:
 //!
-//! - 1: a fault of reading, writing or memory.
+//! - 1: a fault of reading, writing or memory, or a transaction that was granted and not completed.
 //! - 2: unknown words.
 //! - 3: a fault of the input. It is a line that is not hexadecimal, a capture that is cut, something wrong in a plan or
 //!   in a setup, a bad line of a script or one that a picture has no room for, or a stream that is no PDUs.

@@ -2,8 +2,8 @@
 
 use crate::elapsed::Elapsed;
 use crate::end::End;
-use crate::input_thread::PIECE;
-use crate::put_files::Named;
+use crate::input::PIECE;
+use crate::put_files::PutFiles;
 use cfdp_lines::{INPUT_LIMIT, NEWLINE};
 use cfdp_run::{ScriptStop, push_wrong};
 use cfdp_run_script::{RunScript, ScriptSession};
@@ -81,7 +81,7 @@ fn end_of(
 fn hand_on<R: Files>(
     alloc: Global,
     session: &mut ScriptSession,
-    files: &mut Named<'_, R>,
+    files: &mut PutFiles<'_, R>,
     octets: &[u8],
     text: &mut Vec<u8>,
 ) -> Result<usize, ScriptStop> {
@@ -95,7 +95,7 @@ fn hand_on<R: Files>(
 fn end_session<R: Files>(
     alloc: Global,
     session: &mut ScriptSession,
-    files: &mut Named<'_, R>,
+    files: &mut PutFiles<'_, R>,
     text: &mut Vec<u8>,
 ) -> Result<(), ScriptStop> {
     session.finish(alloc, files, text)
@@ -172,7 +172,7 @@ impl<'a, R: AllocGlobal + Clock + Eprint + Files, I: Read + Drop> Playing<'a, R,
     /// Takes octets that were read up to the end of a line, or all of them.
     fn take(&mut self, text: &mut Vec<u8>) -> Result<ReadSoFar, End> {
         let octets = self.buffer.get(self.start..self.end).unwrap_or(&[]);
-        let mut files = Named::new(self.rt);
+        let mut files = PutFiles::new(self.rt);
         let answer = hand_on(self.rt.alloc(), &mut self.session, &mut files, octets, text);
         self.came_of(answer)
     }
@@ -180,7 +180,7 @@ impl<'a, R: AllocGlobal + Clock + Eprint + Files, I: Read + Drop> Playing<'a, R,
     /// The input ends here. A last line without a newline is carried out. Whether there is one.
     fn finish(&mut self, text: &mut Vec<u8>) -> Result<bool, End> {
         self.has_ended = true;
-        let mut files = Named::new(self.rt);
+        let mut files = PutFiles::new(self.rt);
         match end_session(self.rt.alloc(), &mut self.session, &mut files, text) {
             Ok(()) => Ok(!self.line.is_empty()),
             Err(stop) => {

@@ -11,7 +11,7 @@ const MOST_READ: u64 = 7_864_321;
 
 /// The files of this computer, by their names. A name is relative to the folder in which the program runs.
 #[derive(Drop)]
-pub struct Named<'a, R> {
+pub struct PutFiles<'a, R> {
     rt: &'a R,
 }
 
@@ -32,14 +32,14 @@ fn read_file<I: Read + Drop>(alloc: Global, file: I) -> Result<Vec<u8>, Unread> 
     }
 }
 
-impl<'a, R> Named<'a, R> {
+impl<'a, R> PutFiles<'a, R> {
     /// The files that a runtime opens.
-    pub fn new(rt: &'a R) -> Named<'a, R> {
-        Named { rt }
+    pub fn new(rt: &'a R) -> PutFiles<'a, R> {
+        PutFiles { rt }
     }
 }
 
-impl<R: Files> cfdp_run_script::Files for Named<'_, R> {
+impl<R: Files> cfdp_run_script::Files for PutFiles<'_, R> {
     ghost use Rattle.std.specs.Prelude.{None};
 
     // No contract says what the files of a computer have.

@@ -142,8 +142,8 @@ impl Entity {
     }
 
     /// Takes an event, which is lent (CCSDS 727.0-B-5, the procedures at the receiving entity): the reply, and the
-    /// world after it, are those of the table of events. The event has to be one that reading a PDU can give. Each
-    /// outcome then fits a Finished PDU.
+    /// world after it, are those of the table of events. The event has to be one that reading a PDU can give, so that
+    /// each outcome fits a Finished PDU:
     ///
     /// - The lengths in the PDU's header are 1 to 8 octets, and the header's numbers fit them.
     /// - The condition code of an EOF PDU is at most 15.

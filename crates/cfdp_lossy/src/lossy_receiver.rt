@@ -58,9 +58,9 @@ impl Sent {
         true
     }
 
-    /// Whether they are no more than the input may be answered by. An EOF PDU is answered by exactly one ACK PDU. Each
-    /// PDU and each expiry may be answered by one sequence of NAK PDUs or one Keep Alive PDU, and an expiry or an
-    /// outcome by one Finished PDU. An item is answered by none.
+    /// Whether they are no more than the input may be answered by. An EOF PDU is answered by exactly one ACK PDU, and
+    /// perhaps by a sequence of NAK PDUs. Another PDU or an expiry may be answered by one such sequence or by one Keep
+    /// Alive PDU, and an expiry or an outcome by one Finished PDU. An item is answered by none.
     fn are_few(&self, came: ReceivedKind, most_naks: u64) -> bool {
         let Sent {
             acks,

@@ -64,9 +64,9 @@ pub fn delivered_after_losses()
     cfdp_retransmission::laws::whole_after_losses();
 }
 
-/// Of a transaction that takes no file data any more: its file was delivered, or it has none, or it ended otherwise.
-/// Any inputs may come. When no transaction has an item to be performed any more, and none has an outcome to be handed
-/// out, one of these inputs has handed out the outcome of this transaction.
+/// A transaction takes no file data any more: its file was delivered, or it has none and its EOF PDU came, or it ended
+/// otherwise. Any inputs may come. When no transaction has an item to be performed any more, and none has an outcome to
+/// be handed out, one of these inputs has handed out the outcome of this transaction.
 pub fn concluded_when_done()
     ensures { ConcludedWhenDone }
 {
@@ -112,9 +112,9 @@ pub fn closed_in_all()
 
 /// An EOF PDU comes before its Metadata PDU and begins a session that holds it. A round begins with that EOF PDU, or
 /// when the NAK timer of the session expires below its limit: the first NAK PDU asks for the Metadata PDU, and a sender
-/// that gets it sends the Metadata PDU. The channel may lose the one or the other. After one round more than it does
-/// so, at the latest, the Metadata PDU comes. If the NAK limit is above the number of such rounds, it is not reached
-/// before.
+/// that gets it sends the Metadata PDU. The channel may lose either PDU. After one more round than those in which it
+/// lost one, at the latest, the Metadata PDU has come. If the NAK limit is above the number of those rounds, it is not
+/// reached before.
 pub fn metadata_comes()
     ensures { MetadataComes }
 {}

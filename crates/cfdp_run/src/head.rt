@@ -133,8 +133,8 @@ impl Head {
     ///
     /// # Errors
     ///
-    /// [`Wrong::TooManyProtected`] where eight paths are protected already: the head is as before. Costs nothing but
-    /// the move of the path.
+    /// [`Wrong::TooManyProtected`] where eight paths are protected already: the head is as before. Cost: the move of
+    /// the path.
     #[tactic(auto, unfolding(crate::specs::Scripts::head_protected))]
     pub fn protect(&mut self, path: Path) -> Result<(), ScriptStop>
         ensures ok { OnOk result (head_protected (head_of self.old) path ≡ Ok (head_of self.new)) }
@@ -157,7 +157,7 @@ impl Head {
     /// - [`Wrong::ParentIsFile`] where one of its parents is a file.
     /// - [`ScriptStop::Memory`] when out of memory.
     ///
-    /// Cost: a look-up of the path and of each of its parents.
+    /// Cost: a look-up of the path, and a look-up and a copy of each of its parents.
     pub fn check_path(&self, alloc: Global, path: &Path) -> Result<(), ScriptStop>
         ensures ok { OnOk result (path_wrong (head_of self.now).world.filestore path.now ≡ None) }
         ensures err { IfErr result (λ why. stop_of why ≢ NoMemory →

@@ -97,7 +97,7 @@ impl Play {
     }
 
     /// Takes the octets of one PDU that came, performs all work and takes each outcome after it, and keeps the lines of
-    /// what was answered. Of octets that the receiver drops, the one line says why. The time is `now`, in ticks, or the
+    /// what was answered. If the receiver drops the octets, the only line says why. The time is `now`, in ticks, or the
     /// greatest time so far where that is later. The call may change the octets, since it takes a CRC off in place: do
     /// not use them after it.
     ///
@@ -158,7 +158,7 @@ impl Play {
     ///
     /// [`AllocError`] when out of memory: the lines may be written in part. The receiver is as before.
     ///
-    /// Cost: a look-up, and three passes over the octets of the file.
+    /// Cost: at most three look-ups, and three passes over the octets of the file.
     #[tactic(auto, unfolding(crate::specs::Scripts::asked))]
     pub fn get(&mut self, alloc: Global, path: &Path) -> Result<(), AllocError>
         ensures { OnOk result (play_from self.new ≡ asked (play_from self.old)

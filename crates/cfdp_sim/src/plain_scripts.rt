@@ -26,8 +26,8 @@ const BLOCKS: u32 = 64;
 ///
 /// # Errors
 ///
-/// - [`RunFault::BadLine`] for the first line that is no hexadecimal, or has more than 200,000 octets, even if it
-///   begins with `#`.
+/// - [`RunFault::BadLine`] for the first line that has more than 200,000 octets, even if it begins with `#`, or that is
+///   neither a comment nor hexadecimal.
 /// - [`RunFault::Read`] where the reader failed, or gave more than 268,435,456 octets. A line that ends within these
 ///   and is bad, or that is too long within them, comes first.
 /// - [`RunFault::Write`] where the writer failed.

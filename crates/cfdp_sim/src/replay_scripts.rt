@@ -31,7 +31,7 @@ use std::alloc::Global;
 /// # Errors
 ///
 /// - [`RunFault::BadLine`] for the first bad line. It has more than 200,000 octets, even if it begins with `#`; or it
-///   says none of the above, as the list below shows.
+///   is one of those listed below.
 /// - [`RunFault::Read`] where the reader failed, or gave more than 268,435,456 octets. A line that ends within these
 ///   and is bad, or that is too long within them, comes first.
 /// - [`RunFault::Write`] where the writer failed.
@@ -41,8 +41,9 @@ use std::alloc::Global;
 ///
 /// - another first word, or a word too many or too few;
 /// - a number that is no decimal digits or at least 2^64, or outside the configuration's limits;
-/// - no hexadecimal, no pair of digits, no path, or a ninth path;
-/// - `config` that is not the first line, or `protect` after any line but these two.
+/// - `config`, if a line that is neither blank nor a comment came before it;
+/// - `protect` after any line but `config` and `protect`, without a path, or with a ninth path;
+/// - `protect` or `pdu` with octets that are not pairs of hexadecimal digits, or with none.
 ///
 /// Memory: the receiving entity, one line and what it wrote. Cost: one pass over the octets, and that of the events.
 pub fn replay<R: ScriptIn, W: ScriptOut>(

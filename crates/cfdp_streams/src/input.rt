@@ -5,7 +5,7 @@ ghost use Rattle.cfdp_streams.specs.Streams.{KeptOrLost};
 
 use crate::streams::{Failed, ScriptIn};
 
-/// Reads some octets into `buffer`, at most `room`, and lends them. None come only where the reader is at its end.
+/// Reads some octets into `buffer`, at most `room`, and lends them. It returns none only at the end.
 ///
 /// # Errors
 ///

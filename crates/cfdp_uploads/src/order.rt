@@ -53,7 +53,8 @@ fn neighbour(count: usize, index: usize) -> usize
 ///
 /// # Errors
 ///
-/// [`AllocError`] when out of memory. Cost: the allocations of the list, and one pass over the indices.
+/// [`AllocError`] when out of memory. Cost: one pass over the indices, and the allocations of a list that grows to
+/// `count`.
 pub fn swapped(alloc: Global, count: usize) -> Result<Vec<usize>, AllocError>
     ensures { IfOk result (λ order. order.items ≡ map (neighbour count) (range_with_len 0 count)) }
 {

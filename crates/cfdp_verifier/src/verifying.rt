@@ -18,17 +18,17 @@ use cfdp_paths::Memory;
 use cfdp_quota::Quota;
 use std::alloc::{AllocError, Global};
 
-/// The verdict on a list of filestore requests (CCSDS 727.0-B-5, filestore procedures), before its transaction begins.
-/// The list is granted exactly if it passes each test. Otherwise the first test that it fails refuses it. The tests, in
-/// this order:
+/// The verdict on a list of filestore requests (CCSDS 727.0-B-5, filestore procedures), before its transaction begins:
+/// it is granted exactly if it passes each test, and otherwise refused by the first that it fails. The tests, in order:
 ///
 /// 1. It has at most 64 requests.
 /// 2. Its names are paths.
 /// 3. Its footprint conflicts with no lease.
 /// 4. Run alone on the store as it is, with unlimited room and a file of as many octets as the bound, its file may be
-///    installed, and each request is successful.
-/// 5. It takes at most 65,536 steps.
-/// 6. It needs no more blocks than are to spare.
+///    installed.
+/// 5. In that run each request is successful.
+/// 6. It takes at most 65,536 steps.
+/// 7. It needs no more blocks than are to spare.
 ///
 /// The list is run on a view of kinds and sizes, never on the store. Without a destination the bound has to be 0.
 ///

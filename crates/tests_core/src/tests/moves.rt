@@ -55,7 +55,7 @@ fn move_often(rt: &impl Abort, alloc: Global, scene: &Scene) -> Result<(), Memor
         let holds = apply(&mut view, &requests)?;
         assert!(rt;
             holds,
-            "move {number} of `moves` there and back: a status differs"
+            "round {number} of MOVES: a status differs"
         );
     }
     assert!(rt;

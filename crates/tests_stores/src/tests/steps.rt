@@ -327,7 +327,7 @@ pub fn take<S: Filestore>(
         let holds = step.holds(alloc, store, protected)?;
         assert!(rt;
             holds,
-            "script {name}: step {number} of a part does not hold"
+            "{name}: step {number} does not hold"
         );
     }
     Ok(())
