@@ -53,10 +53,7 @@ fn move_often(rt: &impl Abort, alloc: Global, scene: &Scene) -> Result<(), Memor
     let mut view = View::of(alloc, &scene.store, &scene.protected, &leased)?;
     for number in 0..32 {
         let holds = apply(&mut view, &requests)?;
-        assert!(rt;
-            holds,
-            "round {number} of MOVES: a status differs"
-        );
+        assert!(rt; holds, "round {number} of MOVES: a status differs");
     }
     assert!(rt;
         view.need() == 0 && view.steps() == 128,

@@ -325,10 +325,7 @@ pub fn take<S: Filestore>(
 ) -> Result<(), Memory> {
     for (number, step) in steps.iter().enumerate() {
         let holds = step.holds(alloc, store, protected)?;
-        assert!(rt;
-            holds,
-            "{name}: step {number} does not hold"
-        );
+        assert!(rt; holds, "{name}: step {number} does not hold");
     }
     Ok(())
 }
