@@ -17,6 +17,7 @@ use Rattle.cfdp_paths.specs.Paths.{Path, path_cmp, same_path, is_at_or_below, pa
 use Rattle.cfdp_actions.specs.Filestore.{Node, Filestore, node_at, weight, weights, blocks, Change, Becomes, changed, after, is_directory, is_good, is_root, parent_is_good, IsRooted, tree_at}
 use Rattle.cfdp_status.specs.declared.action.Action.TheVariants as action
 use Rattle.cfdp_status.specs.declared.status.Status.TheVariants.{NotAllowed}
+use Rattle.cfdp_status.proofs.Options.{none_where_some}
 use Rattle.cfdp_actions.specs.Actions.{refused, succeeds, vacating, arriving, rename}
 use Rattle.cfdp_actions.proofs.Order.{same_path-true, same_path-refl, node_at-becomes, node_at-becomes_apart, get_kept}
 use Rattle.cfdp_actions.proofs.Weights.{entries-retain_keys, sorted_rest, find_later}
@@ -220,13 +221,9 @@ node_at-vacated_tree F p x =
     node_at-vacated F (tree_at F p) x
     ∙ ap (λ v. cond (is_some v) None (node_at F x)) (find-tree_at F p x)
     ∙ elim (is_at_or_below x p) as (λ b. cond (is_some (cond b (node_at F x) None)) None (node_at F x) ≡ cond b None (node_at F x)) [
-      | true ↦ gone (node_at F x)
+      | true ↦ none_where_some (node_at F x)
       | false ↦ refl
     ]
-  where
-    gone : (v : Option Node) → cond (is_some v) None v ≡ None
-    gone None = refl
-    gone (Some n) = refl
 
 -- where nothing exists at or below q
 module _ (F : Filestore) (p q : Path) (empty : (x : Path) → is_at_or_below x q ≡ true → node_at F x ≡ None) where

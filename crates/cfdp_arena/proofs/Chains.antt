@@ -1,5 +1,6 @@
 -- The free list under the changes that an arena makes.
 --     chain-set, vacated-set      a write off the chain
+--     no_live                     what is nothing is no value
 --     live_is_absent              a live block is not on the chain
 --     live_count-value            the count of live blocks
 --     taken, given, written       the arena after a block was taken, given back or written
@@ -37,17 +38,17 @@ pub get_or-vacated : (xs : List ℕ) (arena : Blocks) (i : ℕ) → IsAbsent i x
 get_or-vacated [] arena i h = refl
 get_or-vacated (x ∷ xs) arena i h = get_or-set_other (vacated xs arena) x i None None h.0 ∙ get_or-vacated xs arena i h.1
 
-no_live : (entry : Option (List ℕ)) → entry ≡ None → IsSome entry → (A : Type 0) → A
-no_live (Some x) e s A = cc
-no_live None e s A = cc
+pub no_live : {A : Type 0} (entry : Option A) → entry ≡ None → IsSome entry → ⊥
+no_live (Some x) e s = cc
+no_live None e s = cc
 
 pub live_is_absent : (xs : List ℕ) (arena : Blocks) (i : ℕ) → AreDistinctBlocks (length arena) xs → IsLive (vacated xs arena) i → IsAbsent i xs
 live_is_absent [] arena i apart live = tt
 live_is_absent (x ∷ xs) arena i apart live =
     let long : x < length (vacated xs arena) = omega (arith, apart.0, length-vacated xs arena) in
     elim (cases_eq i x) [
-      | inl e ↦ no_live (octets_at (vacated (x ∷ xs) arena) i) (ap (λ k. get_or (set (vacated xs arena) x None) k None) e
-          ∙ get_or-set_same (vacated xs arena) x None None long) live (IsAbsent i (x ∷ xs))
+      | inl e ↦ absurd (no_live (octets_at (vacated (x ∷ xs) arena) i) (ap (λ k. get_or (set (vacated xs arena) x None) k None) e
+          ∙ get_or-set_same (vacated xs arena) x None None long) live)
       | inr ne ↦ (ne, live_is_absent xs arena i apart.2 (subst IsSome (get_or-set_other (vacated xs arena) x i None None ne) live))
     ]
 

@@ -27,6 +27,7 @@ use Rattle.std.proofs.lemmas.List.Folds.{list_any-append}
 use Rattle.std.proofs.lemmas.Map.Keys.{Less-from_sorted}
 use Rattle.std.proofs.lemmas.Bool.{cases_Bool, eq-eqb, ne_eqb, true≢false, or_parts}
 use Rattle.cfdp_status.specs.declared.transaction.TransactionId.{TransactionId}
+use Rattle.cfdp_status.proofs.Options.{neither, or_none}
 use Rattle.cfdp_paths.specs.Paths.{Path, path_cmp, same_path}
 use Rattle.cfdp_paths.proofs.Comparing.{same_path-Decides, path_cmp-total}
 use Rattle.cfdp_leases.specs.declared.leased_paths.Holder.{Holder}
@@ -65,17 +66,6 @@ path_left xs hs n none is len e = sym (ap unless_none is) ∙ by xs n none len e
 none_mapped : {A B : Type 0} (f : A → B) (o : Option A) → option_map f o ≡ None → o ≡ None
 none_mapped f None e = refl
 none_mapped f (Some x) e = absurd (cc e)
-
-or_none : {A : Type 0} (o : Option A) → option_or o None ≡ o
-or_none None = refl
-or_none (Some x) = refl
-
-neither : {A : Type 0} (o p : Option A) → option_or o p ≡ None → (o ≡ None) × (p ≡ None)
-neither None p e = (refl, e)
-neither (Some x) p e = absurd (cc e)
-
-not_some : {A : Type 0} (P : Type 0) (o : Option A) → o ≡ None → IsSome o → P
-not_some P o none some = absurd (true≢false (sym some ∙ ap is_some none))
 
 -- the record is the path's, if there is one
 abbrev pub IsOf : Path → Option LeasedPath → Type 0
@@ -250,7 +240,7 @@ module _ (old new : LeasedPaths) (holders : Path → List Holder) (held : Holds 
         own =
             let found : get path_cmp new.others k ≡ w = others k ∙ ap (λ b. cond b w (get path_cmp old.others k)) (same_path-refl k) in
             let none : under_hash new k ≡ None = under k ∙ other in
-            ((λ i. option_map holders_in (option_or (none i) (found i))) ∙ held_path, not_some (get path_cmp new.others k ≡ None) (under_hash new k) none)
+            ((λ i. option_map holders_in (option_or (none i) (found i))) ∙ held_path, λ some. absurd (true≢false (sym some ∙ ap is_some none)))
 
     -- the record under the path's hash is its own, and has other holders, or is gone
     module _ (h : ℕ) (hash : h ≡ hash_of k) (held_path : LeasedPath) (found : get nat_cmp old.by_hash h ≡ Some held_path) (own : held_path.path ≡ k)

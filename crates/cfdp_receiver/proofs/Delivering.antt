@@ -4,6 +4,7 @@ use Rattle.std.specs.Option.{option_or}
 use Rattle.std.specs.List.{AllByRecursion, list_all}
 use Rattle.std.proofs.Common.{◌≡◌, ◌⊎◌, inl, inr, ℕ, zero, suc, ◌+◌, ◌<◌, ◌≤◌, min, true, false, List, [], ◌∷◌, length, Option, Some, None, refl, sym, ap, subst, ◌∙◌, arith}
 use Rattle.std.proofs.lemmas.Bool.{cond_both, cond-true, cond-false, cases_lt, and_from, eq-eqb, ne_eqb, le-ltb, false≢true, both_ways}
+use Rattle.cfdp_status.proofs.Options.{neither}
 use Rattle.cfdp_pdus.specs.Values.{FileDataFields}
 use Rattle.cfdp_pdus.specs.declared.eof.Eof.{Eof}
 use Rattle.cfdp_pdus.specs.declared.header.Header.{Header}
@@ -165,10 +166,6 @@ data_comes : (W : World) (h : Header) (eof : Eof) (made : ℕ) (e : Entry) (p : 
     pieces (kept_with e.received p.0 p.1) ≤ 32 → Comes W (data_at W (index_of W (id_of h)) e (record { offset = p.0; octets = p.1 })).0 h eof made e
     (kept_with e.received p.0 p.1)
 data_comes W h eof made e p a within few = data_by W h eof made e p.0 p.1 a within few
-
-pub neither : (o q : Option ℕ) → option_or o q ≡ None → (o ≡ None) × (q ≡ None)
-neither None q e = (refl, e)
-neither (Some x) q e = absurd cc
 
 -- a piece that is not passed over, and does not end after the file
 comes : (W : World) (h : Header) (eof : Eof) (made : ℕ) (e : Entry) (p : Piece) → Awaits W h eof made e → p.0

@@ -4,6 +4,7 @@ use Rattle.std.specs.List.{filter}
 use Rattle.std.proofs.Common.{◌≡◌, inl, inr, ℕ, ◌+◌, ◌<◌, ◌≤◌, Bool, true, false, not, ◌&&◌, ◌||◌, if◌then◌else◌, List, [], ◌∷◌, length, Option, Some, None, refl, sym, ap, subst, ◌∙◌, arith}
 use Rattle.std.proofs.lemmas.Bool.{cond_both, cond-true, cond-false, cases_Bool, cases_lt, ne_eqb, both_ways}
 use Rattle.std.proofs.lemmas.Bool.Decides.{nat_tests}
+use Rattle.cfdp_status.proofs.Options.{neither}
 use Rattle.cfdp_actions.specs.Filestore.{Filestore}
 use Rattle.cfdp_directives.specs.Reading.{NakFields}
 use Rattle.cfdp_pdus.specs.Values.{FileDataFields}
@@ -29,7 +30,7 @@ use Rattle.cfdp_receiver.specs.Due.{is_receiving_at}
 use Rattle.cfdp_receiver.specs.code.StateMachine.{begins_no_gap}
 use Rattle.cfdp_receiver.specs.Turning.{asks_at_once, asks_stage, gaps_at, is_immediate, progress_at}
 use Rattle.cfdp_receiver.proofs.OnlyKeepsData.{none_deferred}
-use Rattle.cfdp_receiver.proofs.Delivering.{neither, own_name, placed}
+use Rattle.cfdp_receiver.proofs.Delivering.{own_name, placed}
 use Rattle.cfdp_retransmission.proofs.Losing.{brings_some}
 
 -- ---- octets

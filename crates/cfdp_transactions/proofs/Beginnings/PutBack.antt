@@ -11,6 +11,7 @@ use Rattle.std.specs.FinMap as finite
 use Rattle.std.specs.FinMap.{same_map}
 use Rattle.std.specs.FinMap.Entries.{below_all, is_sorted, find}
 use Rattle.std.proofs.lemmas.Bool.{cases_Bool, and_parts}
+use Rattle.cfdp_status.proofs.Options.{none_where_some}
 use Rattle.cfdp_paths.specs.Paths.{Name, Path, path_cmp, same_path, is_at_or_below, parent}
 use Rattle.cfdp_paths.proofs.Comparing.{path_cmp-total, same_path-Decides}
 use Rattle.cfdp_paths.proofs.InOrder.{path_antisym, less_by, less_itself, true_from_T}
@@ -144,14 +145,10 @@ module _ (F : Filestore) where
   each_of = subst (λ (nodes : finite.FinMap path_cmp Node). AllByRecursion (λ (e : Entry). node_at F e.0 ≡ Some e.1) (finite.entries nodes)) all_kept
       (nodes_of (tree_at F []) (tree_at-of F []))
 
-  none_or : (o : Option Node) → cond (is_some o) None o ≡ None
-  none_or None = refl
-  none_or (Some node) = refl
-
   all_left : (q : Path) → node_at empty_filestore q ≡ cond (is_some (find path_cmp q (finite.entries F.nodes))) None (node_at F q)
   all_left q =
       nowhere q ∙ sym (ap (λ (o : Option Node). cond (is_some (find path_cmp q (finite.entries F.nodes))) None o) (finite.get-entries F.nodes q)
-      ∙ none_or (find path_cmp q (finite.entries F.nodes)))
+      ∙ none_where_some (find path_cmp q (finite.entries F.nodes)))
 
   within : weights (finite.entries F.nodes) ≤ blocks F
   unfolding blocks

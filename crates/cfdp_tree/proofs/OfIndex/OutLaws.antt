@@ -7,7 +7,7 @@ use Rattle.std.proofs.lemmas.List.{get_or-set_same, get_or-set_other, length-map
 use Rattle.std.specs.Prelude.{IsSome}
 use Rattle.std.proofs.lemmas.Option.{none-some, same_Some}
 use Rattle.cfdp_arena.specs.Arena.{Blocks, octets_at, with_block, without_block, live_count}
-use Rattle.cfdp_arena.proofs.Chains.{live_within}
+use Rattle.cfdp_arena.proofs.Chains.{live_within, no_live}
 use Rattle.cfdp_tree.specs.declared.index.ListHead.{ListHead}
 use Rattle.cfdp_tree.specs.code.NodeFields.{node_fields_of, node_name}
 use Rattle.cfdp_tree.specs.code.Nodes.{only_node, nodes_in}
@@ -18,7 +18,6 @@ use Rattle.cfdp_tree.proofs.OfIndex.HeadLaws.{head_kept}
 use Rattle.cfdp_arena.proofs.Laws.{octets_at-with_other, live_count-written, live_count-given, live_count-taken, live_count-same}
 use Rattle.cfdp_order.proofs.SplitLaws.{All_front}
 use Rattle.cfdp_tree.proofs.OfNodes.OneBlockLaws.{octets_other}
-use Rattle.cfdp_tree.proofs.OfNodes.NodeLaws.{no_live}
 
 module _ (old new : Blocks) (b : ℕ) (heads : Heads) (was now : Option ℕ) (others : (c : ℕ) → c ≢ b → octets_at new c ≡ octets_at old c)
     (was_out : IsNode old b → was ≡ Some b) (now_out : IsNode new b → now ≡ Some b) (was_no_other : (c : ℕ) → c ≢ b → was ≢ Some c) (no_other : (c : ℕ) → c

@@ -19,7 +19,7 @@ use Rattle.cfdp_tree.proofs.OfStore.ShowLaws.{put_shows}
 use Rattle.cfdp_tree.proofs.OfNodes.EntryLaws.{kept_climb, kept_ends}
 use Rattle.cfdp_tree.proofs.OfNodes.ClimbLaws.{most_is, ends_by_length, path_by_home}
 use Rattle.cfdp_tree.proofs.OfNodes.OneBlockLaws.{octets_of-with_same, octets_other, home_other, name_other, was_other, changed_tree}
-use Rattle.cfdp_tree.proofs.OfNodes.NodeLaws.{no_live}
+use Rattle.cfdp_arena.proofs.Chains.{no_live}
 
 module _ (old : Blocks) (b : ℕ) (block : List ℕ) (within : b < length old) (free : octets_at old b ≡ None) (tree : IsTree old) (named : IsNamed block)
     (good : (d : ℕ) → home_in b block ≡ Some d → IsDirectory old d) (few : length (path_at old (home_in b block)) ≤ 7)

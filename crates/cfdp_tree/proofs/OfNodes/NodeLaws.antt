@@ -3,19 +3,14 @@
 --     nodes-kept           a block that is no node is written, taken or given back
 --     node_only, nodes-noted       a node's block is written
 --     nodes-written        the same of a block of a run whose header stays
---     no_live              what is nothing is no value
 use Rattle.std.proofs.Common.{◌≡◌, ℕ, List, Option, Some, None, refl, sym, ap, ◌∙◌}
 use Rattle.std.proofs.Math.Seq.{map-set_same}
 use Rattle.std.proofs.lemmas.List.{map-set}
-use Rattle.std.specs.Prelude.{◌==◌, if◌then◌else◌, slice_set, IsSome}
+use Rattle.std.specs.Prelude.{◌==◌, if◌then◌else◌, slice_set}
 use Rattle.cfdp_arena.specs.Arena.{Blocks, octets_at, with_block}
 use Rattle.cfdp_tree.specs.code.Block.{block_header}
 use Rattle.cfdp_tree.specs.code.Nodes.{only_node, nodes_in}
 use Rattle.cfdp_tree.specs.code.Runs.{header_in, IsRunPart}
-
-pub no_live : {A : Type 0} (entry : Option A) → entry ≡ None → IsSome entry → ⊥
-no_live (Some x) e s = cc
-no_live None e s = cc
 
 pub kind_only : (block : List ℕ) → (block_header block).kind ≡ 1 → only_node (Some block) ≡ None
 kind_only block kind = ap (λ k. if k == 2 then Some block else None) kind

@@ -12,14 +12,13 @@ use Rattle.std.proofs.lemmas.Bool.{both_ways}
 use Rattle.cfdp_paths.specs.Paths.{Path, path_cmp, same_path}
 use Rattle.cfdp_paths.proofs.Comparing.{same_path-Decides, path_cmp-total}
 use Rattle.cfdp_arena.specs.Arena.{Blocks, octets_at, octets_of, without_block}
-use Rattle.cfdp_arena.proofs.Chains.{live_within}
+use Rattle.cfdp_arena.proofs.Chains.{live_within, no_live}
 use Rattle.cfdp_actions.specs.Filestore.{Node}
 use Rattle.cfdp_tree.specs.code.Tree.{IsNode, home, climb, most_names, path_of_node, IsTree}
 use Rattle.cfdp_tree.specs.code.Kept.{node_of, Shows}
 use Rattle.cfdp_tree.proofs.OfNodes.TreeLaws.{same_node}
 use Rattle.cfdp_tree.proofs.OfNodes.EntryLaws.{kept_climb, kept_ends}
 use Rattle.cfdp_tree.proofs.OfNodes.OneBlockLaws.{octets_other, home_other, name_other, was_other, changed_tree}
-use Rattle.cfdp_tree.proofs.OfNodes.NodeLaws.{no_live}
 
 module _ (old : Blocks) (b : ℕ) (node : IsNode old b) (tree : IsTree old) (childless : (c : ℕ) → IsNode old c → home old c ≡ Some b → ⊥) where
   abbrev new : Blocks

@@ -14,7 +14,7 @@ use Rattle.std.specs.Prelude.{All, AllPairs, Contains, unwrap_or}
 use Rattle.std.specs.declared.cmp.Ordering.TheVariants.{Less}
 use Rattle.std.proofs.lemmas.Option.{none-some, same_Some}
 use Rattle.cfdp_arena.specs.Arena.{Blocks, octets_at, with_block, without_block}
-use Rattle.cfdp_arena.proofs.Chains.{live_within}
+use Rattle.cfdp_arena.proofs.Chains.{live_within, no_live}
 use Rattle.cfdp_paths.specs.code.Paths.{name_cmp}
 use Rattle.cfdp_tree.specs.declared.orders.Orders.{Orders}
 use Rattle.cfdp_actions.specs.declared.kind.Kind.TheVariants as kind
@@ -27,7 +27,6 @@ use Rattle.cfdp_tree.specs.code.Entries.{IsMember}
 use Rattle.cfdp_tree.specs.code.Next.{IsListOf}
 use Rattle.cfdp_tree.specs.code.Orders.{order_at, in_order, Rises, IsInOrders}
 use Rattle.cfdp_tree.proofs.OfStore.FileNodeLaws.{file_entries}
-use Rattle.cfdp_tree.proofs.OfNodes.NodeLaws.{no_live}
 
 pub record KeepsEntries (old new : Blocks) (out : Option ℕ) : Type 0 where
   pub nodes : (c : ℕ) → out ≢ Some c → is_some (octets_at new c) ≡ is_some (octets_at old c)

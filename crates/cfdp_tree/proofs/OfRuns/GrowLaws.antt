@@ -9,14 +9,14 @@ use Rattle.std.specs.Prelude.{IsSome}
 use Rattle.std.proofs.lemmas.Option.{same_Some}
 use Rattle.cfdp_arena.specs.Arena.{Blocks, octets_at, IsLive, with_block, free_count}
 use Rattle.cfdp_arena.specs.Blocks.{blank_block}
-use Rattle.cfdp_arena.proofs.Chains.{live_within}
+use Rattle.cfdp_arena.proofs.Chains.{live_within, no_live}
 use Rattle.cfdp_arena.proofs.Laws.{free_count-written, free_count-taken}
 use Rattle.cfdp_tree.specs.declared.header.BlockKind.TheVariants as kind
 use Rattle.cfdp_tree.specs.declared.runs.Run.{Run}
 use Rattle.cfdp_tree.specs.code.Block.{BlockHeader, block_header, payload, tagged, linked}
 use Rattle.cfdp_tree.specs.code.Runs.{octets, header_in, IsRunPart, IsRun, nth, run_octets, IsHeld, octets_of_run, OtherRunsStay}
 use Rattle.cfdp_tree.specs.code.Nodes.{only_node, nodes_in}
-use Rattle.cfdp_tree.proofs.OfNodes.NodeLaws.{content_only, nodes-kept, nodes-written, no_live}
+use Rattle.cfdp_tree.proofs.OfNodes.NodeLaws.{content_only, nodes-kept, nodes-written}
 use Rattle.cfdp_tree.proofs.OfRuns.RunLaws.{KeepsFrom, nth_part, kept_run, kept_octets, kept_nth, linked_run, linked_nth, linked_before, linked_octets}
 
 -- a block that is written is live

@@ -12,7 +12,8 @@ use Rattle.cfdp_tree.specs.declared.runs.Run.{Run}
 use Rattle.cfdp_tree.specs.code.Nodes.{only_node, nodes_in}
 use Rattle.cfdp_tree.specs.code.Tree.{IsNode}
 use Rattle.cfdp_tree.specs.code.Runs.{IsRunPart, IsRun, nth, IsHeld, OtherRunsStay, Apart, Stays, RunsStay, Spares}
-use Rattle.cfdp_tree.proofs.OfNodes.NodeLaws.{content_only, no_live}
+use Rattle.cfdp_arena.proofs.Chains.{no_live}
+use Rattle.cfdp_tree.proofs.OfNodes.NodeLaws.{content_only}
 use Rattle.cfdp_tree.proofs.OfNodes.TreeLaws.{node_there}
 use Rattle.cfdp_tree.proofs.OfRuns.RunLaws.{KeepsFrom, kept_run, kept_octets, kept_nth}
 use Rattle.cfdp_tree.proofs.OfRuns.HeldLaws.{held_others, octets_others, nth_others}

@@ -16,7 +16,7 @@ use Rattle.cfdp_tree.specs.code.Runs.{nth, IsHeld, IsAt, Spares}
 use Rattle.cfdp_tree.specs.code.Files.{SameOctets}
 use Rattle.cfdp_tree.specs.code.Ways.{HasWays, WaysStay, KeepsWays}
 use Rattle.cfdp_tree.proofs.OfRuns.HeldLaws.{held_part}
-use Rattle.cfdp_tree.proofs.OfNodes.NodeLaws.{no_live}
+use Rattle.cfdp_arena.proofs.Chains.{no_live}
 
 -- the same blocks, with the same ways
 module _ (was now : List Way) (f g : ℕ → ℕ) (n : ℕ) (many : length now ≡ length was) (same : (k : ℕ) → k < n → g k ≡ f k) (stay : (k : ℕ) → k < n →

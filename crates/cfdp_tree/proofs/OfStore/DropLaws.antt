@@ -12,7 +12,7 @@ use Rattle.std.specs.FinMap as finite
 use Rattle.std.specs.Prelude.{IsSome, IfNone}
 use Rattle.cfdp_paths.specs.Paths.{Name, Path, path_cmp}
 use Rattle.cfdp_arena.specs.Arena.{Blocks, octets_at, octets_of, without_block, free_count}
-use Rattle.cfdp_arena.proofs.Chains.{live_within}
+use Rattle.cfdp_arena.proofs.Chains.{live_within, no_live}
 use Rattle.cfdp_actions.specs.declared.kind.Kind.{Kind}
 use Rattle.cfdp_actions.specs.declared.kind.Kind.TheVariants as kind
 use Rattle.cfdp_actions.specs.Filestore.{Node, Filestore, Becomes, node_at, weight, blocks, blocks_of, is_directory, has_entries}
@@ -42,7 +42,6 @@ use Rattle.cfdp_tree.proofs.OfNodes.RemoveLaws.{removed_tree, removed_shows}
 use Rattle.cfdp_tree.proofs.OfIndex.OutLaws.{index_deleted}
 use Rattle.cfdp_tree.proofs.OfStore.AlikeLaws.{Alike, alike_relinked, alike_node, alike_shows, held_is, stays_then}
 use Rattle.cfdp_tree.proofs.OfStore.ChangedLaws.{IsLeft, nodes_seen, nodes_store}
-use Rattle.cfdp_tree.proofs.OfNodes.NodeLaws.{no_live}
 
 node_weight : (arena : Blocks) (k : Kind) (fields : NodeFields) → length (contents_in arena (contents_of_fields k fields)) ≡ (contents_of_fields k fields).size
     → weight (Some (node_with arena k (contents_of_fields k fields))) ≡ 1 + blocks_of (contents_of_fields k fields).size

@@ -33,7 +33,7 @@ use Rattle.cfdp_tree.proofs.OfRuns.ContentsLaws.{none_filled}
 use Rattle.cfdp_tree.proofs.OfStore.SlotCursors.{slot_starts}
 use Rattle.cfdp_tree.proofs.OfRuns.WayLaws.{ways_none}
 use Rattle.cfdp_tree.proofs.OfStore.ShowLaws.{tree_shows, shown_same}
-use Rattle.cfdp_tree.proofs.OfNodes.NodeLaws.{no_live}
+use Rattle.cfdp_arena.proofs.Chains.{no_live}
 
 pub head_none : (head : ListHead) → head.first ≡ 0 → head.listed ≡ 0 → head.unlisted ≡ 0 → head ≡ no_head
 head_none head first listed unlisted = (λ k. record { first = first k; listed = listed k; unlisted = unlisted k })

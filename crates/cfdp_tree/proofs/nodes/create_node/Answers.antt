@@ -13,7 +13,7 @@ use Rattle.cfdp_tree.proofs.OfNodes.TreeLaws.{node_live}
 use Rattle.cfdp_tree.proofs.OfRuns.SpareLaws.{runs_stay_taken}
 use Rattle.cfdp_tree.proofs.OfNodes.WriteLaws.{created_octets, created_nodes, home_written}
 use Rattle.cfdp_tree.proofs.nodes.create_node.Goals as goal
-use Rattle.cfdp_tree.proofs.OfNodes.NodeLaws.{no_live}
+use Rattle.cfdp_arena.proofs.Chains.{no_live}
 
 pub returns-clause-nodes : goal.returns-clause-nodes
 returns-clause-nodes c =

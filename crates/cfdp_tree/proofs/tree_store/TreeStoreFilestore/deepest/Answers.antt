@@ -9,7 +9,7 @@ use Rattle.cfdp_tree.specs.code.Orders.{in_order}
 use Rattle.cfdp_tree.specs.code.Walk.{walks, walk_from, most_names_in, AreAtDepth}
 use Rattle.cfdp_tree.specs.code.NodesBelow.{AreNodesBelow}
 use Rattle.cfdp_tree.proofs.OfStore.SeenLaws.{shows, seen_none}
-use Rattle.cfdp_tree.proofs.OfNodes.NodeLaws.{no_live}
+use Rattle.cfdp_arena.proofs.Chains.{no_live}
 use Rattle.cfdp_tree.proofs.OfWalks.WalkLaws.{directory_deep, one_deeper}
 use Rattle.cfdp_tree.proofs.OfWalks.DeepestLaws.{deepest_is}
 use Rattle.cfdp_tree.proofs.OfWalks.NodesBelowLaws.{nodes_from, some_node}
