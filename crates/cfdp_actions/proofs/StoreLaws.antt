@@ -19,6 +19,7 @@ use Rattle.std.proofs.lemmas.Bool.Decides.{nat_tests}
 use Rattle.std.proofs.lemmas.List.{length-map}
 use Rattle.std.proofs.Math.Nat.{mul-zero}
 use Rattle.std.proofs.lemmas.List.Folds.{sum_by-replicate}
+use Rattle.cfdp_status.proofs.Choices.{turned}
 use Rattle.cfdp_paths.specs.Paths.{Path, path_cmp, same_path, is_at_or_below, is_below, parent, rebased}
 use Rattle.cfdp_paths.specs.PathMaps.{without, tree_in, rest_in, any_below, puts, moved_to}
 use Rattle.cfdp_paths.proofs.Below.{parent-take}
@@ -64,10 +65,6 @@ pub entries_retained : (es : List (Path × Node)) (test : Path → Bool) → is_
     finite.entries (finite.retain_keys (finite.from_sorted {R = path_cmp} es) test) ≡ where_key path_cmp test es
 entries_retained es test s =
     ap finite.entries (retain_is es test s) ∙ entries-from_sorted path_cmp (where_key path_cmp test es) (is_sorted-where_key path_cmp test es (T_from_true _ s))
-
-turned : {A : Type 0} (b : Bool) (x y : A) → (if not b then x else y) ≡ (if b then y else x)
-turned true x y = refl
-turned false x y = refl
 
 pub remove_is : (es : List (Path × Node)) (k : Path) → is_sorted path_cmp es ≡ true → finite.remove (finite.from_sorted {R = path_cmp} es) k
     ≡ finite.from_sorted (without k es)

@@ -1,5 +1,6 @@
 -- The status that answers a request speaks of its action.
 use Rattle.std.proofs.Common.{◌≡◌, ℕ, ◌-◌, Bool, true, false, List, [], Option, Some, None, refl, cond, subst, sym, ap, ◌∙◌}
+use Rattle.cfdp_status.proofs.Choices.{either_way}
 use Rattle.cfdp_status.specs.Codes.{action_of}
 use Rattle.cfdp_status.specs.declared.action.Action.{Action}
 use Rattle.cfdp_status.specs.declared.action.Action.TheVariants as action
@@ -19,10 +20,6 @@ use Rattle.cfdp_commands.specs.Plain.{PlainState, when_stopped, performed_on, st
 abbrev SpeaksOf : Action → Outcome → Type 0
 SpeaksOf action outcome = action_of (status_in action outcome.answer) ≡ action
 
-SpeaksOf-if : (action : Action) (b : Bool) (x y : Outcome) → SpeaksOf action x → SpeaksOf action y → SpeaksOf action (cond b x y)
-SpeaksOf-if action true x y p q = p
-SpeaksOf-if action false x y p q = q
-
 create_speaks : (action : Action) (node : Node) (p : Path) (old : Option Node) (good : Bool) → SpeaksOf action (create action node p old good)
 unfolding create
 create_speaks action node p None true = refl
@@ -41,7 +38,7 @@ rename_speaks p q None b good below es = refl
 rename_speaks p q (Some a) (Some b) good below es = refl
 rename_speaks p q (Some a) None false below es = refl
 rename_speaks p q (Some a) None true true es = refl
-rename_speaks p q (Some a) None true false es = SpeaksOf-if action.RenameFile (is_too_deep p q es) _ _ refl refl
+rename_speaks p q (Some a) None true false es = either_way (SpeaksOf action.RenameFile) (is_too_deep p q es) _ _ refl refl
 
 append_speaks : (p : Path) (a b : Option Node) → SpeaksOf action.AppendFile (append p a b)
 unfolding append
@@ -97,8 +94,8 @@ table_speaks F (DenyDirectory p) = deny_directory_speaks p (node_at F p) (has_en
 act_speaks : (prefixes : List Path) (F : Filestore) (free : ℕ) (request : Request) → SpeaksOf (action_in request) (act prefixes F free request)
 act_speaks prefixes F free request =
     let row : Outcome = cond (bars prefixes request) (denied (Perform request)) (table F request) in
-    SpeaksOf-if (action_in request) (nat_le row.taken (free + row.given)) row (denied (Perform request))
-    (SpeaksOf-if (action_in request) (bars prefixes request) (denied (Perform request)) (table F request) refl (table_speaks F request))
+    either_way (SpeaksOf (action_in request)) (nat_le row.taken (free + row.given)) row (denied (Perform request))
+    (either_way (SpeaksOf (action_in request)) (bars prefixes request) (denied (Perform request)) (table F request) refl (table_speaks F request))
     refl
 
 made_speaks : (F : Filestore) (free : ℕ) (a : Action) (request : Request) → action_in request ≡ a → SpeaksOf a (act [] F free request)

@@ -3,7 +3,7 @@
 --     harmless_octet, harmless      what is written of an octet, and of a text
 use Rattle.std.proofs.Common.{◌≡◌, refl, ℕ, ◌+◌, ◌/◌, ◌%◌, ◌<◌, ◌==◌, ◌&&◌, not, Bool, true, false, nat_lt, nat_le, if◌then◌else◌, arith, List, [], ◌∷◌, ◌++◌, codes}
 use Rattle.std.specs.List.{AllByRecursion}
-use Rattle.std.proofs.lemmas.Bool.{and_parts}
+use Rattle.std.proofs.lemmas.Bool.{and_parts, cond_both}
 use Rattle.cfdp_draw.specs.Words.{EscapedIsHarmless, IsHarmless, digit_of, escaped, escaped_octet, is_plain_in_xml}
 
 pub harmless_digit : (value : ℕ) → value < 16 → IsHarmless (digit_of value)
@@ -34,18 +34,13 @@ all_known [] is = tt
 all_known (octet ∷ rest) is =
     (known octet (and_parts (is_harmless octet) (are_harmless rest) is).0, all_known rest (and_parts (is_harmless octet) (are_harmless rest) is).1)
 
-pub choose : (b : Bool) (x y : List ℕ) → (b ≡ true → AllByRecursion IsHarmless x) → (b ≡ false → AllByRecursion IsHarmless y) →
-    AllByRecursion IsHarmless (if b then x else y)
-choose true x y held missed = held refl
-choose false x y held missed = missed refl
-
 pub harmless_octet : (octet : ℕ) → octet < 256 → AllByRecursion IsHarmless (escaped_octet octet)
 harmless_octet octet within =
-    choose (octet == 38) (codes "&amp;") _ (λ is. all_known (codes "&amp;") refl) (λ amp.
-    choose (octet == 60) (codes "&lt;") _ (λ is. all_known (codes "&lt;") refl) (λ less.
-    choose (octet == 62) (codes "&gt;") _ (λ is. all_known (codes "&gt;") refl) (λ greater.
-    choose (octet == 34) (codes "&quot;") _ (λ is. all_known (codes "&quot;") refl) (λ quote.
-    choose (is_plain_in_xml octet) (octet ∷ []) (37 ∷ digit_of (octet / 16) ∷ digit_of (octet % 16) ∷ [])
+    cond_both (octet == 38) (codes "&amp;") _ (AllByRecursion IsHarmless) (λ is. all_known (codes "&amp;") refl) (λ amp.
+    cond_both (octet == 60) (codes "&lt;") _ (AllByRecursion IsHarmless) (λ is. all_known (codes "&lt;") refl) (λ less.
+    cond_both (octet == 62) (codes "&gt;") _ (AllByRecursion IsHarmless) (λ is. all_known (codes "&gt;") refl) (λ greater.
+    cond_both (octet == 34) (codes "&quot;") _ (AllByRecursion IsHarmless) (λ is. all_known (codes "&quot;") refl) (λ quote.
+    cond_both (is_plain_in_xml octet) (octet ∷ []) (37 ∷ digit_of (octet / 16) ∷ digit_of (octet % 16) ∷ []) (AllByRecursion IsHarmless)
     (λ plain. (record { no_less = grind arith; no_greater = grind arith; no_quote = grind arith; printed = grind arith; ascii = grind arith }, tt))
     (λ other. (known 37 refl, (harmless_digit (octet / 16) (omega arith), (harmless_digit (octet % 16) (omega arith), tt))))))))
 

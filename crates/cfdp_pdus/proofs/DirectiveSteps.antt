@@ -1,6 +1,7 @@
 -- A data field that is no file data's gives no File Data PDU.
-use Rattle.std.proofs.Common.{◌≡◌, ℕ, List, [], ◌∷◌, Bool, true, false, Result, Ok, Err}
+use Rattle.std.proofs.Common.{◌≡◌, ℕ, List, [], ◌∷◌, Bool, false, Result, Ok, Err}
 use Rattle.std.specs.Prelude.{◌==◌, if◌then◌else◌}
+use Rattle.cfdp_status.proofs.Choices.{either_way}
 use Rattle.cfdp_tlv.specs.Reading.{◌>>=◌}
 use Rattle.cfdp_pdus.specs.declared.header.Header.{Header}
 use Rattle.cfdp_pdus.specs.declared.eof.Eof.{Eof}
@@ -15,8 +16,7 @@ record Other (read : Result Pdu PduFault) : Type 0 where
   pub is_other : IsNoFileData read
 
 chosen : (b : Bool) {x y : Result Pdu PduFault} → Other x → Other y → Other (if b then x else y)
-chosen true left right = left
-chosen false left right = right
+chosen b left right = either_way Other b _ _ left right
 
 metadata : (header : Header) (read : Result MetadataFields PduFault) → Other (read >>= λ m. Ok (pdus.Metadata header m))
 metadata header (Ok m) = record { is_other = tt }

@@ -1,6 +1,7 @@
 -- No octets have the fault that memory ran out.
 use Rattle.std.proofs.Common.{ℕ, ◌%◌, ◌/◌, ◌+◌, ◌*◌, List, [], ◌∷◌, length, Bool, true, false, Option, Some, None, Result, Ok, Err, ◌≡◌, subst}
 use Rattle.std.specs.Prelude.{⊤, ◌==◌, nat_lt, nat_le, ◌&&◌, if◌then◌else◌}
+use Rattle.cfdp_status.proofs.Choices.{either_way}
 use Rattle.cfdp_tlv.specs.Reading.{◌>>=◌}
 use Rattle.cfdp_tlv.specs.Field.{lv_at}
 use Rattle.cfdp_tlv.specs.Grammar.{request_at, response_at}
@@ -32,8 +33,7 @@ fault : {A : Type 0} {fault : PduFault} → IsOfOctets fault → OfOctets {A = A
 fault is = record { are = is }
 
 chosen : {A : Type 0} (b : Bool) {x y : Result A PduFault} → OfOctets x → OfOctets y → OfOctets (if b then x else y)
-chosen true left right = left
-chosen false left right = right
+chosen b left right = either_way OfOctets b _ _ left right
 
 following : {A B : Type 0} {read : Result A PduFault} {next : A → Result B PduFault} → OfOctets read → ((x : A) → OfOctets (next x)) → OfOctets (read >>= next)
 following {read = Ok x} here there = there x

@@ -2,6 +2,7 @@
 use Rattle.std.proofs.Common.{◌≡◌, ◌<◌, ◌≤◌, ℕ, zero, suc, ◌-◌, ◌%◌, List, [], ◌∷◌, ◌++◌, length, drop, Bool, true, false, eqb, cond, Option, Some, None, Result, Ok, Err, refl, sym, ap, ◌∙◌, append_assoc, arith}
 use Rattle.std.specs.Prelude.{slice_get}
 use Rattle.std.proofs.lemmas.List.{drop_at, length-append}
+use Rattle.cfdp_status.proofs.Choices.{either_way}
 use Rattle.cfdp_tlv.specs.Field.{lv, tlv_at}
 use Rattle.cfdp_tlv.specs.declared.fault.TlvFault.{TlvFault}
 use Rattle.cfdp_tlv.specs.Reading.{◌>>=◌}
@@ -253,8 +254,7 @@ record Silent (read : Result Pdu PduFault) (field : List ℕ) : Type 0 where
   none : messages_of read field ≡ []
 
 chosen : (b : Bool) {x y : Result Pdu PduFault} {field : List ℕ} → Silent x field → Silent y field → Silent (cond b x y) field
-chosen true left right = left
-chosen false left right = right
+chosen b left right = either_way (λ (r : Result Pdu PduFault). Silent r field) b _ _ left right
 
 file_data : (header : Header) (read : Result FileDataFields PduFault) (field : List ℕ) → Silent (read >>= λ d. Ok (pdus.FileData header d)) field
 file_data header (Ok d) field = record { none = refl }

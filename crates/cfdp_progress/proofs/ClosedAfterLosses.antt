@@ -3,6 +3,7 @@ use Rattle.std.specs.Prelude.{if◌then◌else◌, ◌==◌, take}
 use Rattle.std.specs.List.{AllByRecursion, flat_map, list_any}
 use Rattle.std.proofs.Common.{◌≡◌, ◌⊎◌, inl, inr, ℕ, ◌+◌, ◌<◌, ◌≤◌, Bool, true, false, ◌&&◌, List, [], ◌∷◌, ◌++◌, length, Option, Some, None, refl, sym, ap, subst, ◌∙◌, append_assoc, arith}
 use Rattle.std.proofs.lemmas.Bool.{cond-true, cond-false, cases_Bool, and_parts, and_left, and_right, or_left, or_from, both_ways}
+use Rattle.cfdp_status.proofs.Choices.{either_way}
 use Rattle.cfdp_status.specs.declared.transaction.TransactionId.{TransactionId}
 use Rattle.cfdp_leases.specs.Leases.{is_same}
 use Rattle.cfdp_pdus.specs.Values.{MetadataFields, FileDataFields}
@@ -50,17 +51,12 @@ data TurnsWaiting (R : State) (i : Input) (id : TransactionId) (s : SessionField
 abbrev KeepsWaiting : TransactionId → SessionFields → Turning.Parts → Type 0
 KeepsWaiting id s p = found p.sessions id ≡ Some s
 
-kept_if : (id : TransactionId) (s : SessionFields) (b : Bool) (p q : Turning.Parts) → KeepsWaiting id s p → KeepsWaiting id s q →
-    KeepsWaiting id s (if b then p else q)
-kept_if id s true p q hp hq = hp
-kept_if id s false p q hp hq = hq
-
 -- a PDU: by what becomes of it where the session is found
 pdu_kept : (R L : State) (h : Header) (s : SessionFields) (parts : Option SessionFields → Turning.Parts) → L.sessions ≡ R.sessions →
     session_of R (id_of h) ≡ Some s → KeepsWaiting (id_of h) s (parts (Some s)) →
     KeepsWaiting (id_of h) s (Turning.where_ours L h (parts (session_of R (id_of h))))
 pdu_kept R L h s parts same here kept =
-    kept_if (id_of h) s (Handing.is_ours L h) (parts (session_of R (id_of h))) (Turning.keeps L (Turning.quiet (Turning.foreign h)))
+    either_way (KeepsWaiting (id_of h) s) (Handing.is_ours L h) (parts (session_of R (id_of h))) (Turning.keeps L (Turning.quiet (Turning.foreign h)))
     (subst (λ (o : Option SessionFields). KeepsWaiting (id_of h) s (parts o)) (sym here) kept)
     (ap (λ (ss : List SessionFields). found ss (id_of h)) same ∙ here)
 

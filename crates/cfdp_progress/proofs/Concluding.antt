@@ -3,6 +3,7 @@ use Rattle.std.specs.Prelude.{not, ◌==◌, if◌then◌else◌, is_some, slice
 use Rattle.std.proofs.Common.{◌≡◌, ◌⊎◌, inl, inr, ℕ, zero, suc, Bool, true, false, ◌&&◌, ◌||◌, List, [], ◌∷◌, drop, Option, Some, None, refl, sym, ap, subst, ◌∙◌}
 use Rattle.std.proofs.lemmas.Bool.{cond_both, cond-true, cond-false, cases_Bool, and_parts, not-true, both_ways}
 use Rattle.std.proofs.lemmas.Option.{same_Some}
+use Rattle.cfdp_status.proofs.Choices.{either_way}
 use Rattle.cfdp_status.specs.declared.transaction.TransactionId.{TransactionId}
 use Rattle.cfdp_leases.specs.Leases.{is_same}
 use Rattle.cfdp_actions.specs.Actions.{Item, succeeded}
@@ -192,11 +193,6 @@ still_if : (W : World) (id : TransactionId) (b : Bool) (es : List Event) (p q : 
 still_if W id true es p q hp hq = hp
 still_if W id false es p q hp hq = hq
 
-still_either : (V : World) (id : TransactionId) (b : Bool) (p q : Turning.Parts) → KnownStill V p.sessions id → KnownStill V q.sessions id →
-    KnownStill V (if b then p else q).sessions id
-still_either V id true p q hp hq = hp
-still_either V id false p q hp hq = hq
-
 -- ---- inputs of its own
 
 abbrev After : State → Input → TransactionId → Type 0
@@ -290,7 +286,7 @@ own_ack : (R : State) (now : ℕ) (h : Header) (ack : Ack) (s : SessionFields) �
     After R (AckPdu now h ack) (id_of h)
 own_ack R now h ack s here known p =
     let L = Handing.later now R in
-    still_either R.world (id_of h) (Handing.is_ours L h) (Turning.ack_parts L h ack (session_of L (id_of h)))
+    either_way (λ (parts : Turning.Parts). KnownStill R.world parts.sessions (id_of h)) (Handing.is_ours L h) (Turning.ack_parts L h ack (session_of L (id_of h)))
     (Turning.keeps L (Turning.quiet (Turning.foreign h)))
     (subst (λ (o : Option SessionFields). KnownStill R.world (Turning.ack_parts L h ack o).sessions (id_of h)) (sym here)
     (ack_stage R L h ack s s.stage refl here known p known))
@@ -302,10 +298,10 @@ own_prompt R now h prompt s here known p =
     let L = Handing.later now R in
     let r = roused_is L s in
     let kept = kept_still R R.world (id_of h) s here known p in
-    still_either R.world (id_of h) (Handing.is_ours L h) (Turning.prompt_parts L h prompt (session_of L (id_of h)))
+    either_way (λ (parts : Turning.Parts). KnownStill R.world parts.sessions (id_of h)) (Handing.is_ours L h) (Turning.prompt_parts L h prompt (session_of L (id_of h)))
     (Turning.keeps L (Turning.quiet (Turning.foreign h)))
     (subst (λ (o : Option SessionFields). KnownStill R.world (Turning.prompt_parts L h prompt o).sessions (id_of h)) (sym here)
-    (still_either R.world (id_of h) (s.header.acknowledged && Turning.takes_prompts (at_of L.world s))
+    (either_way (λ (parts : Turning.Parts). KnownStill R.world parts.sessions (id_of h)) (s.header.acknowledged && Turning.takes_prompts (at_of L.world s))
     (Turning.replaces_one L (Turning.roused L s) (Turning.prompted L h s prompt)) (Turning.keeps L (Turning.said_of_header h words.Idle))
     (put_still R R.world (id_of h) s (Turning.roused L s) here known r.1 r.0 p) kept))
     kept
@@ -315,7 +311,7 @@ own_other : (R : State) (now : ℕ) (h : Header) (s : SessionFields) → session
 own_other R now h s here known p =
     let L = Handing.later now R in
     let kept = kept_still R R.world (id_of h) s here known p in
-    still_either R.world (id_of h) (Handing.is_ours L h) (Turning.keeps L (Turning.quiet became.NotOurs))
+    either_way (λ (parts : Turning.Parts). KnownStill R.world parts.sessions (id_of h)) (Handing.is_ours L h) (Turning.keeps L (Turning.quiet became.NotOurs))
     (Turning.keeps L (Turning.quiet (Turning.foreign h))) kept kept
 
 cancel_stage : (R L : State) (rs : List Reply) (id : TransactionId) (s : SessionFields) (stage : Stage) → L.sessions ≡ R.sessions →

@@ -2,6 +2,7 @@
 use Rattle.std.specs.Prelude.{if◌then◌else◌, ◌==◌}
 use Rattle.std.proofs.Common.{◌≡◌, ◌⊎◌, inl, inr, ℕ, zero, suc, ◌+◌, ◌<◌, ◌≤◌, Bool, true, false, not, ◌&&◌, ◌||◌, List, [], ◌∷◌, map, take, length, Option, Some, None, refl, sym, ap, subst, ◌∙◌, arith}
 use Rattle.std.proofs.lemmas.Bool.{cond_both, cond-true, cond-false, cases_Bool, and_from, or_parts, or_from, eq-eqb, lt-ltb, both_ways}
+use Rattle.cfdp_status.proofs.Choices.{either_way}
 use Rattle.cfdp_status.specs.declared.transaction.TransactionId.{TransactionId}
 use Rattle.cfdp_leases.specs.Leases.{is_same}
 use Rattle.cfdp_pdus.specs.Values.{MetadataFields, FileDataFields}
@@ -40,7 +41,7 @@ use Rattle.cfdp_receiver.proofs.TurnShapes.{others_stay}
 use Rattle.cfdp_progress.specs.Awaiting.{is_ignoring, is_given_up, breaks_off}
 use Rattle.cfdp_progress.specs.HeldRounds.{is_eof_held, holds_in, EofHolds, BeginsHeldRound, asks_first, joins_held, comes, StaysHeld}
 use Rattle.cfdp_progress.specs.NakRounds.{is_asking, asks_again, IsServed}
-use Rattle.cfdp_progress.proofs.Turns.{Quiet, kept_quiet, put_quiet, quiet_none_if, quiet_prompt, quiet_other, ignored_by, right_since}
+use Rattle.cfdp_progress.proofs.Turns.{Quiet, kept_quiet, put_quiet, quiet_prompt, quiet_other, ignored_by, right_since}
 use Rattle.cfdp_receiver.proofs.Serving.{full_of}
 use Rattle.cfdp_progress.proofs.ClosedAfterLosses.{served_is}
 use Rattle.cfdp_leases.proofs.Held.{same_itself}
@@ -151,7 +152,8 @@ held_ack : (R : State) (now : ℕ) (h : Header) (ack : Ack) (s : SessionFields) 
 held_ack R now h ack s here held =
     let L = Handing.later now R in
     let id = id_of h in
-    quiet_none_if R id s false (Handing.is_ours L h) (Turning.ack_parts L h ack (session_of L id)) (Turning.keeps L (Turning.quiet (Turning.foreign h)))
+    either_way (λ (parts : Turning.Parts). Stays R id s false parts.sessions) (Handing.is_ours L h) (Turning.ack_parts L h ack (session_of L id))
+    (Turning.keeps L (Turning.quiet (Turning.foreign h)))
     (subst (λ (o : Option SessionFields). Stays R id s false (Turning.ack_parts L h ack o).sessions) (sym here) (stays_ack R now h ack s s.stage here held))
     (kept_quiet R id s false here)
 

@@ -2,6 +2,7 @@
 use Rattle.std.specs.Prelude.{if◌then◌else◌, ◌==◌}
 use Rattle.std.proofs.Common.{◌≡◌, inl, inr, ℕ, ◌+◌, ◌≤◌, Bool, true, false, not, ◌&&◌, List, [], ◌∷◌, length, Option, Some, None, refl, sym, ap, subst, ◌∙◌, arith}
 use Rattle.std.proofs.lemmas.Bool.{cond_both, cond-true, cond-false, cases_Bool, and_parts, and_from, and_left, and_right, eq-eqb, eqb-true, both_ways}
+use Rattle.cfdp_status.proofs.Choices.{either_way}
 use Rattle.cfdp_status.specs.declared.transaction.TransactionId.{TransactionId}
 use Rattle.cfdp_leases.specs.Leases.{is_same}
 use Rattle.cfdp_pdus.specs.Values.{MetadataFields, FileDataFields}
@@ -202,17 +203,11 @@ quiet_ack_stage R L h ack s Known here same k =
 quiet_ack_stage R L h ack s (OverStage ending) here same k = absurd cc
 quiet_ack_stage R L h ack s Waiting here same k = absurd cc
 
-pub quiet_none_if : (R : State) (id : TransactionId) (s : SessionFields) (again b : Bool) (p q : Turning.Parts) → Quiet R.world id s again R.world p.sessions →
-    Quiet R.world id s again R.world q.sessions →
-    Quiet R.world id s again R.world (if b then p else q).sessions
-quiet_none_if R id s again true p q hp hq = hp
-quiet_none_if R id s again false p q hp hq = hq
-
 quiet_ack : (R : State) (now : ℕ) (h : Header) (ack : Ack) (s : SessionFields) → session_of R (id_of h) ≡ Some s → s.stage ≡ Known →
     Quiet R.world (id_of h) s false R.world (Turning.after_input R (AckPdu now h ack)).sessions
 quiet_ack R now h ack s here known =
     let L = Handing.later now R in
-    quiet_none_if R (id_of h) s false (Handing.is_ours L h) (Turning.ack_parts L h ack (session_of L (id_of h)))
+    either_way (λ (parts : Turning.Parts). Quiet R.world (id_of h) s false R.world parts.sessions) (Handing.is_ours L h) (Turning.ack_parts L h ack (session_of L (id_of h)))
     (Turning.keeps L (Turning.quiet (Turning.foreign h)))
     (subst (λ (o : Option SessionFields). Quiet R.world (id_of h) s false R.world (Turning.ack_parts L h ack o).sessions) (sym here)
     (quiet_ack_stage R L h ack s s.stage here refl known))
@@ -233,10 +228,10 @@ quiet_prompt R now h prompt s here =
     let takes = s.header.acknowledged && Turning.takes_prompts (at_of L.world s) in
     let put = Turning.replaces_one L (Turning.roused L s) (Turning.prompted L h s prompt) in
     let idle = Turning.keeps L (Turning.said_of_header h words.Idle) in
-    quiet_none_if R (id_of h) s false (Handing.is_ours L h) (Turning.prompt_parts L h prompt (session_of L (id_of h)))
+    either_way (λ (parts : Turning.Parts). Quiet R.world (id_of h) s false R.world parts.sessions) (Handing.is_ours L h) (Turning.prompt_parts L h prompt (session_of L (id_of h)))
     (Turning.keeps L (Turning.quiet (Turning.foreign h)))
     (subst (λ (o : Option SessionFields). Quiet R.world (id_of h) s false R.world (Turning.prompt_parts L h prompt o).sessions) (sym here)
-    (quiet_none_if R (id_of h) s false takes put idle
+    (either_way (λ (parts : Turning.Parts). Quiet R.world (id_of h) s false R.world parts.sessions) takes put idle
     (put_quiet R (id_of h) s (Turning.roused L s) false R.world here refl r.0 r.1 (λ q. r.2)) (kept_quiet R (id_of h) s false here)))
     (kept_quiet R (id_of h) s false here)
 
@@ -244,7 +239,7 @@ pub quiet_other : (R : State) (now : ℕ) (h : Header) (s : SessionFields) → s
     Quiet R.world (id_of h) s false R.world (Turning.after_input R (OtherPdu now h)).sessions
 quiet_other R now h s here =
     let L = Handing.later now R in
-    quiet_none_if R (id_of h) s false (Handing.is_ours L h) (Turning.keeps L (Turning.quiet became.NotOurs))
+    either_way (λ (parts : Turning.Parts). Quiet R.world (id_of h) s false R.world parts.sessions) (Handing.is_ours L h) (Turning.keeps L (Turning.quiet became.NotOurs))
     (Turning.keeps L (Turning.quiet (Turning.foreign h)))
     (kept_quiet R (id_of h) s false here) (kept_quiet R (id_of h) s false here)
 

@@ -1,8 +1,8 @@
 -- How often a Finished PDU is sent.
-use Rattle.std.specs.Prelude.{if◌then◌else◌}
 use Rattle.std.proofs.Common.{◌≡◌, ◌≢◌, ◌⊎◌, inl, inr, ℕ, ◌+◌, ◌<◌, Bool, true, false, ◌&&◌, List, [], ◌∷◌, length, Option, Some, None, refl, sym, ap, subst, ◌∙◌, arith}
 use Rattle.std.proofs.lemmas.Bool.{cond-true, cond-false, cases_Bool, and_parts, both_ways}
 use Rattle.std.proofs.lemmas.Option.{same_Some}
+use Rattle.cfdp_status.proofs.Choices.{either_way}
 use Rattle.cfdp_status.specs.declared.transaction.TransactionId.{TransactionId}
 use Rattle.cfdp_leases.specs.Leases.{is_same}
 use Rattle.cfdp_pdus.specs.Values.{MetadataFields, FileDataFields}
@@ -97,15 +97,10 @@ data Waits (R : State) (id : TransactionId) (s : SessionFields) (p : Turning.Par
       (room : s.timer.count + 1 < R.mib.ack.limit) → (one : length p.answer.finished ≡ 1) → Waits R id s p
   Gone : (here : found p.sessions id ≡ None) → (quiet : p.answer.finished ≡ []) → Waits R id s p
 
-waits_if : (R : State) (id : TransactionId) (s : SessionFields) (b : Bool) (p q : Turning.Parts) → Waits R id s p → Waits R id s q →
-    Waits R id s (if b then p else q)
-waits_if R id s true p q hp hq = hp
-waits_if R id s false p q hp hq = hq
-
 -- a PDU of this transaction, where its session waits
 ours_waits : (R : State) (h : Header) (s : SessionFields) (p : Turning.Parts) → found R.sessions (id_of h) ≡ Some s → Waits R (id_of h) s p →
     Waits R (id_of h) s (Turning.where_ours R h p)
-ours_waits R h s p e w = waits_if R (id_of h) s (Handing.is_ours R h) p (Turning.keeps R (Turning.quiet (Turning.foreign h))) w (Same e refl)
+ours_waits R h s p e w = either_way (Waits R (id_of h) s) (Handing.is_ours R h) p (Turning.keeps R (Turning.quiet (Turning.foreign h))) w (Same e refl)
 
 waits_metadata : (R : State) (V : World) (rs : List Reply) (h : Header) (m : MetadataFields) (s : SessionFields) (stage : Stage) → found R.sessions (id_of h)
     ≡ Some s → stage ≡ Waiting →
@@ -150,7 +145,7 @@ waits_ack R h ack s (Held eof) d e name w = absurd cc
 waits_ack R h ack s Known d e name w = absurd cc
 waits_ack R h ack s (OverStage ending) d e name w = absurd cc
 waits_ack R h ack s Waiting d e name w =
-    waits_if R (id_of h) s _ (Turning.closes R (session_id s) (Turning.said_of_header h _)) (Turning.keeps R (Turning.said_of_header h _))
+    either_way (Waits R (id_of h) s) _ (Turning.closes R (session_id s) (Turning.said_of_header h _)) (Turning.keeps R (Turning.said_of_header h _))
     (closes_it R (id_of h) s _ d name refl) (Same e refl)
 
 pub at_waiting : (W : World) (s : SessionFields) → s.stage ≡ Waiting → at_of W s ≡ At_waiting
@@ -292,7 +287,7 @@ waits_of R V rs (AckPdu now h ack) id s d e w ne same =
 waits_of R V rs (PromptPdu now h prompt) id s d e w ne same = waits_pdu R h id s (Turning.prompt_parts R h prompt) e same
     (λ here. waits_prompt R h prompt s here w)
 waits_of R V rs (OtherPdu now h) id s d e w ne same =
-    waits_if R id s (Handing.is_ours R h) (Turning.keeps R (Turning.quiet became.NotOurs)) (Turning.keeps R (Turning.quiet (Turning.foreign h))) (Same e refl)
+    either_way (Waits R id s) (Handing.is_ours R h) (Turning.keeps R (Turning.quiet became.NotOurs)) (Turning.keeps R (Turning.quiet (Turning.foreign h))) (Same e refl)
     (Same e refl)
 waits_of R V rs (Expire now) id s d e w ne same =
     waits_due R V id s (Dues.first_due R R.sessions) d e (found_name R.sessions id s e) w ne refl same

@@ -1,5 +1,6 @@
 -- When a Finished PDU is sent.
-use Rattle.std.proofs.Common.{◌≡◌, ◌⊎◌, inl, inr, ℕ, Bool, true, false, not, ◌&&◌, ◌||◌, ◌==◌, if◌then◌else◌, List, [], ◌∷◌, Option, Some, None, refl}
+use Rattle.std.proofs.Common.{◌≡◌, ◌⊎◌, inl, inr, ℕ, true, false, not, ◌&&◌, ◌||◌, ◌==◌, List, [], ◌∷◌, Option, Some, None, refl}
+use Rattle.cfdp_status.proofs.Choices.{either_way}
 use Rattle.cfdp_status.specs.declared.transaction.TransactionId.{TransactionId}
 use Rattle.cfdp_pdus.specs.Values.{MetadataFields, FileDataFields}
 use Rattle.cfdp_pdus.specs.declared.header.Header.{Header}
@@ -29,44 +30,40 @@ use Rattle.cfdp_receiver.specs.Laws.{Sent, None_sent, First_sent, Sent_again, Fi
 abbrev Quiet : Turning.Parts → Type 0
 Quiet p = p.answer.finished ≡ []
 
-quiet_if : (b : Bool) (p q : Turning.Parts) → Quiet p → Quiet q → Quiet (if b then p else q)
-quiet_if true p q hp hq = hp
-quiet_if false p q hp hq = hq
-
 quiet_metadata_stage : (R : State) (V : World) (rs : List Reply) (h : Header) (m : MetadataFields) (s : SessionFields) (stage : Stage) →
     Quiet (Turning.metadata_stage R V rs h m s stage)
-quiet_metadata_stage R V rs h m s (Held eof) = quiet_if h.acknowledged _ _ refl refl
+quiet_metadata_stage R V rs h m s (Held eof) = either_way Quiet h.acknowledged _ _ refl refl
 quiet_metadata_stage R V rs h m s Known = refl
 quiet_metadata_stage R V rs h m s (Over ending) = refl
 quiet_metadata_stage R V rs h m s Waiting = refl
 
 quiet_metadata : (R : State) (V : World) (rs : List Reply) (h : Header) (m : MetadataFields) (s : Option SessionFields) →
     Quiet (Turning.metadata_parts R V rs h m s)
-quiet_metadata R V rs h m None = quiet_if (is_closed R (id_of h) || is_full R) _ _ refl refl
+quiet_metadata R V rs h m None = either_way Quiet (is_closed R (id_of h) || is_full R) _ _ refl refl
 quiet_metadata R V rs h m (Some s) = quiet_metadata_stage R V rs h m s s.stage
 
 quiet_data : (R : State) (V : World) (rs : List Reply) (h : Header) (piece : FileDataFields) (s : Option SessionFields) →
     Quiet (Turning.data_parts R V rs h piece s)
 quiet_data R V rs h piece None = refl
-quiet_data R V rs h piece (Some s) = quiet_if (Turning.is_known s.stage) _ _ refl refl
+quiet_data R V rs h piece (Some s) = either_way Quiet (Turning.is_known s.stage) _ _ refl refl
 
 quiet_eof_stage : (R : State) (V : World) (rs : List Reply) (h : Header) (eof : Eof) (s : SessionFields) (stage : Stage) →
     Quiet (Turning.eof_stage R V rs h eof s stage)
-quiet_eof_stage R V rs h eof s (Held kept) = quiet_if (eof.condition == 0) _ _ refl refl
+quiet_eof_stage R V rs h eof s (Held kept) = either_way Quiet (eof.condition == 0) _ _ refl refl
 quiet_eof_stage R V rs h eof s Known = refl
 quiet_eof_stage R V rs h eof s (Over ending) = refl
 quiet_eof_stage R V rs h eof s Waiting = refl
 
 quiet_eof : (R : State) (V : World) (rs : List Reply) (h : Header) (eof : Eof) (s : Option SessionFields) → Quiet (Turning.eof_parts R V rs h eof s)
 quiet_eof R V rs h eof None =
-    quiet_if (is_closed R (id_of h) || not (eof.condition == 0) || not h.acknowledged) _ _ refl (quiet_if (is_full R) _ _ refl refl)
+    either_way Quiet (is_closed R (id_of h) || not (eof.condition == 0) || not h.acknowledged) _ _ refl (either_way Quiet (is_full R) _ _ refl refl)
 quiet_eof R V rs h eof (Some s) = quiet_eof_stage R V rs h eof s s.stage
 
 quiet_ack_stage : (R : State) (h : Header) (ack : Ack) (s : SessionFields) (stage : Stage) → Quiet (Turning.ack_stage R h ack s stage)
 quiet_ack_stage R h ack s (Held eof) = refl
 quiet_ack_stage R h ack s Known = refl
 quiet_ack_stage R h ack s (Over ending) = refl
-quiet_ack_stage R h ack s Waiting = quiet_if (ack.directive == 5) _ _ refl refl
+quiet_ack_stage R h ack s Waiting = either_way Quiet (ack.directive == 5) _ _ refl refl
 
 quiet_ack : (R : State) (h : Header) (ack : Ack) (s : Option SessionFields) → Quiet (Turning.ack_parts R h ack s)
 quiet_ack R h ack None = refl
@@ -78,7 +75,7 @@ quiet_prompted R h s prompts.KeepAlive = refl
 
 quiet_prompt : (R : State) (h : Header) (prompt : Prompt) (s : Option SessionFields) → Quiet (Turning.prompt_parts R h prompt s)
 quiet_prompt R h prompt None = refl
-quiet_prompt R h prompt (Some s) = quiet_if (s.header.acknowledged && Turning.takes_prompts (at_of R.world s)) _ _ (quiet_prompted R h s prompt) refl
+quiet_prompt R h prompt (Some s) = either_way Quiet (s.header.acknowledged && Turning.takes_prompts (at_of R.world s)) _ _ (quiet_prompted R h s prompt) refl
 
 quiet_cancel_stage : (R : State) (rs : List Reply) (s : SessionFields) (stage : Stage) → Quiet (Turning.cancel_stage R rs s stage)
 quiet_cancel_stage R rs s (Held eof) = refl
@@ -128,17 +125,13 @@ waits_stage Waiting entry e = refl
 abbrev Repeated : SessionFields → List (List ℕ) → Type 0
 Repeated s sent = (sent ≡ []) ⊎ ((s.stage ≡ Waiting) × (sent ≡ s.finished ∷ []))
 
-asked_quiet : (b : Bool) (a c : AnswerFields) → a.finished ≡ [] → c.finished ≡ [] → (if b then a else c).finished ≡ []
-asked_quiet true a c ha hc = ha
-asked_quiet false a c ha hc = hc
-
 repeats_at : (R : State) (V : World) (s : SessionFields) (at : JointPhase) → at_of R.world s ≡ at → Repeated s (Turning.repeats R V s at).finished
 repeats_at R V s At_waiting e = inr (waits_stage s.stage (entry_of R.world (session_id s)) e, refl)
-repeats_at R V s At_held e = inl (asked_quiet s.header.acknowledged _ _ refl refl)
-repeats_at R V s At_receiving e = inl (asked_quiet s.header.acknowledged _ _ refl refl)
-repeats_at R V s (At_awaiting made) e = inl (asked_quiet s.header.acknowledged _ _ refl refl)
-repeats_at R V s At_executing e = inl (asked_quiet s.header.acknowledged _ _ refl refl)
-repeats_at R V s At_over e = inl (asked_quiet s.header.acknowledged _ _ refl refl)
+repeats_at R V s At_held e = inl (either_way (λ (a : AnswerFields). a.finished ≡ []) s.header.acknowledged _ _ refl refl)
+repeats_at R V s At_receiving e = inl (either_way (λ (a : AnswerFields). a.finished ≡ []) s.header.acknowledged _ _ refl refl)
+repeats_at R V s (At_awaiting made) e = inl (either_way (λ (a : AnswerFields). a.finished ≡ []) s.header.acknowledged _ _ refl refl)
+repeats_at R V s At_executing e = inl (either_way (λ (a : AnswerFields). a.finished ≡ []) s.header.acknowledged _ _ refl refl)
+repeats_at R V s At_over e = inl (either_way (λ (a : AnswerFields). a.finished ≡ []) s.header.acknowledged _ _ refl refl)
 
 sent_due : (R : State) (V : World) (now : ℕ) (due : Due.Due) → Due.first_due R R.sessions ≡ due →
     Sent R (Expire now) (Turning.due_parts R V due).answer.finished
@@ -154,13 +147,9 @@ sent_due R V now (Due.Stage_due s true) e = None_sent (quiet_gives_up R s _ _ _)
 abbrev OfOutcome : Outcome → Turning.Parts → Type 0
 OfOutcome o p = (p.answer.finished ≡ []) ⊎ (p.answer.finished ≡ finished_octets o ∷ [])
 
-outcome_if : (o : Outcome) (b : Bool) (p q : Turning.Parts) → OfOutcome o p → OfOutcome o q → OfOutcome o (if b then p else q)
-outcome_if o true p q hp hq = hp
-outcome_if o false p q hp hq = hq
-
 of_outcome : (R : State) (s : SessionFields) (o : Outcome) → OfOutcome o (Turning.finish_session R s o)
 of_outcome R s o =
-    outcome_if o s.is_abandoned _ _ (inl refl) (outcome_if o (not o.send) _ _ (inl refl) (outcome_if o (not s.header.acknowledged) _ _ (inr refl) (inr refl)))
+    either_way (OfOutcome o) s.is_abandoned _ _ (inl refl) (either_way (OfOutcome o) (not o.send) _ _ (inl refl) (either_way (OfOutcome o) (not s.header.acknowledged) _ _ (inr refl) (inr refl)))
 
 sent_finish : (R : State) (now : ℕ) (s : Option SessionFields) → Due.first_over R.world R.sessions ≡ s →
     Sent R (Finish now) (Turning.finish_parts R s).answer.finished
@@ -171,12 +160,12 @@ sent_finish R now (Some s) e = elim (of_outcome R s (Turning.outcome_for s (entr
 ]
 
 sent_of : (R : State) (V : World) (rs : List Reply) (i : Input) → Sent R i (Turning.parts_of R V rs i).answer.finished
-sent_of R V rs (MetadataPdu now h m) = None_sent (quiet_if (Handing.is_ours R h) _ _ (quiet_metadata R V rs h m (session_of R (id_of h))) refl)
-sent_of R V rs (DataPdu now h piece) = None_sent (quiet_if (Handing.is_ours R h) _ _ (quiet_data R V rs h piece (session_of R (id_of h))) refl)
-sent_of R V rs (EofPdu now h eof) = None_sent (quiet_if (Handing.is_ours R h) _ _ (quiet_eof R V rs h eof (session_of R (id_of h))) refl)
-sent_of R V rs (AckPdu now h ack) = None_sent (quiet_if (Handing.is_ours R h) _ _ (quiet_ack R h ack (session_of R (id_of h))) refl)
-sent_of R V rs (PromptPdu now h prompt) = None_sent (quiet_if (Handing.is_ours R h) _ _ (quiet_prompt R h prompt (session_of R (id_of h))) refl)
-sent_of R V rs (OtherPdu now h) = None_sent (quiet_if (Handing.is_ours R h) _ _ refl refl)
+sent_of R V rs (MetadataPdu now h m) = None_sent (either_way Quiet (Handing.is_ours R h) _ _ (quiet_metadata R V rs h m (session_of R (id_of h))) refl)
+sent_of R V rs (DataPdu now h piece) = None_sent (either_way Quiet (Handing.is_ours R h) _ _ (quiet_data R V rs h piece (session_of R (id_of h))) refl)
+sent_of R V rs (EofPdu now h eof) = None_sent (either_way Quiet (Handing.is_ours R h) _ _ (quiet_eof R V rs h eof (session_of R (id_of h))) refl)
+sent_of R V rs (AckPdu now h ack) = None_sent (either_way Quiet (Handing.is_ours R h) _ _ (quiet_ack R h ack (session_of R (id_of h))) refl)
+sent_of R V rs (PromptPdu now h prompt) = None_sent (either_way Quiet (Handing.is_ours R h) _ _ (quiet_prompt R h prompt (session_of R (id_of h))) refl)
+sent_of R V rs (OtherPdu now h) = None_sent (either_way Quiet (Handing.is_ours R h) _ _ refl refl)
 sent_of R V rs (Expire now) = sent_due R V now (Due.first_due R R.sessions) refl
 sent_of R V rs (Work now) = None_sent refl
 sent_of R V rs (Finish now) = sent_finish R now (Due.first_over R.world R.sessions) refl

@@ -3,6 +3,7 @@ use Rattle.std.specs.Prelude.{if◌then◌else◌, nat_le, nat_lt, is_some, IsTr
 use Rattle.std.specs.List.{filter, flat_map}
 use Rattle.std.proofs.Common.{◌≡◌, inl, inr, ℕ, zero, suc, ◌+◌, ◌*◌, ◌<◌, ◌≤◌, Bool, true, false, not, ◌&&◌, ◌||◌, ◌==◌, List, [], ◌∷◌, ◌++◌, map, length, Option, Some, None, refl, sym, ap, subst, ◌∙◌, arith}
 use Rattle.std.proofs.lemmas.Bool.{cond-true, cond-false, cond_both, and_parts, or_parts, le-leb, lt-leb, le-ltb, eq-eqb, cases_lt, not-false, both_ways}
+use Rattle.cfdp_status.proofs.Choices.{either_way}
 use Rattle.cfdp_status.specs.declared.transaction.TransactionId.{TransactionId}
 use Rattle.cfdp_pdus.specs.Values.{MetadataFields, FileDataFields}
 use Rattle.cfdp_pdus.specs.declared.header.Header.{Header}
@@ -113,16 +114,6 @@ asked_awaiting U N id s b =
 abbrev AskedIn : State → World → Bool → TransactionId → Turning.Parts → Type 0
 AskedIn R V d id p = Asked R.world d (with_parts R V p) id p.answer.naks
 
-if_parts : (R : State) (V : World) (d : Bool) (id : TransactionId) (b : Bool) (p q : Turning.Parts) → AskedIn R V d id p → AskedIn R V d id q →
-    AskedIn R V d id (if b then p else q)
-if_parts R V d id true p q hp hq = hp
-if_parts R V d id false p q hp hq = hq
-
-when_parts : (R : State) (V : World) (d : Bool) (id : TransactionId) (b : Bool) (p q : Turning.Parts) → (b ≡ true → AskedIn R V d id p) →
-    (b ≡ false → AskedIn R V d id q) →
-    AskedIn R V d id (if b then p else q)
-when_parts R V d id b p q hp hq = cond_both b p q (AskedIn R V d id) hp hq
-
 -- the session that is put is found
 becomes_put : (R : State) (V : World) (id : TransactionId) (s new : SessionFields) (a : AnswerFields) → IsFound R.sessions id → session_id new ≡ id →
     new.header ≡ s.header → new.stage ≡ s.stage →
@@ -145,7 +136,7 @@ asked_metadata_stage : (R : State) (V : World) (rs : List Reply) (h : Header) (m
 asked_metadata_stage R V rs h m s (Held eof) here =
     let new = Turning.begun_session R h (Turning.stage_in (entry_of V (id_of h)) true h.destination) in
     let joins = Turning.joins R V rs h m in
-    if_parts R V false (id_of h) h.acknowledged joins (Turning.keeps R (Turning.said_word s words.Idle))
+    either_way (AskedIn R V false (id_of h)) h.acknowledged joins (Turning.keeps R (Turning.said_word s words.Idle))
     (asked_awaiting R.world (with_parts R V joins) (id_of h) new (becomes_put R V (id_of h) new new joins.answer (s, here) refl refl refl)) (Asks_none refl)
 asked_metadata_stage R V rs h m s Known here = Asks_none refl
 asked_metadata_stage R V rs h m s (Over ending) here = Asks_none refl
@@ -153,7 +144,7 @@ asked_metadata_stage R V rs h m s Waiting here = Asks_none refl
 
 asked_metadata : (R : State) (V : World) (rs : List Reply) (h : Header) (m : MetadataFields) (s : Option SessionFields) → session_of R (id_of h) ≡ s →
     AskedIn R V false (id_of h) (Turning.metadata_parts R V rs h m s)
-asked_metadata R V rs h m None here = if_parts R V false (id_of h) (is_closed R (id_of h) || is_full R) _ _ (Asks_none refl) (Asks_none refl)
+asked_metadata R V rs h m None here = either_way (AskedIn R V false (id_of h)) (is_closed R (id_of h) || is_full R) _ _ (Asks_none refl) (Asks_none refl)
 asked_metadata R V rs h m (Some s) here = asked_metadata_stage R V rs h m s s.stage here
 
 -- ---- File Data
@@ -214,14 +205,14 @@ asked_data : (R : State) (V : World) (rs : List Reply) (h : Header) (piece : Fil
     AskedIn R V true (id_of h) (Turning.data_parts R V rs h piece s)
 asked_data R V rs h piece None here = Asks_none refl
 asked_data R V rs h piece (Some s) here =
-    when_parts R V true (id_of h) (Turning.is_known s.stage) (Turning.takes_piece R V rs h piece s) (Turning.keeps R (Turning.said_word s words.Idle))
+    cond_both (Turning.is_known s.stage) (Turning.takes_piece R V rs h piece s) (Turning.keeps R (Turning.said_word s words.Idle)) (AskedIn R V true (id_of h))
     (λ e. asked_takes R V rs h piece s here (known_stage s.stage e)) (λ e. Asks_none refl)
 
 -- ---- EOF
 
 asked_eof_stage : (R : State) (V : World) (rs : List Reply) (h : Header) (eof : Eof) (s : SessionFields) (stage : Stage) → session_of R (id_of h) ≡ Some s →
     AskedIn R V false (id_of h) (Turning.eof_stage R V rs h eof s stage)
-asked_eof_stage R V rs h eof s (Held kept) here = if_parts R V false (id_of h) (eof.condition == 0) _ _ (Asks_none refl) (Asks_none refl)
+asked_eof_stage R V rs h eof s (Held kept) here = either_way (AskedIn R V false (id_of h)) (eof.condition == 0) _ _ (Asks_none refl) (Asks_none refl)
 asked_eof_stage R V rs h eof s Known here =
     let p = Turning.eof_stage R V rs h eof s Known in
     asked_if R.world false (with_parts R V p) (id_of h) (Turning.left_receiving R V s && (eof.condition == 0)) (Turning.asks_where_awaiting R.mib V s)
@@ -241,8 +232,9 @@ asked_eof R V rs h eof None here =
     let kept = Turning.keeps R (Turning.acks_only h eof (status_of R (id_of h)) (Turning.word_without_session R (id_of h))) in
     let full = Turning.keeps R (Turning.said_of_header h words.TableFull) in
     let before = is_closed R (id_of h) || not (eof.condition == 0) in
-    when_parts R V false (id_of h) (before || not h.acknowledged) kept (if is_full R then full else Turning.held_first R h eof) (λ e. Asks_none refl) (λ e.
-    if_parts R V false (id_of h) (is_full R) full (Turning.held_first R h eof) (Asks_none refl)
+    cond_both (before || not h.acknowledged) kept (if is_full R then full else Turning.held_first R h eof) (AskedIn R V false (id_of h))
+    (λ e. Asks_none refl) (λ e.
+    either_way (AskedIn R V false (id_of h)) (is_full R) full (Turning.held_first R h eof) (Asks_none refl)
     (asked_holds R V h eof here (not-false h.acknowledged (or_parts before (not h.acknowledged) e).1)))
 asked_eof R V rs h eof (Some s) here = asked_eof_stage R V rs h eof s s.stage here
 
@@ -253,7 +245,7 @@ asked_ack_stage : (R : State) (V : World) (h : Header) (ack : Ack) (s : SessionF
 asked_ack_stage R V h ack s (Held eof) = Asks_none refl
 asked_ack_stage R V h ack s Known = Asks_none refl
 asked_ack_stage R V h ack s (Over ending) = Asks_none refl
-asked_ack_stage R V h ack s Waiting = if_parts R V false (id_of h) (ack.directive == 5) _ _ (Asks_none refl) (Asks_none refl)
+asked_ack_stage R V h ack s Waiting = either_way (AskedIn R V false (id_of h)) (ack.directive == 5) _ _ (Asks_none refl) (Asks_none refl)
 
 asked_ack : (R : State) (V : World) (h : Header) (ack : Ack) (s : Option SessionFields) → AskedIn R V false (id_of h) (Turning.ack_parts R h ack s)
 asked_ack R V h ack None = Asks_none refl
@@ -284,8 +276,8 @@ asked_prompt : (R : State) (V : World) (h : Header) (prompt : Prompt) (s : Optio
 asked_prompt R V h prompt None same here = Asks_none refl
 asked_prompt R V h prompt (Some s) same here =
     let takes = Turning.takes_prompts (at_of R.world s) in
-    when_parts R V false (id_of h) (s.header.acknowledged && takes) (Turning.replaces_one R (Turning.roused R s) (Turning.prompted R h s prompt))
-    (Turning.keeps R (Turning.said_of_header h words.Idle))
+    cond_both (s.header.acknowledged && takes) (Turning.replaces_one R (Turning.roused R s) (Turning.prompted R h s prompt))
+    (Turning.keeps R (Turning.said_of_header h words.Idle)) (AskedIn R V false (id_of h))
     (λ e. asked_prompted R V h s prompt same here (and_parts s.header.acknowledged takes e).0) (λ e. Asks_none refl)
 
 -- ---- timers
@@ -338,8 +330,8 @@ asked_due R V (Due.Stage_due s true) d = asked_gives_up R V s _ _ _
 asked_session_over : (R : State) (V : World) (s : SessionFields) (o : Outcome) → AskedIn R V false (session_id s) (Turning.finish_session R s o)
 asked_session_over R V s o =
     let id = session_id s in
-    if_parts R V false id s.is_abandoned _ _ (Asks_none refl)
-    (if_parts R V false id (not o.send) _ _ (Asks_none refl) (if_parts R V false id (not s.header.acknowledged) _ _ (Asks_none refl) (Asks_none refl)))
+    either_way (AskedIn R V false id) s.is_abandoned _ _ (Asks_none refl)
+    (either_way (AskedIn R V false id) (not o.send) _ _ (Asks_none refl) (either_way (AskedIn R V false id) (not s.header.acknowledged) _ _ (Asks_none refl) (Asks_none refl)))
 
 asked_finish : (R : State) (V : World) (s : Option SessionFields) → AskedIn R V false (session_name s) (Turning.finish_parts R s)
 asked_finish R V None = Asks_none refl
@@ -364,7 +356,7 @@ SameForPrompts R V i = (now : ℕ) (h : Header) (prompt : Prompt) → i ≡ Prom
 
 asked_ours : (R : State) (V : World) (d : Bool) (h : Header) (p : Turning.Parts) → AskedIn R V d (id_of h) p →
     AskedIn R V d (id_of h) (Turning.where_ours R h p)
-asked_ours R V d h p hp = if_parts R V d (id_of h) (Handing.is_ours R h) p (Turning.keeps R (Turning.quiet (Turning.foreign h))) hp (Asks_none refl)
+asked_ours R V d h p hp = either_way (AskedIn R V d (id_of h)) (Handing.is_ours R h) p (Turning.keeps R (Turning.quiet (Turning.foreign h))) hp (Asks_none refl)
 
 asked_of : (R : State) (V : World) (rs : List Reply) (i : Input) → SameForPrompts R V i → AskedIn R V (is_data i) (touched_in R i) (Turning.parts_of R V rs i)
 asked_of R V rs (MetadataPdu now h m) same = asked_ours R V false h _ (asked_metadata R V rs h m (session_of R (id_of h)) refl)

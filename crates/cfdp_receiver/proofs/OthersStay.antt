@@ -1,8 +1,8 @@
 -- An input leaves the entries of other transactions in the core as they are.
-use Rattle.std.specs.Prelude.{if◌then◌else◌}
 use Rattle.std.specs.List.{AllByRecursion}
 use Rattle.std.proofs.Common.{◌≡◌, ◌≢◌, Bool, true, false, ◌||◌, List, [], ◌∷◌, Option, Some, None, refl, sym, ap, ◌∙◌}
 use Rattle.std.proofs.lemmas.Bool.{both_ways}
+use Rattle.cfdp_status.proofs.Choices.{either_way}
 use Rattle.cfdp_status.specs.declared.transaction.TransactionId.{TransactionId}
 use Rattle.cfdp_leases.specs.Leases.{is_same}
 use Rattle.cfdp_pdus.specs.Values.{MetadataFields}
@@ -31,10 +31,6 @@ use Rattle.cfdp_leases.proofs.Held.{same_itself}
 abbrev NotAbout : TransactionId → List Event → Type 0
 NotAbout id es = AllByRecursion (λ v. id ≢ about v) es
 
-not_if : (id : TransactionId) (b : Bool) (es fs : List Event) → NotAbout id es → NotAbout id fs → NotAbout id (if b then es else fs)
-not_if id true es fs he hf = he
-not_if id false es fs he hf = hf
-
 not_known : (id : TransactionId) (stage : Stage) (es : List Event) → NotAbout id es → NotAbout id (Handing.where_known stage es)
 not_known id (Held eof) es h = tt
 not_known id Known es h = h
@@ -50,14 +46,14 @@ other_than n id other e = both_ways (is_same n id) other (ap (is_same n) e ∙ s
 
 not_metadata_stage : (id : TransactionId) (h : Header) (m : MetadataFields) (s : SessionFields) (stage : Stage) → id ≢ id_of h → session_id s ≡ id_of h →
     NotAbout id (Handing.metadata_in_stage h m s stage)
-not_metadata_stage id h m s (Held eof) ne name = not_if id h.acknowledged (MetadataCame h m ∷ EofCame s.header eof ∷ []) [] (ne, ((λ e. ne (e ∙ name)), tt)) tt
+not_metadata_stage id h m s (Held eof) ne name = either_way (NotAbout id) h.acknowledged (MetadataCame h m ∷ EofCame s.header eof ∷ []) [] (ne, ((λ e. ne (e ∙ name)), tt)) tt
 not_metadata_stage id h m s Known ne name = (ne, tt)
 not_metadata_stage id h m s (OverStage ending) ne name = tt
 not_metadata_stage id h m s Waiting ne name = tt
 
 not_metadata : (R : State) (id : TransactionId) (h : Header) (m : MetadataFields) (o : Option SessionFields) → id ≢ id_of h → session_of R (id_of h) ≡ o →
     NotAbout id (Handing.metadata_events R h m o)
-not_metadata R id h m None ne here = not_if id (is_closed R (id_of h) || is_full R) [] (MetadataCame h m ∷ []) tt (ne, tt)
+not_metadata R id h m None ne here = either_way (NotAbout id) (is_closed R (id_of h) || is_full R) [] (MetadataCame h m ∷ []) tt (ne, tt)
 not_metadata R id h m (Some s) ne here = not_metadata_stage id h m s s.stage ne (found_name R.sessions (id_of h) s here)
 
 not_limit : (id n : TransactionId) (checks : Bool) (how : Handler) → id ≢ n → NotAbout id (Handing.limit_events n checks how)
@@ -71,7 +67,7 @@ not_due : (R : State) (id : TransactionId) (due : Dues.Due) → id ≢ due_name 
 not_due R id Dues.Nothing_due ne = tt
 not_due R id (Dues.Alive_due s) ne = tt
 not_due R id (Dues.Stage_due s false) ne =
-    not_known id s.stage _ (not_if id (Handing.makes_checks s.header.acknowledged (at_of R.world s)) (Check (session_id s) ∷ []) [] (ne, tt) tt)
+    not_known id s.stage _ (either_way (NotAbout id) (Handing.makes_checks s.header.acknowledged (at_of R.world s)) (Check (session_id s) ∷ []) [] (ne, tt) tt)
 not_due R id (Dues.Stage_due s true) ne =
     not_known id s.stage _ (not_limit id (session_id s) (Handing.makes_checks s.header.acknowledged (at_of R.world s))
     (Dues.handler_at R.mib s.header.acknowledged (at_of R.world s)) ne)
@@ -82,12 +78,12 @@ not_take id (Some s) ne = not_known id s.stage (Take (session_id s) ∷ []) (ne,
 
 not_handed : (R : State) (i : Input) (id : TransactionId) → is_work i ≡ false → id ≢ touched_in R i → NotAbout id (Handing.events_of R i)
 not_handed R (MetadataPdu now h m) id w ne =
-    not_if id (Handing.is_ours R h) (Handing.metadata_events R h m (session_of R (id_of h))) [] (not_metadata R id h m (session_of R (id_of h)) ne refl) tt
+    either_way (NotAbout id) (Handing.is_ours R h) (Handing.metadata_events R h m (session_of R (id_of h))) [] (not_metadata R id h m (session_of R (id_of h)) ne refl) tt
 not_handed R (DataPdu now h piece) id w ne =
-    not_if id (Handing.is_ours R h) (Handing.of_session (session_of R (id_of h)) (DataCame h piece ∷ [])) []
+    either_way (NotAbout id) (Handing.is_ours R h) (Handing.of_session (session_of R (id_of h)) (DataCame h piece ∷ [])) []
     (not_session id (session_of R (id_of h)) (DataCame h piece ∷ []) (ne, tt)) tt
 not_handed R (EofPdu now h eof) id w ne =
-    not_if id (Handing.is_ours R h) (Handing.of_session (session_of R (id_of h)) (EofCame h eof ∷ [])) []
+    either_way (NotAbout id) (Handing.is_ours R h) (Handing.of_session (session_of R (id_of h)) (EofCame h eof ∷ [])) []
     (not_session id (session_of R (id_of h)) (EofCame h eof ∷ []) (ne, tt)) tt
 not_handed R (AckPdu now h ack) id w ne = tt
 not_handed R (PromptPdu now h prompt) id w ne = tt

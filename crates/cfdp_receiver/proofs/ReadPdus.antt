@@ -1,7 +1,7 @@
 -- PDUs that were read: what holds of a Metadata PDU, and the header of a Finished PDU.
-use Rattle.std.specs.Prelude.{⊤, if◌then◌else◌, Result, Ok, Err}
-use Rattle.std.proofs.Common.{◌≡◌, ℕ, Bool, false, ◌==◌, List, [], ◌∷◌, None, refl, sym, ap, subst}
-use Rattle.std.proofs.lemmas.Bool.{cond_both}
+use Rattle.std.specs.Prelude.{⊤, Result, Ok, Err}
+use Rattle.std.proofs.Common.{◌≡◌, ℕ, false, ◌==◌, List, [], ◌∷◌, None, refl, sym, ap, subst}
+use Rattle.cfdp_status.proofs.Choices.{either_way}
 use Rattle.cfdp_tlv.specs.Reading.{◌>>=◌}
 use Rattle.cfdp_pdus.specs.First.{Start, start_at, field_at, directive_at, pdu_at, metadata_at, eof_at, finished_at, file_data_at}
 use Rattle.cfdp_pdus.specs.Receiving.{received_of}
@@ -62,26 +62,23 @@ by_finished : (h : Header) (read : Result FinishedFields PduFault) → HasHeader
 by_finished h (Ok f) = refl
 by_finished h (Err fault) = tt
 
-by_if : (b : Bool) (h : Header) (read other : Result Pdu PduFault) → HasHeader h read → HasHeader h other → HasHeader h (if b then read else other)
-by_if b h read other one two = cond_both b read other (λ (r : Result Pdu PduFault). HasHeader h r) (λ e. one) (λ e. two)
-
 by_directive : (h : Header) (octets : List ℕ) → HasHeader h (directive_at h octets)
 unfolding directive_at
 by_directive h [] = tt
 by_directive h (code ∷ octets) =
-    by_if (code == 7) h _ _ (by_metadata h (metadata_at h.large octets)) (
-    by_if (code == 4) h _ _ (by_eof h (eof_at h.large octets)) (
-    by_if (code == 5) h _ _ (by_finished h (finished_at octets)) (
-    by_if (code == 6) h (Ok (pdus.NotOurs h 6)) _ tt (
-    by_if (code == 8) h (Ok (pdus.NotOurs h 8)) _ tt (
-    by_if (code == 9) h (Ok (pdus.NotOurs h 9)) _ tt (
-    by_if (code == 12) h (Ok (pdus.NotOurs h 12)) (Err BadDirective) tt tt
+    either_way (HasHeader h) (code == 7) _ _ (by_metadata h (metadata_at h.large octets)) (
+    either_way (HasHeader h) (code == 4) _ _ (by_eof h (eof_at h.large octets)) (
+    either_way (HasHeader h) (code == 5) _ _ (by_finished h (finished_at octets)) (
+    either_way (HasHeader h) (code == 6) (Ok (pdus.NotOurs h 6)) _ tt (
+    either_way (HasHeader h) (code == 8) (Ok (pdus.NotOurs h 8)) _ tt (
+    either_way (HasHeader h) (code == 9) (Ok (pdus.NotOurs h 9)) _ tt (
+    either_way (HasHeader h) (code == 12) (Ok (pdus.NotOurs h 12)) (Err BadDirective) tt tt
     ))))))
 
 by_start : (start : Start) → HasHeader start.header (field_at start)
 unfolding field_at
 by_start start =
-    by_if start.file_data start.header _ _ (by_data start.header (file_data_at start.header.large start.segment_metadata start.field))
+    either_way (HasHeader start.header) start.file_data _ _ (by_data start.header (file_data_at start.header.large start.segment_metadata start.field))
     (by_directive start.header start.field)
 
 -- what is read of a Finished PDU is its header

@@ -5,6 +5,7 @@ use Rattle.std.proofs.lemmas.List.{append-nil}
 use Rattle.std.proofs.lemmas.Bool.{cond_both, cases_Bool, or_left, or_right, or_cases, or_parts, le-leb, false≢true}
 use Rattle.std.proofs.lemmas.Option.{none-some}
 use Rattle.std.specs.List.{list_any}
+use Rattle.cfdp_status.proofs.Choices.{either_way}
 use Rattle.cfdp_status.specs.declared.transaction.TransactionId.{TransactionId}
 use Rattle.cfdp_leases.specs.Leases.{is_same}
 use Rattle.cfdp_pdus.specs.Values.{MetadataFields, FileDataFields}
@@ -49,10 +50,6 @@ pub data Shape (R : State) (t : TransactionId) (p : Turning.Parts) : Type 0 wher
   Closes : (a : AnswerFields) → (was : IsFound R.sessions t) → (e : p ≡ Turning.closes R t a) → Shape R t p
   Forgets : (a : AnswerFields) → (e : p ≡ Turning.forgets R a) → Shape R t p
 
-shape_if : (R : State) (t : TransactionId) (b : Bool) (p q : Turning.Parts) → Shape R t p → Shape R t q → Shape R t (if b then p else q)
-shape_if R t true p q hp hq = hp
-shape_if R t false p q hp hq = hq
-
 said_keeps : (R : State) (t : TransactionId) (h : Header) (word : Word) → Shape R t (Turning.keeps R (Turning.said_of_header h word))
 said_keeps R t h word = Keeps (Turning.said_of_header h word) refl
 
@@ -63,7 +60,7 @@ shape_metadata_stage : (R : State) (V : World) (rs : List Reply) (h : Header) (m
     →
     Shape R (id_of h) (Turning.metadata_stage R V rs h m s stage)
 shape_metadata_stage R V rs h m s (Held eof) name =
-    shape_if R (id_of h) h.acknowledged (Turning.joins R V rs h m) (Turning.keeps R (Turning.said_word s words.Idle)) (Puts _ _ refl refl)
+    either_way (Shape R (id_of h)) h.acknowledged (Turning.joins R V rs h m) (Turning.keeps R (Turning.said_word s words.Idle)) (Puts _ _ refl refl)
     (own_keeps R (id_of h) s words.Idle)
 shape_metadata_stage R V rs h m s Known name = Puts (Turning.heard_session R V s) (Turning.quiet (Turning.became_reply (id_of h) rs))
     (heard_name R V s ∙ name) refl
@@ -82,7 +79,7 @@ shape_data : (R : State) (V : World) (rs : List Reply) (h : Header) (piece : Fil
     Shape R (id_of h) (Turning.data_parts R V rs h piece s)
 shape_data R V rs h piece None e = said_keeps R (id_of h) h (Turning.word_without_session R (id_of h))
 shape_data R V rs h piece (Some s) e =
-    shape_if R (id_of h) (Turning.is_known s.stage) (Turning.takes_piece R V rs h piece s) (Turning.keeps R (Turning.said_word s words.Idle))
+    either_way (Shape R (id_of h)) (Turning.is_known s.stage) (Turning.takes_piece R V rs h piece s) (Turning.keeps R (Turning.said_word s words.Idle))
     (Puts (Turning.heard_session R V s) _ (heard_name R V s ∙ found_name R.sessions (id_of h) s e) refl) (own_keeps R (id_of h) s words.Idle)
 
 shape_eof_stage : (R : State) (V : World) (rs : List Reply) (h : Header) (eof : Eof) (s : SessionFields) (stage : Stage) → session_id s ≡ id_of h →
@@ -90,7 +87,7 @@ shape_eof_stage : (R : State) (V : World) (rs : List Reply) (h : Header) (eof : 
 shape_eof_stage R V rs h eof s (Held kept) name =
     let again = Turning.acks_only h eof Active words.Duplicate in
     let over = Turning.acks_only h eof Active words.Faulted in
-    shape_if R (id_of h) (eof.condition == 0) (Turning.keeps R again) (Turning.replaces_one R (Turning.ended_by h eof s) over) (Keeps again refl)
+    either_way (Shape R (id_of h)) (eof.condition == 0) (Turning.keeps R again) (Turning.replaces_one R (Turning.ended_by h eof s) over) (Keeps again refl)
     (Puts (Turning.ended_by h eof s) over name refl)
 shape_eof_stage R V rs h eof s Known name = Puts (Turning.heard_session R V s) _ (heard_name R V s ∙ name) refl
 shape_eof_stage R V rs h eof s (Over ending) name = Keeps (Turning.acks_only h eof Active words.Idle) refl
@@ -107,7 +104,7 @@ shape_eof R V rs h eof None e =
     (λ b.
     let both = or_parts (is_closed R (id_of h) || not (eof.condition == 0)) (not h.acknowledged) b in
     let unclosed = (or_parts (is_closed R (id_of h)) (not (eof.condition == 0)) both.0).0 in
-    shape_if R (id_of h) (is_full R) full holds (said_keeps R (id_of h) h words.TableFull) (Adds (Turning.begun_session R h (Held eof)) _ refl e unclosed refl))
+    either_way (Shape R (id_of h)) (is_full R) full holds (said_keeps R (id_of h) h words.TableFull) (Adds (Turning.begun_session R h (Held eof)) _ refl e unclosed refl))
 shape_eof R V rs h eof (Some s) e = shape_eof_stage R V rs h eof s s.stage (found_name R.sessions (id_of h) s e)
 
 -- what closes a session of that name
@@ -122,7 +119,7 @@ shape_ack_stage R h ack s Known name was = said_keeps R (id_of h) h words.Idle
 shape_ack_stage R h ack s (Over ending) name was = said_keeps R (id_of h) h words.Idle
 shape_ack_stage R h ack s Waiting name was =
     let over = Turning.said_of_header h words.Acknowledged in
-    shape_if R (id_of h) (ack.directive == 5) (Turning.closes R (session_id s) over) (Turning.keeps R (Turning.said_of_header h words.Idle))
+    either_way (Shape R (id_of h)) (ack.directive == 5) (Turning.closes R (session_id s) over) (Turning.keeps R (Turning.said_of_header h words.Idle))
     (closes_name R s (id_of h) over name was) (said_keeps R (id_of h) h words.Idle)
 
 shape_ack : (R : State) (h : Header) (ack : Ack) (s : Option SessionFields) → session_of R (id_of h) ≡ s → Shape R (id_of h) (Turning.ack_parts R h ack s)
@@ -138,7 +135,7 @@ shape_prompt : (R : State) (h : Header) (prompt : Prompt) (s : Option SessionFie
     Shape R (id_of h) (Turning.prompt_parts R h prompt s)
 shape_prompt R h prompt None e = said_keeps R (id_of h) h words.Idle
 shape_prompt R h prompt (Some s) e =
-    shape_if R (id_of h) (s.header.acknowledged && Turning.takes_prompts (at_of R.world s))
+    either_way (Shape R (id_of h)) (s.header.acknowledged && Turning.takes_prompts (at_of R.world s))
     (Turning.replaces_one R (Turning.roused R s) (Turning.prompted R h s prompt)) (Turning.keeps R (Turning.said_of_header h words.Idle))
     (Puts (Turning.roused R s) (Turning.prompted R h s prompt) (roused_name R s ∙ found_name R.sessions (id_of h) s e) refl)
     (said_keeps R (id_of h) h words.Idle)
@@ -213,9 +210,9 @@ shape_session R s o was =
     let gone = Turning.closes R (session_id s) (Turning.said_word s words.Closed) in
     let third = if not s.header.acknowledged then sent else here in
     let second = if not o.send then unsent else third in
-    shape_if R (session_id s) s.is_abandoned gone second (Closes (Turning.said_word s words.Closed) was refl) (
-    shape_if R (session_id s) (not o.send) unsent third (Closes (Turning.concluded s o words.Closed) was refl) (
-    shape_if R (session_id s) (not s.header.acknowledged) sent here (Closes (Turning.sends_it s o words.Closed) was refl)
+    either_way (Shape R (session_id s)) s.is_abandoned gone second (Closes (Turning.said_word s words.Closed) was refl) (
+    either_way (Shape R (session_id s)) (not o.send) unsent third (Closes (Turning.concluded s o words.Closed) was refl) (
+    either_way (Shape R (session_id s)) (not s.header.acknowledged) sent here (Closes (Turning.sends_it s o words.Closed) was refl)
     (Puts (Turning.waits_for_ack R s o) (Turning.sends_it s o words.Finished) refl refl)
     )
     )
@@ -238,7 +235,7 @@ shape_cancel R rs id (Some s) e = shape_cancel_stage R rs id s s.stage (found_na
 shape_ours : (R : State) (h : Header) (p : Turning.Parts) → Shape R (id_of h) p → Shape R (id_of h) (Turning.where_ours R h p)
 shape_ours R h p hp =
     let away = Turning.quiet (Turning.foreign h) in
-    shape_if R (id_of h) (Handing.is_ours R h) p (Turning.keeps R away) hp (Keeps away refl)
+    either_way (Shape R (id_of h)) (Handing.is_ours R h) p (Turning.keeps R away) hp (Keeps away refl)
 
 shape_of : (R : State) (V : World) (rs : List Reply) (i : Input) → Shape R (touched_in R i) (Turning.parts_of R V rs i)
 shape_of R V rs (MetadataPdu now h m) = shape_ours R h (Turning.metadata_parts R V rs h m (session_of R (id_of h)))

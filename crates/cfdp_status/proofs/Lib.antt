@@ -1,3 +1,4 @@
 pub mod Octets
 pub mod Appended
 pub mod Options
+pub mod Choices

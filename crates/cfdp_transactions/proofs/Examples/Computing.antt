@@ -4,13 +4,14 @@
 --     with_of, without_of, where_of     the map after something was put at a path, or taken from it; those that pass a test
 --     any_in_none, any_in_with                  whether a path of a set passes a test
 --     look_ups, conflicts       these
-use Rattle.std.proofs.Common.{◌≡◌, List, [], ◌∷◌, length, Bool, true, false, not, ◌||◌, if◌then◌else◌, Option, None, refl, ap, sym, ◌∙◌}
+use Rattle.std.proofs.Common.{◌≡◌, List, [], ◌∷◌, length, Bool, true, false, not, ◌||◌, None, ap, sym, ◌∙◌}
 use Rattle.std.specs.FinMap as finite
 use Rattle.std.specs.FinMap.{find, put, is_sorted}
 use Rattle.std.specs.FinMap.Entries.{where_key}
 use Rattle.std.specs.FinSet as set
 use Rattle.std.specs.Ordering.{eq_by_cmp}
 use Rattle.std.proofs.lemmas.Float.{T_from_true}
+use Rattle.cfdp_status.proofs.Choices.{turned}
 use Rattle.cfdp_paths.specs.Paths.{Path, path_cmp}
 use Rattle.cfdp_actions.specs.Filestore.{Node}
 use Rattle.cfdp_actions.proofs.StoreLaws.{insert_is, retain_is, alike}
@@ -46,15 +47,11 @@ with_of es p node s = insert_is es p node s
 pub where_of : (es : Listed) (test : Path → Bool) → is_sorted path_cmp es ≡ true → finite.retain_keys (nodes_of es) test ≡ nodes_of (where_key path_cmp test es)
 where_of es test s = retain_is es test s
 
-turned : (b : Bool) (o : Option Node) → (if b then None else o) ≡ (if not b then o else None)
-turned true o = refl
-turned false o = refl
-
 pub without_of : (es : Listed) (p : Path) → is_sorted path_cmp es ≡ true → finite.remove (nodes_of es) p
     ≡ nodes_of (where_key path_cmp (λ q. not (eq_by_cmp path_cmp q p)) es)
 without_of es p s =
     finite.same_map path_cmp-total path_antisym _ _
-    (λ q. finite.get-remove path_cmp-total (nodes_of es) p q ∙ turned (eq_by_cmp path_cmp q p) (finite.get (nodes_of es) q)
+    (λ q. finite.get-remove path_cmp-total (nodes_of es) p q ∙ sym (turned (eq_by_cmp path_cmp q p) (finite.get (nodes_of es) q) None)
     ∙ sym (finite.get-retain_keys (nodes_of es) (λ x. not (eq_by_cmp path_cmp x p)) q (alike (λ x. not (eq_by_cmp path_cmp x p)) q)))
     ∙ where_of es (λ q. not (eq_by_cmp path_cmp q p)) s
 
