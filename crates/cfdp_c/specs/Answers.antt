@@ -1,10 +1,9 @@
 -- What calls from C return.
---   on_ok result next   goes on with what there is, unless there is an answer already
 --   answer_code answer  the number of an answer
 --   config_answer       what is returned for a number of the configuration outside its limits
 --   put_answer          what is returned for a reason for which nothing is put into the filestore
 --   fault_answer        what is returned for octets that are no PDU;  unheard_answer: of any that got no reply
-use Rattle.std.specs.Prelude.{ℕ, Result, Ok, Err}
+use Rattle.std.specs.Prelude.{ℕ}
 use Rattle.cfdp_pdus.specs.declared.fault.PduFault.{PduFault}
 use Rattle.cfdp_pdus.specs.declared.fault.PduFault.TheVariants as pdu
 use Rattle.cfdp_transactions.specs.declared.config.ConfigFault.{ConfigFault}
@@ -15,10 +14,6 @@ use Rattle.cfdp_entity.specs.declared.fault.NotHeard.{NotHeard}
 use Rattle.cfdp_entity.specs.declared.fault.NotHeard.TheVariants as unheard
 use Rattle.cfdp_c.specs.declared.answer.CallAnswer.{CallAnswer}
 use Rattle.cfdp_c.specs.declared.answer.CallAnswer.TheVariants as answer
-
-abbrev pub on_ok : {X Y : Type 0} → Result X CallAnswer → (X → Result Y CallAnswer) → Result Y CallAnswer
-on_ok (Ok x) next = next x
-on_ok (Err why) next = Err why
 
 abbrev pub answer_code : CallAnswer → ℕ
 answer_code answer.Done = 0

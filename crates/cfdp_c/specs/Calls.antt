@@ -3,7 +3,8 @@
 --   transaction_named source number  the transaction of these numbers
 --   DoesEvent event            an event of the entity's own: the reply is that of the table of events
 --   Receives octets            octets that came: likewise, or why there is no reply, with all as before
---   Frees                      the engine is freed
+--   NothingChanges             an engine or a receiver, and the report before, are as they were
+--   Frees                      an engine or a receiver is freed
 --   Takes id                   a request for the outcome, with the buffer before and after, and the count of octets
 use Rattle.std.specs.Prelude.{◌≡◌, ◌⊎◌, ℕ, ◌<◌, ◌++◌, drop, length, List, Option, Some, None, IsSome, Result, Ok, Err}
 use Rattle.cfdp_status.specs.declared.transaction.TransactionId.{TransactionId}
@@ -33,23 +34,23 @@ abbrev pub DoesEvent : Event → Option World → Option World → ReplyFields �
 DoesEvent event None after old new answer = (after ≡ None) × (new ≡ old) × (answer ≡ answer_code NoEngine)
 DoesEvent event (Some W) after old new answer = RepliesFollow W event after new answer
 
--- nothing changed
-abbrev pub WorldStays : World → Option World → ReplyFields → ReplyFields → Type 0
-WorldStays W after old new = (after ≡ Some W) × (new ≡ old)
+abbrev pub NothingChanges : {Held Reported : Type 0} → Held → Option Held → Reported → Reported → Type 0
+NothingChanges before after old new = (after ≡ Some before) × (new ≡ old)
 
 abbrev pub RepliesHeard : Result Event NotHeard → World → Option World → ReplyFields → ReplyFields → ℕ → Type 0
 RepliesHeard (Ok event) W after old new answer = RepliesFollow W event after new answer
-RepliesHeard (Err why) W after old new answer = WorldStays W after old new × (answer ≡ answer_code (unheard_answer why))
+RepliesHeard (Err why) W after old new answer =
+    NothingChanges W after old new × (answer ≡ answer_code (unheard_answer why))
 
 abbrev pub Receives : List ℕ → Option World → Option World → ReplyFields → ReplyFields → ℕ → Type 0
 Receives octets None after old new answer = (after ≡ None) × (new ≡ old) × (answer ≡ answer_code NoEngine)
 Receives octets (Some W) after old new answer =
-    RepliesHeard (heard_event octets) W after old new answer ⊎ (MayLackMemory octets × WorldStays W after old new
+    RepliesHeard (heard_event octets) W after old new answer ⊎ (MayLackMemory octets × NothingChanges W after old new
     × (answer ≡ answer_code Memory))
 
-abbrev pub Frees : Option World → ℕ → Type 0
+abbrev pub Frees : {Held : Type 0} → Option Held → ℕ → Type 0
 Frees None answer = answer ≡ answer_code NoEngine
-Frees (Some W) answer = answer ≡ answer_code Done
+Frees (Some before) answer = answer ≡ answer_code Done
 
 -- the outcome of a transaction is taken: the Finished PDU is written, or does not fit, or there is an outcome and no
 -- memory for it
@@ -62,8 +63,8 @@ Hands W id after out written count reply answer =
 abbrev pub ReportsShort : World → TransactionId → Option World → List ℕ → List ℕ → ℕ → ReplyFields → ReplyFields → ℕ →
     Type 0
 ReportsShort W id after out written count old new answer =
-    (length out < count) × (count ≡ length (sent (next W (Take id)).1)) × WorldStays W after old new × (written ≡ out)
-    × (answer ≡ answer_code TooShort)
+    (length out < count) × (count ≡ length (sent (next W (Take id)).1)) × NothingChanges W after old new
+    × (written ≡ out) × (answer ≡ answer_code TooShort)
 
 abbrev pub Takes : TransactionId → Option World → Option World → List ℕ → List ℕ → ℕ → ℕ → ReplyFields → ReplyFields →
     ℕ → Type 0
@@ -71,5 +72,5 @@ Takes id None after out written before count old new answer =
     (after ≡ None) × (written ≡ out) × (count ≡ before) × (new ≡ old) × (answer ≡ answer_code NoEngine)
 Takes id (Some W) after out written before count old new answer =
     Hands W id after out written count new answer ⊎ ReportsShort W id after out written count old new answer
-    ⊎ (IsSome (outcome_in W id) × WorldStays W after old new × (written ≡ out) × (count ≡ before)
+    ⊎ (IsSome (outcome_in W id) × NothingChanges W after old new × (written ≡ out) × (count ≡ before)
     × (answer ≡ answer_code Memory))

@@ -6,11 +6,12 @@
 --   config_of_fields fields prefixes   the whole configuration
 --   OpensEngine fields prefixes  what making an engine does to a handle
 use Rattle.std.specs.Prelude.{◌≡◌, ◌⊎◌, ℕ, ◌==◌, nat_le, if◌then◌else◌, List, [], ◌∷◌, ◌++◌, length, take, Option, Some, None, Result, Ok, Err}
+use Rattle.cfdp_tlv.specs.Reading.{◌>>=◌}
 use Rattle.cfdp_paths.specs.Paths.{Path, path_of}
 use Rattle.cfdp_transactions.specs.Config.{Config, config_fault}
 use Rattle.cfdp_transactions.specs.declared.config.ConfigFault.{ConfigFault}
 use Rattle.cfdp_transactions.specs.World.{World, start}
-use Rattle.cfdp_c.specs.Answers.{answer_code, config_answer, on_ok}
+use Rattle.cfdp_c.specs.Answers.{answer_code, config_answer}
 use Rattle.cfdp_c.specs.declared.answer.CallAnswer.{CallAnswer}
 use Rattle.cfdp_c.specs.declared.answer.CallAnswer.TheVariants.{Done, HasEngine, Memory, BadPath, TooManyPrefixes}
 use Rattle.cfdp_c.specs.declared.fields.ConfigFields.{ConfigFields}
@@ -25,8 +26,7 @@ with_path protected (Some path) = if length protected == 8 then Err TooManyPrefi
 
 abbrev pub protected_by : List PathFields → List Path → Result (List Path) CallAnswer
 protected_by [] protected = Ok protected
-protected_by (prefix ∷ prefixes) protected = on_ok (with_path protected (path_in_fields prefix))
-    (protected_by prefixes)
+protected_by (prefix ∷ prefixes) protected = with_path protected (path_in_fields prefix) >>= protected_by prefixes
 
 abbrev pub numbers_in : ConfigFields → List Path → Config
 numbers_in fields protected =

@@ -13,9 +13,9 @@ use Rattle.cfdp_receiver.specs.declared.mib.MibFault.TheVariants as fault
 use Rattle.cfdp_receiver.specs.declared.mib.NakMode.{NakMode}
 use Rattle.cfdp_receiver.specs.declared.mib.NakMode.TheVariants.{Deferred, Immediate}
 use Rattle.cfdp_receiver.specs.StateMachine.{mib_fault}
+use Rattle.cfdp_tlv.specs.Reading.{◌>>=◌}
 use Rattle.cfdp_transactions.specs.Entry.{Entry}
 use Rattle.cfdp_transactions.specs.World.{World}
-use Rattle.cfdp_c.specs.Answers.{on_ok}
 use Rattle.cfdp_c.specs.declared.answer.CallAnswer.{CallAnswer}
 use Rattle.cfdp_c.specs.declared.answer.CallAnswer.TheVariants.{BadHandler, BadNakMode, BadInterval, BadLimit, BadLongestNak, HasTransactions}
 use Rattle.cfdp_c.specs.declared.mib.MibFields.{MibFields}
@@ -49,12 +49,12 @@ sized fields mib = if nat_lt fields.longest_nak 65536 then Ok mib else Err BadLo
 
 abbrev pub mib_in : MibFields → Result Mib CallAnswer
 mib_in fields =
-    on_ok (handler_in fields.ack_handler) (λ ack.
-    on_ok (handler_in fields.nak_handler) (λ nak.
-    on_ok (handler_in fields.check_handler) (λ check.
-    on_ok (handler_in fields.inactivity_handler) (λ inactivity.
-    on_ok (nak_mode_in fields.nak_mode) (λ nak_mode. sized fields
-    (mib_of_fields fields ack nak check inactivity nak_mode))))))
+    handler_in fields.ack_handler >>= λ ack.
+    handler_in fields.nak_handler >>= λ nak.
+    handler_in fields.check_handler >>= λ check.
+    handler_in fields.inactivity_handler >>= λ inactivity.
+    nak_mode_in fields.nak_mode >>= λ nak_mode.
+    sized fields (mib_of_fields fields ack nak check inactivity nak_mode)
 
 abbrev pub mib_answer : MibFault → CallAnswer
 mib_answer fault.Interval = BadInterval
@@ -71,4 +71,4 @@ without_entries mib (entry ∷ entries) = Err HasTransactions
 
 abbrev pub opened : MibFields → World → Result Mib CallAnswer
 opened fields W =
-    on_ok (mib_in fields) (λ mib. on_ok (without_fault mib (mib_fault mib)) (λ mib. without_entries mib W.table))
+    mib_in fields >>= λ mib. without_fault mib (mib_fault mib) >>= λ mib. without_entries mib W.table

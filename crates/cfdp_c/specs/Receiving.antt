@@ -9,7 +9,6 @@
 --   TellsDeadline                 the moment from which on a timer is due, if one runs
 --   WritesPdu number              the PDU with this number of the last answer is written
 --   ReceiverOpens fields          a receiver is made over the engine of another handle
---   ReceiverFrees                 the receiver is freed
 use Rattle.std.specs.Prelude.{◌≡◌, ◌≢◌, ◌⊎◌, ℕ, ◌≤◌, ◌<◌, ◌+◌, ◌^◌, max, drop, take, length, slice_get, List, Option, Some, None, Result, Ok, Err}
 use Rattle.std.specs.Option.{option_map}
 use Rattle.cfdp_receiver.specs.declared.mib.Mib.{Mib}
@@ -24,6 +23,7 @@ use Rattle.cfdp_receiver.specs.State.{Input, State, Finish, begin}
 use Rattle.cfdp_reception.specs.Reception.{ReceptionFields, Turned, Hears, pdus_in}
 use Rattle.cfdp_transactions.specs.World.{World}
 use Rattle.cfdp_c.specs.Answers.{answer_code, fault_answer}
+use Rattle.cfdp_c.specs.Calls.{NothingChanges}
 use Rattle.cfdp_c.specs.Mibs.{opened}
 use Rattle.cfdp_c.specs.Reads.{Found}
 use Rattle.cfdp_c.specs.Reports.{report_of}
@@ -44,10 +44,6 @@ abbrev pub ReceiverDoes : Input → Option ReceptionFields → Option ReceptionF
 ReceiverDoes input None after old new answer = (after ≡ None) × (new ≡ old) × (answer ≡ answer_code NoEngine)
 ReceiverDoes input (Some S) after old new answer = Reports S input after new × (answer ≡ answer_code Done)
 
--- nothing changed
-abbrev pub ReceiverStays : ReceptionFields → Option ReceptionFields → ReportFields → ReportFields → Type 0
-ReceiverStays S after old new = (after ≡ Some S) × (new ≡ old)
-
 abbrev pub ReportsHeard : ℕ → List ℕ → ReceptionFields → Option ReceptionFields → ReportFields → Type 0
 ReportsHeard now octets S None report = ⊥
 ReportsHeard now octets S (Some T) report = Hears now octets S T × (report ≡ report_of T)
@@ -67,7 +63,7 @@ abbrev pub ReceiverReceives : ℕ → List ℕ → Option ReceptionFields → Op
 ReceiverReceives now octets None after old new answer = (after ≡ None) × (new ≡ old) × (answer ≡ answer_code NoEngine)
 ReceiverReceives now octets (Some S) after old new answer =
     (ReportsHeard now octets S after new × (answer ≡ answer_code Done))
-    ⊎ (Drops now octets answer × ReceiverStays S after old new)
+    ⊎ (Drops now octets answer × NothingChanges S after old new)
 
 abbrev pub HasOutcome : ReceptionFields → Type 0
 HasOutcome S = first_over S.machine.state.world S.machine.state.sessions ≢ None
@@ -77,7 +73,7 @@ abbrev pub TakesFinished : ℕ → Option ReceptionFields → Option ReceptionFi
 TakesFinished now None after old new answer = (after ≡ None) × (new ≡ old) × (answer ≡ answer_code NoEngine)
 TakesFinished now (Some S) after old new answer =
     (Reports S (Finish now) after new × (answer ≡ answer_code Done))
-    ⊎ (HasOutcome S × ReceiverStays S after old new × (answer ≡ answer_code Memory))
+    ⊎ (HasOutcome S × NothingChanges S after old new × (answer ≡ answer_code Memory))
 
 -- from this moment on a timer is due, and not before; or none ever is
 abbrev pub IsDeadline : State → Option ℕ → Type 0
@@ -132,7 +128,3 @@ abbrev pub ReceiverOpens : MibFields → Option World → Option World → Optio
 ReceiverOpens fields before engine None after answer = ReceiverOpensFrom fields before engine after answer
 ReceiverOpens fields before engine (Some S) after answer = (engine ≡ before) × (after ≡ Some S)
     × (answer ≡ answer_code HasEngine)
-
-abbrev pub ReceiverFrees : Option ReceptionFields → ℕ → Type 0
-ReceiverFrees None answer = answer ≡ answer_code NoEngine
-ReceiverFrees (Some S) answer = answer ≡ answer_code Done

@@ -4,9 +4,9 @@ ghost use Rattle.std.specs.Prelude.{◌≡◌, None, Some, IfOk, slice_get};
 ghost use Rattle.cfdp_receiver.specs.State.{CancelAsked, Expire, ForgetAsked, Work, begin};
 ghost use Rattle.cfdp_reception.specs.Reception.{pdus_in};
 ghost use Rattle.cfdp_c.specs.Answers.{answer_code};
-ghost use Rattle.cfdp_c.specs.Calls.{transaction_named};
+ghost use Rattle.cfdp_c.specs.Calls.{Frees, transaction_named};
 ghost use Rattle.cfdp_c.specs.Mibs.{opened};
-ghost use Rattle.cfdp_c.specs.Receiving.{ReceiverDoes, TakesFinished, ReceiverFrees, ReceiverOpens, ReceiverReceives, TellsDeadline, WritesSent, WritesPdu, dropped_answer};
+ghost use Rattle.cfdp_c.specs.Receiving.{ReceiverDoes, TakesFinished, ReceiverOpens, ReceiverReceives, TellsDeadline, WritesSent, WritesPdu, dropped_answer};
 
 use crate::answer::CallAnswer;
 use crate::handle::Handle;
@@ -81,7 +81,7 @@ pub extern "C" fn cfdp_receiver_new(
 /// Frees the receiver, with its engine and all its memory.
 #[unsafe(no_mangle)]
 pub extern "C" fn cfdp_receiver_free(alloc: Global, receiver: &mut ReceiverHandle) -> u32
-    ensures answer { ReceiverFrees receiver.old.slot.receiver result }
+    ensures answer { Frees receiver.old.slot.receiver result }
     ensures freed { receiver.new.slot.receiver ≡ None }
 {
     match receiver.take(alloc) {

@@ -286,7 +286,8 @@ own_ack : (R : State) (now : ℕ) (h : Header) (ack : Ack) (s : SessionFields) �
     After R (AckPdu now h ack) (id_of h)
 own_ack R now h ack s here known p =
     let L = Handing.later now R in
-    either_way (λ (parts : Turning.Parts). KnownStill R.world parts.sessions (id_of h)) (Handing.is_ours L h) (Turning.ack_parts L h ack (session_of L (id_of h)))
+    either_way (λ (parts : Turning.Parts). KnownStill R.world parts.sessions (id_of h)) (Handing.is_ours L h)
+    (Turning.ack_parts L h ack (session_of L (id_of h)))
     (Turning.keeps L (Turning.quiet (Turning.foreign h)))
     (subst (λ (o : Option SessionFields). KnownStill R.world (Turning.ack_parts L h ack o).sessions (id_of h)) (sym here)
     (ack_stage R L h ack s s.stage refl here known p known))
@@ -298,7 +299,8 @@ own_prompt R now h prompt s here known p =
     let L = Handing.later now R in
     let r = roused_is L s in
     let kept = kept_still R R.world (id_of h) s here known p in
-    either_way (λ (parts : Turning.Parts). KnownStill R.world parts.sessions (id_of h)) (Handing.is_ours L h) (Turning.prompt_parts L h prompt (session_of L (id_of h)))
+    either_way (λ (parts : Turning.Parts). KnownStill R.world parts.sessions (id_of h)) (Handing.is_ours L h)
+    (Turning.prompt_parts L h prompt (session_of L (id_of h)))
     (Turning.keeps L (Turning.quiet (Turning.foreign h)))
     (subst (λ (o : Option SessionFields). KnownStill R.world (Turning.prompt_parts L h prompt o).sessions (id_of h)) (sym here)
     (either_way (λ (parts : Turning.Parts). KnownStill R.world parts.sessions (id_of h)) (s.header.acknowledged && Turning.takes_prompts (at_of L.world s))

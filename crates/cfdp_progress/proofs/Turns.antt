@@ -239,7 +239,8 @@ pub quiet_other : (R : State) (now : ℕ) (h : Header) (s : SessionFields) → s
     Quiet R.world (id_of h) s false R.world (Turning.after_input R (OtherPdu now h)).sessions
 quiet_other R now h s here =
     let L = Handing.later now R in
-    either_way (λ (parts : Turning.Parts). Quiet R.world (id_of h) s false R.world parts.sessions) (Handing.is_ours L h) (Turning.keeps L (Turning.quiet became.NotOurs))
+    either_way (λ (parts : Turning.Parts). Quiet R.world (id_of h) s false R.world parts.sessions) (Handing.is_ours L h)
+    (Turning.keeps L (Turning.quiet became.NotOurs))
     (Turning.keeps L (Turning.quiet (Turning.foreign h)))
     (kept_quiet R (id_of h) s false here) (kept_quiet R (id_of h) s false here)
 

@@ -287,7 +287,8 @@ waits_of R V rs (AckPdu now h ack) id s d e w ne same =
 waits_of R V rs (PromptPdu now h prompt) id s d e w ne same = waits_pdu R h id s (Turning.prompt_parts R h prompt) e same
     (λ here. waits_prompt R h prompt s here w)
 waits_of R V rs (OtherPdu now h) id s d e w ne same =
-    either_way (Waits R id s) (Handing.is_ours R h) (Turning.keeps R (Turning.quiet became.NotOurs)) (Turning.keeps R (Turning.quiet (Turning.foreign h))) (Same e refl)
+    either_way (Waits R id s) (Handing.is_ours R h) (Turning.keeps R (Turning.quiet became.NotOurs))
+    (Turning.keeps R (Turning.quiet (Turning.foreign h))) (Same e refl)
     (Same e refl)
 waits_of R V rs (Expire now) id s d e w ne same =
     waits_due R V id s (Dues.first_due R R.sessions) d e (found_name R.sessions id s e) w ne refl same

@@ -149,7 +149,8 @@ OfOutcome o p = (p.answer.finished ≡ []) ⊎ (p.answer.finished ≡ finished_o
 
 of_outcome : (R : State) (s : SessionFields) (o : Outcome) → OfOutcome o (Turning.finish_session R s o)
 of_outcome R s o =
-    either_way (OfOutcome o) s.is_abandoned _ _ (inl refl) (either_way (OfOutcome o) (not o.send) _ _ (inl refl) (either_way (OfOutcome o) (not s.header.acknowledged) _ _ (inr refl) (inr refl)))
+    either_way (OfOutcome o) s.is_abandoned _ _ (inl refl) (either_way (OfOutcome o) (not o.send) _ _ (inl refl)
+    (either_way (OfOutcome o) (not s.header.acknowledged) _ _ (inr refl) (inr refl)))
 
 sent_finish : (R : State) (now : ℕ) (s : Option SessionFields) → Due.first_over R.world R.sessions ≡ s →
     Sent R (Finish now) (Turning.finish_parts R s).answer.finished

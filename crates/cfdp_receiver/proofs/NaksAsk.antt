@@ -331,7 +331,8 @@ asked_session_over : (R : State) (V : World) (s : SessionFields) (o : Outcome) â
 asked_session_over R V s o =
     let id = session_id s in
     either_way (AskedIn R V false id) s.is_abandoned _ _ (Asks_none refl)
-    (either_way (AskedIn R V false id) (not o.send) _ _ (Asks_none refl) (either_way (AskedIn R V false id) (not s.header.acknowledged) _ _ (Asks_none refl) (Asks_none refl)))
+    (either_way (AskedIn R V false id) (not o.send) _ _ (Asks_none refl)
+    (either_way (AskedIn R V false id) (not s.header.acknowledged) _ _ (Asks_none refl) (Asks_none refl)))
 
 asked_finish : (R : State) (V : World) (s : Option SessionFields) â†’ AskedIn R V false (session_name s) (Turning.finish_parts R s)
 asked_finish R V None = Asks_none refl

@@ -46,7 +46,8 @@ other_than n id other e = both_ways (is_same n id) other (ap (is_same n) e ∙ s
 
 not_metadata_stage : (id : TransactionId) (h : Header) (m : MetadataFields) (s : SessionFields) (stage : Stage) → id ≢ id_of h → session_id s ≡ id_of h →
     NotAbout id (Handing.metadata_in_stage h m s stage)
-not_metadata_stage id h m s (Held eof) ne name = either_way (NotAbout id) h.acknowledged (MetadataCame h m ∷ EofCame s.header eof ∷ []) [] (ne, ((λ e. ne (e ∙ name)), tt)) tt
+not_metadata_stage id h m s (Held eof) ne name =
+    either_way (NotAbout id) h.acknowledged (MetadataCame h m ∷ EofCame s.header eof ∷ []) [] (ne, ((λ e. ne (e ∙ name)), tt)) tt
 not_metadata_stage id h m s Known ne name = (ne, tt)
 not_metadata_stage id h m s (OverStage ending) ne name = tt
 not_metadata_stage id h m s Waiting ne name = tt
@@ -78,7 +79,8 @@ not_take id (Some s) ne = not_known id s.stage (Take (session_id s) ∷ []) (ne,
 
 not_handed : (R : State) (i : Input) (id : TransactionId) → is_work i ≡ false → id ≢ touched_in R i → NotAbout id (Handing.events_of R i)
 not_handed R (MetadataPdu now h m) id w ne =
-    either_way (NotAbout id) (Handing.is_ours R h) (Handing.metadata_events R h m (session_of R (id_of h))) [] (not_metadata R id h m (session_of R (id_of h)) ne refl) tt
+    either_way (NotAbout id) (Handing.is_ours R h) (Handing.metadata_events R h m (session_of R (id_of h))) []
+    (not_metadata R id h m (session_of R (id_of h)) ne refl) tt
 not_handed R (DataPdu now h piece) id w ne =
     either_way (NotAbout id) (Handing.is_ours R h) (Handing.of_session (session_of R (id_of h)) (DataCame h piece ∷ [])) []
     (not_session id (session_of R (id_of h)) (DataCame h piece ∷ []) (ne, tt)) tt

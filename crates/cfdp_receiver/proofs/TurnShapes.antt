@@ -104,7 +104,8 @@ shape_eof R V rs h eof None e =
     (λ b.
     let both = or_parts (is_closed R (id_of h) || not (eof.condition == 0)) (not h.acknowledged) b in
     let unclosed = (or_parts (is_closed R (id_of h)) (not (eof.condition == 0)) both.0).0 in
-    either_way (Shape R (id_of h)) (is_full R) full holds (said_keeps R (id_of h) h words.TableFull) (Adds (Turning.begun_session R h (Held eof)) _ refl e unclosed refl))
+    either_way (Shape R (id_of h)) (is_full R) full holds (said_keeps R (id_of h) h words.TableFull)
+    (Adds (Turning.begun_session R h (Held eof)) _ refl e unclosed refl))
 shape_eof R V rs h eof (Some s) e = shape_eof_stage R V rs h eof s s.stage (found_name R.sessions (id_of h) s e)
 
 -- what closes a session of that name

@@ -3,7 +3,6 @@
 --     FileContent, LineMeaning  what a file holds that the filestore begins with;  what a line says: a command, with
 --                               octets as lists
 --     content_of, command_meaning  the same of a value of the program
---     first_then                something, and then more by it, or what is wrong first
 --     setting mib text          the settings with the one that a word `KEY=VALUE` writes
 --     settings_in mib texts     the same of one or more words, from the left
 --     config_in progress numbers        the configuration of five numbers
@@ -23,6 +22,7 @@ use Rattle.std.specs.Prelude.{⊤, ℕ, ◌+◌, ◌-◌, ◌==◌, ◌&&◌, Bo
 use Rattle.std.specs.Option.{ok_or, option_map_or}
 use Rattle.std.specs.List.{join_with_byte}
 use Rattle.cfdp_status.specs.declared.transaction.TransactionId.{TransactionId}
+use Rattle.cfdp_tlv.specs.Reading.{◌>>=◌}
 use Rattle.cfdp_paths.specs.Paths.{Path, is_slash, path_of}
 use Rattle.cfdp_transactions.specs.Config.{Config, config_fault}
 use Rattle.cfdp_transactions.specs.declared.config.ConfigFault.{ConfigFault}
@@ -90,12 +90,8 @@ command_meaning command.List = ListAll
 command_meaning (command.Expect line) = Expect line.items
 command_meaning command.End = End
 
-abbrev pub first_then : {A B : Type 0} → Result A Wrong → (A → Result B Wrong) → Result B Wrong
-first_then (Ok first) later = later first
-first_then (Err wrong) later = Err wrong
-
 abbrev pub saying : {A B : Type 0} → (A → B) → Result A Wrong → Result B Wrong
-saying say what = first_then what (λ x. Ok (say x))
+saying say what = what >>= λ x. Ok (say x)
 
 -- ---- `mib`: one or more settings
 
@@ -106,7 +102,7 @@ abbrev pub valued : Mib → Key → List ℕ → Result Mib Wrong
 valued mib key value = ok_or (with_value mib key value) (wrong.OutOfRange key)
 
 abbrev pub keyed : Mib → Option Key → List ℕ → Result Mib Wrong
-keyed mib key value = first_then (ok_or key wrong.UnknownKey) (λ known. valued mib known value)
+keyed mib key value = ok_or key wrong.UnknownKey >>= λ known. valued mib known value
 
 -- the key is before the first `=`, and a word without one names no key
 abbrev pub setting_at : Mib → List ℕ → Option ℕ → Result Mib Wrong
@@ -118,7 +114,7 @@ setting mib text = setting_at mib text (position is_equals text)
 
 abbrev pub settings : Mib → List (List ℕ) → Result Mib Wrong
 settings mib [] = Ok mib
-settings mib (text ∷ texts) = first_then (setting mib text) (λ next. settings next texts)
+settings mib (text ∷ texts) = setting mib text >>= λ next. settings next texts
 
 abbrev pub settings_in : Mib → List (List ℕ) → Result Mib Wrong
 settings_in mib [] = Err (wrong.Expected word.Mib)
@@ -176,7 +172,7 @@ directory_or_file octets (Some front) = saying PutDirectory (path_or_wrong (path
 directory_or_file octets None = saying (λ path. PutFile path Nothing) (path_or_wrong (path_of octets))
 
 abbrev pub put_alone : Option (List ℕ) → Result LineMeaning Wrong
-put_alone name = first_then (ok_or name wrong.NoPath) (λ octets. directory_or_file octets (before_slash octets))
+put_alone name = ok_or name wrong.NoPath >>= λ octets. directory_or_file octets (before_slash octets)
 
 abbrev pub only_file : List ℕ → List (List ℕ) → Option PutContent
 only_file name [] = Some (File name)
@@ -194,8 +190,8 @@ content_in ((octet ∷ name) ∷ texts) = if octet == 64 then only_file name tex
 
 abbrev pub put_with : List ℕ → Option PutContent → Result LineMeaning Wrong
 put_with text content =
-    first_then (ok_or content (wrong.Expected word.Put))
-    (λ holds. saying (λ path. PutFile path holds) (path_or_wrong (path_spelled text)))
+    ok_or content (wrong.Expected word.Put) >>= λ holds. saying (λ path. PutFile path holds)
+    (path_or_wrong (path_spelled text))
 
 abbrev pub put_in : List (List ℕ) → Result LineMeaning Wrong
 put_in [] = Err (wrong.Expected word.Put)
@@ -214,7 +210,7 @@ input_in now (text ∷ texts) =
 
 abbrev pub at_in : List (List ℕ) → Result LineMeaning Wrong
 at_in [] = Err (wrong.Expected word.At)
-at_in (text ∷ texts) = first_then (ok_or (number_of text) (wrong.Expected word.At)) (λ now. input_in now texts)
+at_in (text ∷ texts) = ok_or (number_of text) (wrong.Expected word.At) >>= λ now. input_in now texts
 
 -- ---- the others
 
@@ -252,7 +248,7 @@ in_time mib how_far word texts = if is_of_head word && is_playing how_far then E
     else says mib how_far word texts
 
 abbrev pub begun_by : Mib → HeadProgress → Option FirstWord → List (List ℕ) → Result LineMeaning Wrong
-begun_by mib how_far word texts = first_then (ok_or word wrong.UnknownWord) (λ known. in_time mib how_far known texts)
+begun_by mib how_far word texts = ok_or word wrong.UnknownWord >>= λ known. in_time mib how_far known texts
 
 abbrev pub texts_say : Mib → HeadProgress → List (List ℕ) → Result (Option LineMeaning) Wrong
 texts_say mib how_far [] = Ok None

@@ -6,13 +6,14 @@ use Rattle.std.proofs.Common.{◌≡◌, ℕ, ◌+◌, ◌≤◌, true, false, L
 use Rattle.std.specs.Prelude.{Option, Some, None, Result, Ok, Err, ok_or, nat_le, nat_lt, ◌==◌, ◌&&◌, ◌||◌, not, if◌then◌else◌, position, bytes_eq, codes, option_map}
 use Rattle.std.proofs.lemmas.Bool.{cases_Bool, not-false, leb-true, le-ltb, ne_eqb, and_parts, or_parts}
 use Rattle.cfdp_paths.specs.Paths.{path_of}
+use Rattle.cfdp_tlv.specs.Reading.{◌>>=◌}
 use Rattle.cfdp_lines.specs.Lines.{is_overlong, is_comment}
 use Rattle.cfdp_lines.specs.Words.{number_of, numbers_of, words_of}
 use Rattle.cfdp_plans.specs.Names.{name_in, path_spelled}
 use Rattle.cfdp_receiver.specs.StateMachine.{mib_fault, lacks_time, is_no_time, is_limit}
 use Rattle.cfdp_receiver.specs.declared.mib.Mib.{Mib}
 use Rattle.cfdp_receiver.specs.declared.mib.MibFault.TheVariants as faults
-use Rattle.cfdp_run.specs.Commands.{Nothing, LineMeaning, Settings, Configure, Protect, PutDirectory, PutFile, Receive, Cancel, Get, Gaps, Phase, ListAll, Expect, End, first_then, saying, is_equals, valued, setting_at, setting, settings, settings_in, config_in, path_or_wrong, only_path, only_name, octets_spelled, before_slash, directory_or_file, content_in, put_in, input_in, at_in, line_in, says_alone, says, is_playing, in_time, begun_by, texts_say, meaning_in}
+use Rattle.cfdp_run.specs.Commands.{Nothing, LineMeaning, Settings, Configure, Protect, PutDirectory, PutFile, Receive, Cancel, Get, Gaps, Phase, ListAll, Expect, End, saying, is_equals, valued, setting_at, setting, settings, settings_in, config_in, path_or_wrong, only_path, only_name, octets_spelled, before_slash, directory_or_file, content_in, put_in, input_in, at_in, line_in, says_alone, says, is_playing, in_time, begun_by, texts_say, meaning_in}
 use Rattle.cfdp_run.specs.Settings.{key_of, within_by, interval_of, limit_of, longest_of, keep_alive_of, nak_mode_of, yes_of, handler_of, with_value}
 use Rattle.cfdp_run.specs.code.Stages.{IsFit}
 use Rattle.cfdp_run.specs.Words.{is_of_head, word_of}
@@ -272,7 +273,7 @@ unfolding FitsAll
 valued_by None wrong h = tt
 valued_by (Some new) wrong h = h new refl
 
-then_fits : {A : Type 0} (r : Result A Wrong) (later : A → Result Mib Wrong) → ((x : A) → FitsAll (later x)) → FitsAll (first_then r later)
+then_fits : {A : Type 0} (r : Result A Wrong) (later : A → Result Mib Wrong) → ((x : A) → FitsAll (later x)) → FitsAll (r >>= later)
 unfolding FitsAll
 then_fits (Ok x) later h = h x
 then_fits (Err wrong) later h = tt
@@ -284,7 +285,7 @@ setting_at-fits mib text (Some end) f =
     then_fits (ok_or (key_of (take end text)) _) (λ known. valued mib known (drop (end + 1) text))
     (λ known. valued_by (with_value mib known (drop (end + 1) text)) _ (λ new e. with_value-fits mib known (drop (end + 1) text) new f e))
 
-then_settings : (r : Result Mib Wrong) (later : Mib → Result Mib Wrong) → FitsAll r → ((x : Mib) → Fits x → FitsAll (later x)) → FitsAll (first_then r later)
+then_settings : (r : Result Mib Wrong) (later : Mib → Result Mib Wrong) → FitsAll r → ((x : Mib) → Fits x → FitsAll (later x)) → FitsAll (r >>= later)
 unfolding FitsAll
 then_settings (Ok mib) later f h = h mib f
 then_settings (Err wrong) later f h = tt
@@ -311,7 +312,7 @@ unfolding FitsAll FitsSaid
 set_fits (Ok mib) f = fits_none mib f
 set_fits (Err wrong) f = tt
 
-first_fits : {A : Type 0} (r : Result A Wrong) (later : A → Result LineMeaning Wrong) → ((x : A) → FitsSaid (later x)) → FitsSaid (first_then r later)
+first_fits : {A : Type 0} (r : Result A Wrong) (later : A → Result LineMeaning Wrong) → ((x : A) → FitsSaid (later x)) → FitsSaid (r >>= later)
 unfolding FitsSaid
 first_fits (Ok x) later h = h x
 first_fits (Err wrong) later h = tt
