@@ -207,7 +207,8 @@ quiet_ack : (R : State) (now : ℕ) (h : Header) (ack : Ack) (s : SessionFields)
     Quiet R.world (id_of h) s false R.world (Turning.after_input R (AckPdu now h ack)).sessions
 quiet_ack R now h ack s here known =
     let L = Handing.later now R in
-    either_way (λ (parts : Turning.Parts). Quiet R.world (id_of h) s false R.world parts.sessions) (Handing.is_ours L h) (Turning.ack_parts L h ack (session_of L (id_of h)))
+    either_way (λ (parts : Turning.Parts). Quiet R.world (id_of h) s false R.world parts.sessions) (Handing.is_ours L h)
+    (Turning.ack_parts L h ack (session_of L (id_of h)))
     (Turning.keeps L (Turning.quiet (Turning.foreign h)))
     (subst (λ (o : Option SessionFields). Quiet R.world (id_of h) s false R.world (Turning.ack_parts L h ack o).sessions) (sym here)
     (quiet_ack_stage R L h ack s s.stage here refl known))
@@ -228,7 +229,8 @@ quiet_prompt R now h prompt s here =
     let takes = s.header.acknowledged && Turning.takes_prompts (at_of L.world s) in
     let put = Turning.replaces_one L (Turning.roused L s) (Turning.prompted L h s prompt) in
     let idle = Turning.keeps L (Turning.said_of_header h words.Idle) in
-    either_way (λ (parts : Turning.Parts). Quiet R.world (id_of h) s false R.world parts.sessions) (Handing.is_ours L h) (Turning.prompt_parts L h prompt (session_of L (id_of h)))
+    either_way (λ (parts : Turning.Parts). Quiet R.world (id_of h) s false R.world parts.sessions) (Handing.is_ours L h)
+    (Turning.prompt_parts L h prompt (session_of L (id_of h)))
     (Turning.keeps L (Turning.quiet (Turning.foreign h)))
     (subst (λ (o : Option SessionFields). Quiet R.world (id_of h) s false R.world (Turning.prompt_parts L h prompt o).sessions) (sym here)
     (either_way (λ (parts : Turning.Parts). Quiet R.world (id_of h) s false R.world parts.sessions) takes put idle
