@@ -254,7 +254,7 @@ record Silent (read : Result Pdu PduFault) (field : List ℕ) : Type 0 where
   none : messages_of read field ≡ []
 
 chosen : (b : Bool) {x y : Result Pdu PduFault} {field : List ℕ} → Silent x field → Silent y field → Silent (cond b x y) field
-chosen b left right = either_way (λ (r : Result Pdu PduFault). Silent r field) b _ _ left right
+chosen b {field = field} left right = either_way (λ (r : Result Pdu PduFault). Silent r field) b _ _ left right
 
 file_data : (header : Header) (read : Result FileDataFields PduFault) (field : List ℕ) → Silent (read >>= λ d. Ok (pdus.FileData header d)) field
 file_data header (Ok d) field = record { none = refl }
