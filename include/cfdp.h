@@ -22,10 +22,10 @@
  * cfdp_new, by cfdp_put, by cfdp_receive for a Metadata PDU alone, and by cfdp_reply_text, which uses no engine; by
  * nothing else. So no file that arrives, no request that is performed, no outcome that is taken and no look at the
  * filestore takes memory. cfdp_new asks for CFDP_NEW_OCTETS octets, and for those of the prefixes. The transactions
- * that are known keep together at most the sum of this, for each: 2000 octets, 150 for each request, 300 for each
- * path (those of the requests and of the destination, and each directory above one of them), twice the octets of
- * these paths, and twice those of the names in the Metadata PDU. That is at most 600000 octets for a transaction, and
- * 38400000 for 64 of them.
+ * that are known keep together at most the sum of this, for each: 2000 octets; 150 for each request; 300 for each
+ * path, and twice its octets; and twice the octets of the names in the Metadata PDU. The paths are those of the
+ * requests and of the destination, and each directory above one of them. That is at most 600000 octets for a
+ * transaction, and 38400000 for 64 of them.
  * While cfdp_receive judges a Metadata PDU with more than 64 filestore requests it also takes, and gives back, 40
  * octets for each of them. A list that changes directories with entries, and names paths in them, takes more until it
  * is judged: up to 480 octets for each path that it sees, four times the octets of that path, and 600 for a directory

@@ -3,7 +3,7 @@
  * out. It has no socket, no clock, no thread and no callback.
  *
  * A program makes an engine with cfdp_new, puts into it the files that are there (cfdp_put), and makes a receiver of
- * it. Then it goes round: it waits for a PDU until the moment that cfdp_receiver_deadline says, and calls
+ * it. Then it repeats these steps: it waits for a PDU until the moment that cfdp_receiver_deadline says, and calls
  * cfdp_receiver_receive with what came. As long as that moment has passed it calls cfdp_receiver_expire, also where a
  * PDU came, so that a busy link stops no timer. Then it calls cfdp_receiver_work until there is nothing to do, and
  * cfdp_receiver_finish likewise. After each of these calls it sends the PDUs of the answer: cfdp_receiver_write for

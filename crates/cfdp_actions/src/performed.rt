@@ -20,8 +20,8 @@ pub struct Performed {
 
 /// Performs a filestore request on a store (CCSDS 727.0-B-5, filestore procedures), except where the prefixes bar it.
 ///
-/// Status, state after and ticks are those of the action table. Memory is wanted only where the table's answer is
-/// successful; when out of memory the store is as before.
+/// Status, state after and ticks are those of the action table. It may ask for memory only where the table's answer
+/// is successful; when out of memory the store is as before.
 ///
 /// Cost: at most two comparisons with each prefix, the reads of [`refusal`], a `free` where blocks are taken, the
 /// `size` of each file that is joined, one `kind` more of a path that is denied, and the change.

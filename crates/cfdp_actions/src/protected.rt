@@ -78,7 +78,7 @@ impl Protected {
         self.prefixes.as_slice().get(index)?.as_ref()
     }
 
-    /// Whether the path is at or below a prefix.
+    /// Whether the path is at or below a prefix. Cost: at most eight comparisons of paths.
     pub fn covers(&self, path: &Path) -> bool
         ensures { result ≡ is_protected self.now path.now }
     {
@@ -107,7 +107,7 @@ impl Protected {
     }
 
     /// Whether the request would change what is protected. Creates are never barred; other requests if the first name
-    /// is at or below a prefix; renames also if a prefix is at or below it.
+    /// is at or below a prefix; renames also if a prefix is at or below it. Cost: at most sixteen comparisons of paths.
     pub fn bars(&self, request: &Request) -> bool
         ensures { result ≡ bars self.now request.now }
     {

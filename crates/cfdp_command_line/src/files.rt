@@ -77,7 +77,8 @@ fn open_all<O: Opens>(files: &O, alloc: Global, paths: &[&str]) -> Result<Vec<O:
 ///
 /// # Errors
 ///
-/// `Read` where a read failed, or the input has more octets than a script may have, and `Memory` out of memory.
+/// `Read` where a read failed, or the input has more octets than a script may have, and `Memory` out of memory. Cost:
+/// one pass over the input.
 pub fn read_whole<I: Read + Drop>(alloc: Global, input: I) -> Result<Vec<u8>, RunFault>
     ensures short { IfOk result (λ octets. length octets.items ≤ input_limit) }
     ensures whole { IfOk result (λ octets. IsWhole (I.remaining input) octets.items) }
@@ -122,7 +123,7 @@ fn read_each<I: Read + Drop>(alloc: Global, inputs: Vec<I>) -> Result<Vec<Vec<u8
 /// The first file that cannot be opened ends it, with the fault of [`Opens::open`]; and if all are open, the first that
 /// cannot be read, with the fault of [`read_whole`].
 ///
-/// Memory: the octets of all files.
+/// Memory: the octets of all files. Cost: one pass over each file.
 pub fn read_all<O: Opens>(
     files: &O,
     alloc: Global,

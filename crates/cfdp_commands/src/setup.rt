@@ -51,7 +51,7 @@ fn copy_prefixes(alloc: Global, protected: &Protected) -> Result<Protected, Allo
     Ok(copy)
 }
 
-/// A copy of the configuration.
+/// A copy of the configuration. The only fault is out of memory. Cost: a copy of each protected path, at most eight.
 pub fn copy_config(alloc: Global, config: &Config) -> Result<Config, AllocError>
     ensures { IfOk result (λ copy. copy ≡ config.now) }
 {

@@ -221,8 +221,8 @@ impl Chart {
         Ok(index)
     }
 
-    /// Something comes or is sent: one mark in the lane of its transaction, at this moment. Returns how many
-    /// lanes are above that one.
+    /// Adds a mark for what comes or is sent to the lane of its transaction, at this moment. Returns how many lanes are
+    /// above that one.
     ///
     /// # Errors
     ///
@@ -251,7 +251,7 @@ impl Chart {
         Ok(index)
     }
 
-    /// Something is said of a transaction at this moment.
+    /// Adds a note about a transaction at this moment.
     ///
     /// # Errors
     ///
@@ -289,7 +289,7 @@ impl Chart {
         Ok(())
     }
 
-    /// A transaction is seen so after this moment.
+    /// Records the phase and the file of a transaction after this moment.
     ///
     /// # Errors
     ///
@@ -329,7 +329,7 @@ impl Chart {
         Ok(())
     }
 
-    /// This moment is over, and these blocks are taken after it.
+    /// Ends this moment: these blocks are in use after it.
     ///
     /// # Errors
     ///

@@ -1,4 +1,4 @@
-//! What is round the core of a CFDP receiving entity (CCSDS 727.0-B-5): a journal of all that the core did, seats
+//! What surrounds the core of a CFDP receiving entity (CCSDS 727.0-B-5): a journal of all that the core did, seats
 //! with the receipts of what they handed in, one lock, and workers.
 //!
 //! The definitions are in `specs/`: `Journal.antt` says what a journal is, `Seats.antt` when receipts are the

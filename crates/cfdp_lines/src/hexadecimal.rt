@@ -90,7 +90,7 @@ pub fn decode_line(line: &[u8], octets: &mut Vec<u8>) -> Result<(), LineFault>
 }
 
 /// Puts the octets that a line of hexadecimal spells into room of a fixed size, and returns how many they are; nothing
-/// where the line spells none, or more than there is room for. It asks for no memory.
+/// where the line spells none, or more than there is room for. It asks for no memory. Cost: one pass over the line.
 pub fn decode_within(line: &[u8], room: &mut [u8]) -> Option<usize>
     ensures some { IfSome result (λ len. hex_octets line.now ≡ Some (take len room.new)) }
     ensures within { IfSome result (λ len. len ≤ length room.new) }
@@ -112,6 +112,11 @@ pub fn decode_within(line: &[u8], room: &mut [u8]) -> Option<usize>
 }
 
 /// Replaces `octets` by the octets that the words of a line spell.
+///
+/// # Errors
+///
+/// `Bad` where a word is no pairs of digits, and `Memory` out of memory. Cost: one pass over the line, and out of
+/// memory one more.
 pub fn decode_words(line: &[u8], octets: &mut Vec<u8>) -> Result<(), LineFault>
     ensures octets { OnOk result (octets_of_words (words_of line.now) ≡ Some octets.new.items) }
     ensures bad { (result ≡ Err Bad) ↔ (octets_of_words (words_of line.now) ≡ None) }

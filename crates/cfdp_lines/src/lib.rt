@@ -1,6 +1,6 @@
 //! Scripts in lines: each line is answered by itself, in order, and the answers are written.
 //!
-//! Octets are read some ten thousand at a time. Answers are held back: they are written when 64 KiB of them are full,
+//! At most 65,536 octets are read at a time. Answers are held back: they are written when 64 KiB of them are full,
 //! before each read of input, and at the end. What a line does is a [`Script`]'s to say; why a run can stop before its
 //! end is said here. So is where octets are cut into lines, and so are the words of a line, and the numbers and octets
 //! that they spell.

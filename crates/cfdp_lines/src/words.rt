@@ -12,7 +12,7 @@ use std::str;
 /// The most numbers that [`numbers_of`] reads.
 pub const MOST_NUMBERS: usize = 5;
 
-/// A line without the spaces that it begins with.
+/// A line without the spaces that it begins with. Cost: one pass over the line.
 pub fn skip_spaces(line: &[u8]) -> &[u8]
     ensures words { words_of result.now ≡ words_of line.now }
     ensures first { 0 < length result.now → get_or result.now 0 0 ≢ 32 }
@@ -73,7 +73,7 @@ pub fn number_of(word: &[u8]) -> Option<u64>
 }
 
 /// The numbers that the words of a line write: none where a word writes no number, or there are more than a command
-/// has.
+/// has. Cost: one pass over the line.
 pub fn numbers_of(line: &[u8]) -> Option<ArrayVec<u64, MOST_NUMBERS>>
     ensures some { IfSome result (λ numbers. numbers_of (words_of line.now) ≡ Some numbers.items) }
     ensures none { result ≡ None → (numbers_of (words_of line.now) ≡ None) ⊎ (5 < length (words_of line.now)) }

@@ -137,7 +137,8 @@ impl Live {
     ///
     /// # Errors
     ///
-    /// [`AllocError`] when out of memory: a part of what was to be done is done.
+    /// [`AllocError`] when out of memory: a part of what was to be done is done. Cost: that of the calls of `Receiver`
+    /// that it makes.
     pub fn pass(&mut self, alloc: Global, now: u64, output: &mut Output) -> Result<(), AllocError>
         ensures { OnOk result (MakesOut self.old.receiver.state
             (passing most_timers now self.old.receiver.state) self.new.receiver.state output.old output.new) }
@@ -155,7 +156,8 @@ impl Live {
     ///
     /// # Errors
     ///
-    /// [`AllocError`] when out of memory: a part of what was to be done is done.
+    /// [`AllocError`] when out of memory: a part of what was to be done is done. Cost: that of the calls of `Receiver`
+    /// that it makes.
     pub fn receive(
         &mut self,
         alloc: Global,

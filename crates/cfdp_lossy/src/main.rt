@@ -3,10 +3,10 @@
 //! mode, that many transfers in each.
 //!
 //! In mode `lossy` each file is whole after at most one NAK round more than PDUs were lost, and after two more where
-//! 32 pieces of it without its first octet were there. In both modes no input is answered by more PDUs than it may
-//! be, both ends are closed, no file is called complete whose octets are others, and no request is performed twice,
-//! not even where all PDUs come once more at the end. Where it is otherwise the program says so, with the number of
-//! the transfer, and its exit status is 1.
+//! 32 pieces of it without its first octet were there. In both modes: no input is answered by more PDUs than it may be.
+//! Both ends are closed. No file is called complete whose octets are others. No request is performed twice, even where
+//! all PDUs come once more at the end. Where it is otherwise the program says so, with the number of the transfer, and
+//! its exit status is 1.
 #![tactic(auto)]
 
 mod channel;

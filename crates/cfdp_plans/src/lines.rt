@@ -15,7 +15,8 @@ use cfdp_uploads::Upload;
 use std::alloc::{AllocError, Global};
 
 /// Appends the line of a configuration: the entity ID, the blocks of the filestore, the cap on files of unbounded size
-/// in octets, the check limit, and the entries of the journal. The only fault is out of memory.
+/// in octets, the check limit, and the entries of the journal. The only fault is out of memory. Cost: the octets that
+/// it appends.
 pub fn push_config(
     entity: u64,
     blocks: u64,
@@ -34,7 +35,7 @@ pub fn push_config(
     Ok(text.push(b'\n')?)
 }
 
-/// Appends the line of a protected path. The only fault is out of memory.
+/// Appends the line of a protected path. The only fault is out of memory. Cost: the octets that it appends.
 #[tactic(auto, unfolding(crate::specs::Lines::protect_line))]
 pub fn push_protect(path: &[u8], text: &mut Vec<u8>) -> Result<(), AllocError>
     ensures { OnOk result (text.new.items ≡ text.old.items ++ protect_line path.now) }
@@ -44,7 +45,7 @@ pub fn push_protect(path: &[u8], text: &mut Vec<u8>) -> Result<(), AllocError>
     Ok(text.push(b'\n')?)
 }
 
-/// Appends the line that lists the filestore. The only fault is out of memory.
+/// Appends the line that lists the filestore. The only fault is out of memory. Cost: the octets that it appends.
 pub fn push_list(text: &mut Vec<u8>) -> Result<(), AllocError>
     ensures { OnOk result (text.new.items ≡ text.old.items ++ list_line) }
 {

@@ -124,7 +124,7 @@ impl Player {
     ///
     /// # Errors
     ///
-    /// [`AllocError`] when out of memory.
+    /// [`AllocError`] when out of memory. Cost: that of the calls of `Receiver` that it makes.
     pub fn cancel(
         &mut self,
         alloc: Global,
@@ -163,7 +163,7 @@ impl Player {
     ///
     /// # Errors
     ///
-    /// [`AllocError`] when out of memory.
+    /// [`AllocError`] when out of memory. Cost: that of the calls of `Receiver` that it makes.
     pub fn pass(&mut self, alloc: Global, now: u64, text: &mut Vec<u8>) -> Result<(), AllocError>
         ensures { OnOk result (Plays self.old.receiver.state
             (passing most_timers now self.old.receiver.state) self.new.receiver.state text.old.items text.new.items) }
@@ -181,7 +181,7 @@ impl Player {
     ///
     /// # Errors
     ///
-    /// [`AllocError`] when out of memory.
+    /// [`AllocError`] when out of memory. Cost: that of the calls of `Receiver` that it makes.
     pub fn receive(
         &mut self,
         alloc: Global,

@@ -67,7 +67,7 @@ fn push_range(key: Key, text: &mut Vec<u8>) -> Result<(), AllocError>
 ///
 /// # Errors
 ///
-/// [`AllocError`] when out of memory.
+/// [`AllocError`] when out of memory. Cost: the octets that it appends.
 #[tactic(auto, unfolding(crate::specs::Wrongs::wrong_text))]
 pub fn push_wrong(wrong: Wrong, text: &mut Vec<u8>) -> Result<(), AllocError>
     ensures { OnOk result (text.new.items ≡ text.old.items ++ wrong_text wrong) }

@@ -245,9 +245,8 @@ pub fn links<R: Threads + Wait + Sync, G: Gate + Sync, W: ScriptOut>(
 ) -> Result<(), LinkFault>
     requires few { length scripts.now ≤ 4 }
     requires short { AllByRecursion (λ script. length script.items ≤ input_limit) scripts.now }
-    // No script has a bad line, and the text that was written is that of a journal of the entity with their
-    // configuration, whose entries are the receipts of the seats, and in which each seat's events are those of its
-    // file's lines.
+    // No script has a bad line. The text that was written is that of a journal of the entity with their configuration.
+    // Its entries are the receipts of the seats, and each seat's events are those of its file's lines.
     ensures ok { OnOk result (IsLinkRun (map (λ script. script.items) scripts.now) (W.contents writer.old)
         (W.contents writer.new)) }
     // The first bad line of the first file that has one.

@@ -17,7 +17,7 @@ use std::alloc::{AllocError, Global};
 ///
 /// # Errors
 ///
-/// Out of memory: the text begins with what it was.
+/// Out of memory: the text begins with what it was. Cost: the octets that it appends.
 #[tactic(auto, unfolding(crate::specs::Replies::number_text))]
 pub fn push_number(number: u64, text: &mut Vec<u8>) -> Result<(), AllocError>
     ensures ok { OnOk result (text.new.items ≡ text.old.items ++ number_text number) }
@@ -31,7 +31,7 @@ pub fn push_number(number: u64, text: &mut Vec<u8>) -> Result<(), AllocError>
 ///
 /// # Errors
 ///
-/// Out of memory: the text begins with what it was.
+/// Out of memory: the text begins with what it was. Cost: the octets that it appends.
 #[tactic(auto, unfolding(crate::specs::Replies::labelled))]
 pub fn push_labelled(label: &[u8], number: u64, text: &mut Vec<u8>) -> Result<(), AllocError>
     ensures ok { OnOk result (text.new.items ≡ text.old.items ++ labelled label.now number) }
@@ -202,7 +202,8 @@ pub fn write_reply(
 ///
 /// # Errors
 ///
-/// Out of memory: the text begins with what it was, and a part of the line may follow.
+/// Out of memory: the text begins with what it was, and a part of the line may follow. Cost: the octets that it
+/// appends.
 pub fn write_taken(
     id: TransactionId,
     octets: &[u8],

@@ -1,5 +1,5 @@
 -- The codes of CFDP in the standard's words.
---   condition_words      a condition code (CCSDS 727.0-B-5 §5.1, the condition codes)
+--   condition_words      a condition code (CCSDS 727.0-B-5 §5.2.2)
 --   checksum_words       a checksum type
 --   file_status_words    a file status (§5.2.3)
 --   directive_words      a directive code (§5.2)

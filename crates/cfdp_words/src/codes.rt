@@ -7,7 +7,7 @@ use cfdp_directives::TransactionStatus;
 use cfdp_pdus::{checksum_type, condition, directive, file_status};
 use cfdp_status::{Action, Status};
 
-/// A condition code (CCSDS 727.0-B-5, the condition codes).
+/// A condition code (CCSDS 727.0-B-5 §5.2.2).
 pub fn condition_words(code: u8) -> &'static [u8]
     ensures { result.now ≡ condition_words code }
 {

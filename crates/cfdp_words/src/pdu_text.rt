@@ -206,7 +206,7 @@ fn push_metadata(
     push_messages(style, messages, text)
 }
 
-/// Appends a condition code (CCSDS 727.0-B-5, the condition codes).
+/// Appends a condition code (CCSDS 727.0-B-5 §5.2.2).
 fn push_condition(style: Style, condition: u8, text: &mut Vec<u8>) -> Result<(), AllocError>
     ensures { OnOk result (text.new.items ≡ text.old.items
         ++ code_field style names.ConditionCode condition (condition_words condition)) }

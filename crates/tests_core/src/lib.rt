@@ -1,6 +1,5 @@
-//! Worked lists of filestore requests, across the crates that judge them (CCSDS 727.0-B-5, filestore procedures): the
-//! verdicts of `cfdp_verifier`, what the views of `cfdp_states` say, and out of memory in both. Also whole
-//! transactions, a journal that is full, workers, and what comes from outside and means harm. This crate has tests
+//! Tests of what no program prints: views of `cfdp_states`, what an entity says of itself between events, verdicts when
+//! out of memory, a full journal, workers. Worked lists and transactions are in `.ci/cases`. This crate has tests
 //! alone.
 #![tactic(auto)]
 
