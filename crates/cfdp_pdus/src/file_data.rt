@@ -8,6 +8,7 @@ ghost use Rattle.cfdp_pdus.specs.Canonical.{IsHeader, IsSizedFileData, pdu_octet
 ghost use Rattle.cfdp_pdus.specs.declared.fault.PduFault.TheVariants.{Memory as OutOfMemory};
 ghost use Rattle.cfdp_pdus.specs.declared.fault.WriteFault.TheVariants.{TooLong, Memory};
 
+use crate::header::Start;
 use crate::number::{read_number, size_len};
 use crate::put::{MAX_FIELD_LEN, header_len, push_header, push_number};
 use crate::{Header, PduFault, WriteFault};
@@ -100,24 +101,22 @@ fn skip_segment(segment_metadata: bool, octets: &[u8]) -> Result<&[u8], PduFault
 
 /// A File Data PDU's data field, whose octets stay where they are.
 #[tactic(auto, unfolding(crate::specs::First::file_data_at))]
-pub fn find_piece(large: bool, segment_metadata: bool, octets: &[u8]) -> Result<Piece<'_>, PduFault>
-    ensures { Answers (λ piece. piece) result (file_data_at large segment_metadata octets.now) }
+pub fn find_piece<'a>(start: &Start<'a>) -> Result<Piece<'a>, PduFault>
+    ensures { Answers (λ piece. piece) result
+        (file_data_at start.now.header.large start.now.segment_metadata start.now.field) }
 {
-    let rest = skip_segment(segment_metadata, octets)?;
-    let (offset, octets) = read_number(rest, size_len(large), PduFault::LengthMismatch)?;
+    let rest = skip_segment(start.segment_metadata, start.field)?;
+    let number_len = size_len(start.header.large);
+    let (offset, octets) = read_number(rest, number_len, PduFault::LengthMismatch)?;
     Ok(Piece { offset, octets })
 }
 
 /// A File Data PDU's data field.
-pub fn read_file_data(
-    alloc: Global,
-    large: bool,
-    segment_metadata: bool,
-    octets: &[u8],
-) -> Result<FileData, PduFault>
-    ensures { Gives OutOfMemory (λ file_data. file_data) result (file_data_at large segment_metadata octets.now) }
+pub fn read_file_data(alloc: Global, start: &Start<'_>) -> Result<FileData, PduFault>
+    ensures { Gives OutOfMemory (λ file_data. file_data) result
+        (file_data_at start.now.header.large start.now.segment_metadata start.now.field) }
 {
-    let piece = find_piece(large, segment_metadata, octets)?;
+    let piece = find_piece(start)?;
     Ok(FileData {
         offset: piece.offset,
         octets: Vec::from_slice(alloc, piece.octets)?,

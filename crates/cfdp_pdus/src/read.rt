@@ -47,9 +47,7 @@ fn read_field(alloc: Global, start: &Start<'_>) -> Result<Pdu, PduFault>
 {
     let header = start.header;
     if start.file_data {
-        let segment_metadata = start.segment_metadata;
-        let file_data = read_file_data(alloc, header.large, segment_metadata, start.field)?;
-        return Ok(Pdu::FileData(header, file_data));
+        return Ok(Pdu::FileData(header, read_file_data(alloc, start)?));
     }
     read_directive(alloc, header, start.field)
 }
@@ -67,7 +65,7 @@ pub fn read_piece(octets: &[u8]) -> Option<(Header, Piece<'_>)>
     if !start.file_data {
         return None;
     }
-    match find_piece(start.header.large, start.segment_metadata, start.field) {
+    match find_piece(&start) {
         Ok(piece) => Some((start.header, piece)),
         Err(_) => None,
     }
