@@ -1,13 +1,13 @@
 //! A link that reorders, repeats and lies: pieces of long files in other orders than they were cut, and faulty PDUs
 //! between.
 use crate::digest::Digest;
-use crate::fault::Fault;
+use crate::fault::WorkloadFault;
 use crate::names::spell;
 use crate::pdus::{List, Sender};
-use crate::pool::{Piece, Pool};
+use crate::pool::{Pool, PoolPiece};
 use crate::random::Random;
 use crate::receiver::size_of;
-use crate::script::{CONFIG, Script};
+use crate::script::{CONFIG, ScriptText};
 use cfdp_sim::replay_text;
 use cfdp_status::Action;
 use std::alloc::Global;
@@ -22,7 +22,7 @@ const GAPS: usize = 24;
 
 /// The order in which the pieces of a file come.
 #[derive(Clone, Copy, PartialEq, Eq)]
-enum Order {
+enum Arrival {
     /// Every two neighbours are swapped.
     Swapped,
     /// The last one first.
@@ -35,28 +35,28 @@ enum Order {
     WithGaps,
 }
 
-static ORDERS: [Order; 5] = [
-    Order::Swapped,
-    Order::Reversed,
-    Order::FromBothEnds,
-    Order::Twice,
-    Order::WithGaps,
+static ORDERS: [Arrival; 5] = [
+    Arrival::Swapped,
+    Arrival::Reversed,
+    Arrival::FromBothEnds,
+    Arrival::Twice,
+    Arrival::WithGaps,
 ];
 
-impl Order {
+impl Arrival {
     /// The octets of a file that comes so, at least.
     fn size(self) -> u32 {
         match self {
-            Order::Swapped | Order::Twice | Order::WithGaps => 2_000_000,
-            Order::Reversed | Order::FromBothEnds => 1_500_000,
+            Arrival::Swapped | Arrival::Twice | Arrival::WithGaps => 2_000_000,
+            Arrival::Reversed | Arrival::FromBothEnds => 1_500_000,
         }
     }
 
     /// How many turns send all of this many pieces.
     fn turns(self, count: usize) -> usize {
         match self {
-            Order::Twice => count.saturating_mul(2),
-            Order::WithGaps => count.saturating_add(GAPS),
+            Arrival::Twice => count.saturating_mul(2),
+            Arrival::WithGaps => count.saturating_add(GAPS),
             _ => count,
         }
     }
@@ -65,26 +65,26 @@ impl Order {
     fn index(self, turn: usize, count: usize) -> Option<usize> {
         let stride = (count / (GAPS + 1)).max(1);
         match self {
-            Order::Swapped => Some(turn ^ 1),
-            Order::Reversed => Some(count.saturating_sub(turn).saturating_sub(1)),
-            Order::FromBothEnds if turn % 2 == 0 => Some(turn / 2),
-            Order::FromBothEnds => Some(count.saturating_sub(turn / 2).saturating_sub(1)),
-            Order::Twice => Some(turn / 2),
-            Order::WithGaps if turn >= count => {
+            Arrival::Swapped => Some(turn ^ 1),
+            Arrival::Reversed => Some(count.saturating_sub(turn).saturating_sub(1)),
+            Arrival::FromBothEnds if turn % 2 == 0 => Some(turn / 2),
+            Arrival::FromBothEnds => Some(count.saturating_sub(turn / 2).saturating_sub(1)),
+            Arrival::Twice => Some(turn / 2),
+            Arrival::WithGaps if turn >= count => {
                 Some(stride.saturating_mul(turn.saturating_sub(count).saturating_add(1)))
             }
-            Order::WithGaps if turn % stride == 0 && 0 < turn && turn / stride <= GAPS => None,
-            Order::WithGaps => Some(turn),
+            Arrival::WithGaps if turn % stride == 0 && 0 < turn && turn / stride <= GAPS => None,
+            Arrival::WithGaps => Some(turn),
         }
     }
 }
 
 /// The whole workload: this many scripts. `scale` divides the sizes.
-pub fn run(alloc: Global, rounds: u32, scale: u32, seed: u32) -> Result<u64, Fault> {
+pub fn run(alloc: Global, rounds: u32, scale: u32, seed: u32) -> Result<u64, WorkloadFault> {
     let mut random = Random::new(u64::from(seed).wrapping_add(0x40_0000_0000));
     let pool = Pool::new(alloc, &mut random)?;
     let mut digest = Digest::new();
-    let mut script = Script::new(alloc);
+    let mut script = ScriptText::new(alloc);
     for _ in 0..rounds {
         script.clear();
         script.line(CONFIG)?;
@@ -110,13 +110,13 @@ pub fn run(alloc: Global, rounds: u32, scale: u32, seed: u32) -> Result<u64, Fau
 /// Writes a file that comes in this order, and is deleted by its own list.
 fn write(
     alloc: Global,
-    script: &mut Script,
+    script: &mut ScriptText,
     pool: &Pool,
     random: &mut Random,
-    order: Order,
+    order: Arrival,
     number: u32,
     scale: u32,
-) -> Result<(), Fault> {
+) -> Result<(), WorkloadFault> {
     let mut list = List::new(alloc);
     let mut name = Vec::new(alloc);
     spell(&mut name, b"awkward-", number, 1)?;
@@ -143,10 +143,15 @@ fn write(
 }
 
 /// Writes a PDU that has no business here.
-fn lie(script: &mut Script, pool: &Pool, random: &mut Random, list: &List) -> Result<(), Fault> {
+fn lie(
+    script: &mut ScriptText,
+    pool: &Pool,
+    random: &mut Random,
+    list: &List,
+) -> Result<(), WorkloadFault> {
     let number = FAULTY.wrapping_add(random.below(1_000_000));
     let sender = Sender::new(SENDER, number);
-    let piece: Piece = pool.piece(random, random_offset(number), 300);
+    let piece: PoolPiece = pool.piece(random, random_offset(number), 300);
     match random.below(6) {
         0 => script.cut(sender, list, 1 + number as usize % 7),
         1 => script.data(sender, pool, piece),
@@ -178,7 +183,12 @@ fn random_offset(number: u32) -> u32 {
 }
 
 /// Writes a short transaction whose checksum is wrong.
-fn wrong_sum(script: &mut Script, pool: &Pool, sender: Sender, piece: Piece) -> Result<(), Fault> {
+fn wrong_sum(
+    script: &mut ScriptText,
+    pool: &Pool,
+    sender: Sender,
+    piece: PoolPiece,
+) -> Result<(), WorkloadFault> {
     let list = List::new(*script.text.allocator());
     script.metadata(sender, 300, b"wrong", &list)?;
     script.data(sender, pool, piece)?;

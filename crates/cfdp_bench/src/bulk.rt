@@ -1,11 +1,11 @@
 //! A recorded session is replayed: long files whose pieces come in order, each installed and followed by a short list.
 use crate::digest::Digest;
-use crate::fault::Fault;
+use crate::fault::WorkloadFault;
 use crate::names::spell;
 use crate::pdus::{List, Sender};
 use crate::pool::Pool;
 use crate::random::Random;
-use crate::script::{CONFIG, Script};
+use crate::script::{CONFIG, ScriptText};
 use cfdp_sim::replay_text;
 use cfdp_status::Action;
 use std::alloc::Global;
@@ -16,11 +16,11 @@ const SENDER: u16 = 4;
 const FILES: u32 = 3;
 
 /// The whole workload: this many scripts. `scale` divides the sizes.
-pub fn run(alloc: Global, rounds: u32, scale: u32, seed: u32) -> Result<u64, Fault> {
+pub fn run(alloc: Global, rounds: u32, scale: u32, seed: u32) -> Result<u64, WorkloadFault> {
     let mut random = Random::new(u64::from(seed).wrapping_add(0x20_0000_0000));
     let pool = Pool::new(alloc, &mut random)?;
     let mut digest = Digest::new();
-    let mut script = Script::new(alloc);
+    let mut script = ScriptText::new(alloc);
     for _ in 0..rounds {
         write(alloc, &mut script, &pool, &mut random, scale.max(1))?;
         let text = replay_text(alloc, &script.text)?;
@@ -32,11 +32,11 @@ pub fn run(alloc: Global, rounds: u32, scale: u32, seed: u32) -> Result<u64, Fau
 /// Writes a script: each file takes the place of the one before it under the same name.
 fn write(
     alloc: Global,
-    script: &mut Script,
+    script: &mut ScriptText,
     pool: &Pool,
     random: &mut Random,
     scale: u32,
-) -> Result<(), Fault> {
+) -> Result<(), WorkloadFault> {
     let mut list = List::new(alloc);
     let mut name = Vec::new(alloc);
     script.clear();

@@ -1,5 +1,5 @@
 //! Paths of four to eight names, each of 30 to 50 octets.
-use crate::fault::Fault;
+use crate::fault::WorkloadFault;
 use crate::names::spell;
 
 /// How deep the paths of a chain of directories are, and how long each of their names is. The names of a request have
@@ -50,7 +50,7 @@ pub static CHAINS: [Chain; 6] = [
 
 impl Chain {
     /// Spells the directory with this number of names.
-    pub fn directory(&self, out: &mut Vec<u8>, names: u32) -> Result<(), Fault> {
+    pub fn directory(&self, out: &mut Vec<u8>, names: u32) -> Result<(), WorkloadFault> {
         out.clear();
         for index in 0..names {
             if index > 0 {
@@ -62,14 +62,14 @@ impl Chain {
     }
 
     /// Spells a file in the last directory.
-    pub fn file(&self, out: &mut Vec<u8>, word: &[u8], number: u32) -> Result<(), Fault> {
+    pub fn file(&self, out: &mut Vec<u8>, word: &[u8], number: u32) -> Result<(), WorkloadFault> {
         self.directory(out, self.depth.saturating_sub(1))?;
         out.push(b'/')?;
         self.name(out, word, number)
     }
 
     /// Appends a name of the length of this chain's names: a word, two numbers and letters.
-    fn name(&self, out: &mut Vec<u8>, word: &[u8], number: u32) -> Result<(), Fault> {
+    fn name(&self, out: &mut Vec<u8>, word: &[u8], number: u32) -> Result<(), WorkloadFault> {
         let start = out.len();
         spell(out, word, self.number, 1)?;
         spell(out, b"-", number, 4)?;

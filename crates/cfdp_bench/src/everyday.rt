@@ -2,13 +2,13 @@
 //! requests alone, small filestores, short and long file data, spaces, and reading back what came.
 use crate::deep::{CHAINS, Chain};
 use crate::digest::Digest;
-use crate::fault::Fault;
+use crate::fault::WorkloadFault;
 use crate::names::spell;
 use crate::pdus::{List, Sender};
 use crate::pool::{Pool, push_hex};
 use crate::random::Random;
-use crate::receiver::Receiver;
-use crate::sessions::Sessions;
+use crate::receiver::MeasuredEntity;
+use crate::sessions::ShortScripts;
 use cfdp_sim::plain_text;
 use cfdp_status::Action;
 use std::alloc::Global;
@@ -33,9 +33,9 @@ struct Everyday {
     random: Random,
     pool: Pool,
     /// The entity that files are delivered to and read back from.
-    files: Receiver,
+    files: MeasuredEntity,
     /// The entity with a large directory.
-    catalog: Receiver,
+    catalog: MeasuredEntity,
     list: List,
     first: Vec<u8>,
     second: Vec<u8>,
@@ -46,15 +46,15 @@ struct Everyday {
 }
 
 /// The whole workload. `scale` divides the sizes.
-pub fn run(alloc: Global, rounds: u32, scale: u32, seed: u32) -> Result<u64, Fault> {
+pub fn run(alloc: Global, rounds: u32, scale: u32, seed: u32) -> Result<u64, WorkloadFault> {
     let mut random = Random::new(u64::from(seed).wrapping_add(0x60_0000_0000));
     let pool = Pool::new(alloc, &mut random)?;
     let mut everyday = Everyday {
         alloc,
         random,
         pool,
-        files: Receiver::new(alloc, 65_536)?,
-        catalog: Receiver::new(alloc, 16_384)?,
+        files: MeasuredEntity::new(alloc, 65_536)?,
+        catalog: MeasuredEntity::new(alloc, 16_384)?,
         list: List::new(alloc),
         first: Vec::new(alloc),
         second: Vec::new(alloc),
@@ -62,7 +62,7 @@ pub fn run(alloc: Global, rounds: u32, scale: u32, seed: u32) -> Result<u64, Fau
         renames: 0,
         digest: Digest::new(),
     };
-    let mut sessions = Sessions::new(alloc);
+    let mut sessions = ShortScripts::new(alloc);
     everyday.make_directories()?;
     everyday.fill_catalog(2_048 / scale.max(1))?;
     for round in 0..rounds {
@@ -82,7 +82,7 @@ impl Everyday {
     }
 
     /// The list is sent to the entity with files, and performed.
-    fn send(&mut self) -> Result<(), Fault> {
+    fn send(&mut self) -> Result<(), WorkloadFault> {
         let sender = self.sender();
         self.files.list(sender, &self.list)?;
         self.list.clear();
@@ -90,7 +90,7 @@ impl Everyday {
     }
 
     /// The list is sent to the entity with the large directory, and performed.
-    fn send_to_catalog(&mut self) -> Result<(), Fault> {
+    fn send_to_catalog(&mut self) -> Result<(), WorkloadFault> {
         let sender = self.sender();
         self.catalog.list(sender, &self.list)?;
         self.list.clear();
@@ -98,7 +98,7 @@ impl Everyday {
     }
 
     /// The directories of the deep paths are made.
-    fn make_directories(&mut self) -> Result<(), Fault> {
+    fn make_directories(&mut self) -> Result<(), WorkloadFault> {
         for chain in &CHAINS {
             for names in 1..chain.depth {
                 chain.directory(&mut self.first, names)?;
@@ -110,7 +110,7 @@ impl Everyday {
     }
 
     /// The large directory is made, and its entries in random order.
-    fn fill_catalog(&mut self, entries: u32) -> Result<(), Fault> {
+    fn fill_catalog(&mut self, entries: u32) -> Result<(), WorkloadFault> {
         let mut order = Vec::new(self.alloc);
         for entry in 0..entries {
             order.push(entry)?;
@@ -135,7 +135,7 @@ impl Everyday {
     }
 
     /// Each kind of work once.
-    fn round(&mut self, round: u32, scale: u32) -> Result<(), Fault> {
+    fn round(&mut self, round: u32, scale: u32) -> Result<(), WorkloadFault> {
         for chain in &CHAINS {
             self.change_deep(chain)?;
         }
@@ -154,7 +154,7 @@ impl Everyday {
     }
 
     /// A list makes files on deep paths, and deletes them; those of the first chain are renamed before.
-    fn change_deep(&mut self, chain: &Chain) -> Result<(), Fault> {
+    fn change_deep(&mut self, chain: &Chain) -> Result<(), WorkloadFault> {
         for number in 0..MADE {
             chain.file(&mut self.first, b"made-", number)?;
             self.list.one(Action::CreateFile, &self.first)?;
@@ -175,7 +175,7 @@ impl Everyday {
     }
 
     /// The large directory gets another name.
-    fn rename_catalog(&mut self) -> Result<(), Fault> {
+    fn rename_catalog(&mut self) -> Result<(), WorkloadFault> {
         self.first.clear();
         spell(&mut self.first, b"catalog-", self.renames, 4)?;
         self.renames = self.renames.wrapping_add(1);
@@ -187,7 +187,7 @@ impl Everyday {
     }
 
     /// `plain` performs lists of mixed requests, of which some are not successful.
-    fn perform_requests(&mut self, scale: u32) -> Result<(), Fault> {
+    fn perform_requests(&mut self, scale: u32) -> Result<(), WorkloadFault> {
         let mut script = Vec::new(self.alloc);
         for _ in 0..(LISTS / scale.max(1)).max(1) {
             for _ in 0..24 {
@@ -204,7 +204,7 @@ impl Everyday {
     }
 
     /// Writes a request of one of the nine actions on a few names.
-    fn write_request(&mut self) -> Result<(), Fault> {
+    fn write_request(&mut self) -> Result<(), WorkloadFault> {
         spell_some(&mut self.random, &mut self.first)?;
         spell_some(&mut self.random, &mut self.second)?;
         let directory = self
@@ -228,7 +228,7 @@ impl Everyday {
     }
 
     /// Files of 10 KB to 1 MB are delivered, in file data of 64 octets, of about 1,000, and of 65,000.
-    fn deliver(&mut self, round: u32, scale: u32) -> Result<(), Fault> {
+    fn deliver(&mut self, round: u32, scale: u32) -> Result<(), WorkloadFault> {
         for (index, least) in SIZES.iter().enumerate() {
             let number = index as u32;
             let size = least.saturating_add(self.random.below(10_000)) / scale.max(1);
@@ -250,7 +250,7 @@ impl Everyday {
 }
 
 /// Spells one of twelve files.
-fn spell_some(random: &mut Random, out: &mut Vec<u8>) -> Result<(), Fault> {
+fn spell_some(random: &mut Random, out: &mut Vec<u8>) -> Result<(), WorkloadFault> {
     out.clear();
     spell(out, b"directory-", random.below(3), 1)?;
     spell(out, b"/file-", random.below(4), 1)

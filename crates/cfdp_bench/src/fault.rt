@@ -8,7 +8,7 @@ use std::fmt;
 
 /// Why a workload ends before its last event.
 #[derive(Clone, Copy, Debug, Drop)]
-pub enum Fault {
+pub enum WorkloadFault {
     /// Out of memory.
     Memory,
     /// A script, a PDU or a configuration was refused that should not be.
@@ -19,61 +19,62 @@ pub enum Fault {
     Missing,
 }
 
-impl fmt::Display for Fault {
+impl fmt::Display for WorkloadFault {
     fn fmt<W: fmt::Write>(&self, f: &mut fmt::Formatter<W>) -> fmt::Result {
         f.write_str(match self {
-            Fault::Memory => "out of memory",
-            Fault::Refused => "refused",
-            Fault::Verdict => "a list got another verdict than the one that it was made for",
-            Fault::Missing => "a file that was delivered does not exist",
+            WorkloadFault::Memory => "out of memory",
+            WorkloadFault::Refused => "refused",
+            WorkloadFault::Verdict =>
+                "a list got another verdict than the one that it was made for",
+            WorkloadFault::Missing => "a file that was delivered does not exist",
         })
     }
 }
 
-impl From<AllocError> for Fault {
-    fn from(_refused: AllocError) -> Fault {
-        Fault::Memory
+impl From<AllocError> for WorkloadFault {
+    fn from(_refused: AllocError) -> WorkloadFault {
+        WorkloadFault::Memory
     }
 }
 
-impl<T: Drop> From<AllocFailed<T>> for Fault {
-    fn from(_refused: AllocFailed<T>) -> Fault {
-        Fault::Memory
+impl<T: Drop> From<AllocFailed<T>> for WorkloadFault {
+    fn from(_refused: AllocFailed<T>) -> WorkloadFault {
+        WorkloadFault::Memory
     }
 }
 
-impl From<ConfigFault> for Fault {
-    fn from(_fault: ConfigFault) -> Fault {
-        Fault::Refused
+impl From<ConfigFault> for WorkloadFault {
+    fn from(_fault: ConfigFault) -> WorkloadFault {
+        WorkloadFault::Refused
     }
 }
 
-impl From<NotHeard> for Fault {
-    fn from(_fault: NotHeard) -> Fault {
-        Fault::Refused
+impl From<NotHeard> for WorkloadFault {
+    fn from(_fault: NotHeard) -> WorkloadFault {
+        WorkloadFault::Refused
     }
 }
 
-impl From<NotTaken> for Fault {
-    fn from(_fault: NotTaken) -> Fault {
-        Fault::Refused
+impl From<NotTaken> for WorkloadFault {
+    fn from(_fault: NotTaken) -> WorkloadFault {
+        WorkloadFault::Refused
     }
 }
 
-impl From<PathFault> for Fault {
-    fn from(_fault: PathFault) -> Fault {
-        Fault::Refused
+impl From<PathFault> for WorkloadFault {
+    fn from(_fault: PathFault) -> WorkloadFault {
+        WorkloadFault::Refused
     }
 }
 
-impl From<RunFault> for Fault {
-    fn from(_fault: RunFault) -> Fault {
-        Fault::Refused
+impl From<RunFault> for WorkloadFault {
+    fn from(_fault: RunFault) -> WorkloadFault {
+        WorkloadFault::Refused
     }
 }
 
-impl From<LinkFault> for Fault {
-    fn from(_fault: LinkFault) -> Fault {
-        Fault::Refused
+impl From<LinkFault> for WorkloadFault {
+    fn from(_fault: LinkFault) -> WorkloadFault {
+        WorkloadFault::Refused
     }
 }

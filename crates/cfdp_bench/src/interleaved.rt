@@ -1,12 +1,12 @@
 //! Many transactions at once: 64 live, their file data, steps, checks, cancels and takes in turn.
 use crate::digest::Digest;
-use crate::fault::Fault;
+use crate::fault::WorkloadFault;
 use crate::names::spell;
 use crate::pdus::{List, Sender};
-use crate::pool::{Piece, Pool};
+use crate::pool::{Pool, PoolPiece};
 use crate::random::Random;
 use crate::receiver::size_of;
-use crate::script::{CONFIG, Script};
+use crate::script::{CONFIG, ScriptText};
 use cfdp_sim::replay_text;
 use cfdp_status::Action;
 use std::alloc::Global;
@@ -23,7 +23,7 @@ const WAVES: u32 = 4;
 #[derive(Drop)]
 struct Transfer {
     sender: Sender,
-    pieces: Vec<Piece>,
+    pieces: Vec<PoolPiece>,
     items: u32,
 }
 
@@ -44,12 +44,12 @@ impl Transfer {
 }
 
 /// The whole workload: this many scripts. `scale` divides the number of transactions.
-pub fn run(alloc: Global, rounds: u32, scale: u32, seed: u32) -> Result<u64, Fault> {
+pub fn run(alloc: Global, rounds: u32, scale: u32, seed: u32) -> Result<u64, WorkloadFault> {
     let mut random = Random::new(u64::from(seed).wrapping_add(0x30_0000_0000));
     let pool = Pool::new(alloc, &mut random)?;
     let live = (LIVE / scale.max(1)).max(2);
     let mut digest = Digest::new();
-    let mut script = Script::new(alloc);
+    let mut script = ScriptText::new(alloc);
     for _ in 0..rounds {
         script.clear();
         begin(alloc, &mut script, live)?;
@@ -65,7 +65,7 @@ pub fn run(alloc: Global, rounds: u32, scale: u32, seed: u32) -> Result<u64, Fau
 }
 
 /// The directories of the transactions are made.
-fn begin(alloc: Global, script: &mut Script, live: u32) -> Result<(), Fault> {
+fn begin(alloc: Global, script: &mut ScriptText, live: u32) -> Result<(), WorkloadFault> {
     let mut list = List::new(alloc);
     let mut name = Vec::new(alloc);
     script.line(CONFIG)?;
@@ -78,7 +78,7 @@ fn begin(alloc: Global, script: &mut Script, live: u32) -> Result<(), Fault> {
 }
 
 /// Spells a file of a transaction.
-fn file(out: &mut Vec<u8>, link: u32, word: &[u8], number: u32) -> Result<(), Fault> {
+fn file(out: &mut Vec<u8>, link: u32, word: &[u8], number: u32) -> Result<(), WorkloadFault> {
     out.clear();
     spell(out, b"link-", link, 2)?;
     spell(out, word, number, 1)
@@ -92,7 +92,7 @@ fn write_list(
     link: u32,
     wave: u32,
     files: u32,
-) -> Result<(), Fault> {
+) -> Result<(), WorkloadFault> {
     list.clear();
     file(first, link, b"/product-", wave.wrapping_sub(1))?;
     list.one(Action::DenyFile, first)?;
@@ -112,12 +112,12 @@ fn write_list(
 /// The Metadata PDUs of all transactions come.
 fn admit(
     alloc: Global,
-    script: &mut Script,
+    script: &mut ScriptText,
     pool: &Pool,
     random: &mut Random,
     live: u32,
     wave: u32,
-) -> Result<Vec<Transfer>, Fault> {
+) -> Result<Vec<Transfer>, WorkloadFault> {
     let mut transfers = Vec::new(alloc);
     let mut list = List::new(alloc);
     let (mut first, mut second) = (Vec::new(alloc), Vec::new(alloc));
@@ -146,7 +146,7 @@ fn admit(
 }
 
 /// The pieces of all files come, one of each in turn, but for those that are late; some transactions are cancelled.
-fn feed(script: &mut Script, pool: &Pool, transfers: &[Transfer]) -> Result<(), Fault> {
+fn feed(script: &mut ScriptText, pool: &Pool, transfers: &[Transfer]) -> Result<(), WorkloadFault> {
     let mut most = 0;
     for transfer in transfers {
         most = most.max(transfer.pieces.len());
@@ -168,7 +168,7 @@ fn feed(script: &mut Script, pool: &Pool, transfers: &[Transfer]) -> Result<(), 
 }
 
 /// The EOF PDUs of all transactions come, the late pieces, the items in turn, and the outcomes are taken.
-fn end(script: &mut Script, pool: &Pool, transfers: &[Transfer]) -> Result<(), Fault> {
+fn end(script: &mut ScriptText, pool: &Pool, transfers: &[Transfer]) -> Result<(), WorkloadFault> {
     for transfer in transfers {
         let checksum = pool.checksum(&transfer.pieces);
         script.eof(transfer.sender, checksum, size_of(&transfer.pieces))?;

@@ -4,13 +4,13 @@ ghost use Rattle.std.specs.List.{AllByRecursion};
 ghost use Rattle.cfdp_lines.specs.Lines.{input_limit};
 
 use crate::digest::Digest;
-use crate::fault::Fault;
+use crate::fault::WorkloadFault;
 use crate::names::spell;
 use crate::pdus::{List, Sender};
 use crate::pool::Pool;
 use crate::random::Random;
 use crate::receiver::size_of;
-use crate::script::{CONFIG, Script};
+use crate::script::{CONFIG, ScriptText};
 use cfdp_sim::{INPUT_LIMIT, Open, ToWrite, links};
 use cfdp_status::Action;
 use std::alloc::Global;
@@ -30,7 +30,7 @@ pub fn run<R: Threads + Wait + Sync>(
     rounds: u32,
     scale: u32,
     seed: u32,
-) -> Result<u64, Fault> {
+) -> Result<u64, WorkloadFault> {
     let mut random = Random::new(u64::from(seed).wrapping_add(0x50_0000_0000));
     let pool = Pool::new(alloc, &mut random)?;
     let mut digest = Digest::new();
@@ -49,7 +49,7 @@ fn write_all(
     pool: &Pool,
     random: &mut Random,
     scale: u32,
-) -> Result<Vec<Vec<u8>>, Fault>
+) -> Result<Vec<Vec<u8>>, WorkloadFault>
     ensures few { IfOk result (λ scripts. length scripts.items ≤ 4) }
     ensures short { IfOk result (λ scripts. AllByRecursion
         (λ script. length script.items ≤ input_limit) scripts.items) }
@@ -68,10 +68,10 @@ fn write(
     random: &mut Random,
     link: u16,
     scale: u32,
-) -> Result<Vec<u8>, Fault>
+) -> Result<Vec<u8>, WorkloadFault>
     ensures { IfOk result (λ text. length text.items ≤ input_limit) }
 {
-    let mut script = Script::new(alloc);
+    let mut script = ScriptText::new(alloc);
     let mut list = List::new(alloc);
     let mut name = Vec::new(alloc);
     let mut other = Vec::new(alloc);
@@ -103,7 +103,7 @@ fn write(
         script.finish_by_steps(sender, pool.checksum(&pieces), size_of(&pieces), 2)?;
     }
     if script.text.len() > INPUT_LIMIT {
-        return Err(Fault::Refused);
+        return Err(WorkloadFault::Refused);
     }
     Ok(script.text)
 }

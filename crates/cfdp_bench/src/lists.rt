@@ -1,11 +1,11 @@
 //! Command lists by the thousand, over octets in memory.
 use crate::digest::Digest;
-use crate::fault::Fault;
+use crate::fault::WorkloadFault;
 use crate::names::{Shape, spell};
 use crate::pdus::{List, Sender};
 use crate::pool::Pool;
 use crate::random::Random;
-use crate::receiver::Receiver;
+use crate::receiver::MeasuredEntity;
 use crate::tree::{SOURCE, Tree};
 use cfdp_status::Action;
 use cfdp_transactions::Reply;
@@ -108,7 +108,7 @@ static SETTINGS: [Setting; 4] = [
 
 /// The whole workload: in each setting this many lists, one in eight of which is refused. `scale` divides the number of
 /// files.
-pub fn run(alloc: Global, rounds: u32, scale: u32, seed: u32) -> Result<u64, Fault> {
+pub fn run(alloc: Global, rounds: u32, scale: u32, seed: u32) -> Result<u64, WorkloadFault> {
     let mut digest = Digest::new();
     for (index, setting) in SETTINGS.iter().enumerate() {
         let random = Random::new(u64::from(seed).wrapping_mul(8).wrapping_add(index as u64));
@@ -132,7 +132,7 @@ struct Lists {
     setting: Setting,
     random: Random,
     pool: Pool,
-    receiver: Receiver,
+    receiver: MeasuredEntity,
     tree: Tree,
     list: List,
     name: Vec<u8>,
@@ -140,7 +140,7 @@ struct Lists {
 }
 
 impl Lists {
-    fn new(alloc: Global, setting: Setting, random: Random) -> Result<Lists, Fault> {
+    fn new(alloc: Global, setting: Setting, random: Random) -> Result<Lists, WorkloadFault> {
         let mut random = random;
         let pool = Pool::new(alloc, &mut random)?;
         Ok(Lists {
@@ -148,7 +148,7 @@ impl Lists {
             setting,
             random,
             pool,
-            receiver: Receiver::new(alloc, BLOCKS)?,
+            receiver: MeasuredEntity::new(alloc, BLOCKS)?,
             tree: Tree::new(alloc, setting.shape, setting.directories),
             list: List::new(alloc),
             name: Vec::new(alloc),
@@ -162,7 +162,7 @@ impl Lists {
     }
 
     /// The list is sent and performed.
-    fn send(&mut self) -> Result<(), Fault> {
+    fn send(&mut self) -> Result<(), WorkloadFault> {
         let sender = self.sender();
         self.receiver.list(sender, &self.list)?;
         self.list.clear();
@@ -170,7 +170,7 @@ impl Lists {
     }
 
     /// The list is sent if it is full.
-    fn send_if_full(&mut self) -> Result<(), Fault> {
+    fn send_if_full(&mut self) -> Result<(), WorkloadFault> {
         if self.list.count >= 64 {
             self.send()
         } else {
@@ -179,7 +179,7 @@ impl Lists {
     }
 
     /// The directories and files of the setting are made, and the transactions that stay live are admitted.
-    fn set_up(&mut self) -> Result<(), Fault> {
+    fn set_up(&mut self) -> Result<(), WorkloadFault> {
         self.list.one(Action::CreateDirectory, b"held")?;
         for index in 0..self.tree.directories() {
             self.tree.make_directory(&mut self.list, index)?;
@@ -198,7 +198,7 @@ impl Lists {
     }
 
     /// The file that others are appended to from is delivered.
-    fn deliver_source(&mut self) -> Result<(), Fault> {
+    fn deliver_source(&mut self) -> Result<(), WorkloadFault> {
         let sender = self.sender();
         let random = &mut self.random;
         let pieces = self.pool.file(self.alloc, random, 600, 200, 400)?;
@@ -207,14 +207,14 @@ impl Lists {
     }
 
     /// Spells a name that a live transaction leases.
-    fn spell_held(&mut self, number: u32, index: u32) -> Result<(), Fault> {
+    fn spell_held(&mut self, number: u32, index: u32) -> Result<(), WorkloadFault> {
         self.name.clear();
         spell(&mut self.name, b"held/by-", number, 2)?;
         spell(&mut self.name, b"-", index, 2)
     }
 
     /// A transaction with `held` requests is admitted, and stays live.
-    fn hold(&mut self, number: u32, held: u32) -> Result<(), Fault> {
+    fn hold(&mut self, number: u32, held: u32) -> Result<(), WorkloadFault> {
         for index in 0..held {
             self.spell_held(number, index)?;
             self.list.one(Action::CreateFile, &self.name)?;
@@ -226,14 +226,14 @@ impl Lists {
     }
 
     /// A live transaction is cancelled and taken.
-    fn drop_held(&mut self, number: u32) -> Result<(), Fault> {
+    fn drop_held(&mut self, number: u32) -> Result<(), WorkloadFault> {
         let id = Sender::new(HOLDER, number).id();
         self.receiver.cancel(id);
         self.receiver.take(id)
     }
 
     /// The live transactions are cancelled and taken.
-    fn release(&mut self) -> Result<(), Fault> {
+    fn release(&mut self) -> Result<(), WorkloadFault> {
         for number in 0..self.setting.live {
             self.drop_held(number)?;
         }
@@ -241,7 +241,7 @@ impl Lists {
     }
 
     /// One list.
-    fn round(&mut self, round: u32) -> Result<(), Fault> {
+    fn round(&mut self, round: u32) -> Result<(), WorkloadFault> {
         let count = 8 + self.random.below(57);
         if round % 8 == 7 {
             return self.refused(REASONS[(round / 8 % 7) as usize], count);
@@ -251,7 +251,7 @@ impl Lists {
     }
 
     /// A list that is refused for this reason. Where no transaction stays live, one is live during a conflict.
-    fn refused(&mut self, reason: Reason, count: u32) -> Result<(), Fault> {
+    fn refused(&mut self, reason: Reason, count: u32) -> Result<(), WorkloadFault> {
         let is_held = matches!(reason, Reason::Conflict) && self.setting.live == 0;
         if is_held {
             self.hold(0, 1)?;
@@ -261,7 +261,7 @@ impl Lists {
         let sender = self.sender();
         let reply = self.receiver.begin(sender, size, &self.name, &self.list)?;
         if !reason.is_of(&reply) {
-            return Err(Fault::Verdict);
+            return Err(WorkloadFault::Verdict);
         }
         self.list.clear();
         self.receiver.cancel(sender.id());
@@ -273,7 +273,7 @@ impl Lists {
     }
 
     /// Writes a list that is refused for this reason, and the name of its file, if it has one. Returns the file's size.
-    fn write_refused(&mut self, reason: Reason, count: u32) -> Result<u32, Fault> {
+    fn write_refused(&mut self, reason: Reason, count: u32) -> Result<u32, WorkloadFault> {
         match reason {
             Reason::TooManyRequests => self.tree.creates(&mut self.list, 65)?,
             Reason::BadPath => {

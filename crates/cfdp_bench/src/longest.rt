@@ -1,11 +1,11 @@
 //! The longest single calls: the EOF of a long file, its delete, its cancel, and the admission of a list that renames a
 //! large directory.
-use crate::fault::Fault;
+use crate::fault::WorkloadFault;
 use crate::names::spell;
 use crate::pdus::{List, Sender};
 use crate::pool::Pool;
 use crate::random::Random;
-use crate::receiver::{Receiver, size_of};
+use crate::receiver::{MeasuredEntity, size_of};
 use cfdp_status::Action;
 use std::alloc::Global;
 
@@ -22,7 +22,7 @@ struct Longest {
     alloc: Global,
     random: Random,
     pool: Pool,
-    receiver: Receiver,
+    receiver: MeasuredEntity,
     list: List,
     name: Vec<u8>,
     other: Vec<u8>,
@@ -32,14 +32,14 @@ struct Longest {
 }
 
 /// The whole workload. `scale` divides the sizes.
-pub fn run(alloc: Global, rounds: u32, scale: u32, seed: u32) -> Result<u64, Fault> {
+pub fn run(alloc: Global, rounds: u32, scale: u32, seed: u32) -> Result<u64, WorkloadFault> {
     let mut random = Random::new(u64::from(seed).wrapping_add(0x10_0000_0000));
     let pool = Pool::new(alloc, &mut random)?;
     let mut longest = Longest {
         alloc,
         random,
         pool,
-        receiver: Receiver::new(alloc, BLOCKS)?,
+        receiver: MeasuredEntity::new(alloc, BLOCKS)?,
         list: List::new(alloc),
         name: Vec::new(alloc),
         other: Vec::new(alloc),
@@ -59,7 +59,7 @@ impl Longest {
         Sender::new(SENDER, self.number)
     }
 
-    fn send(&mut self) -> Result<(), Fault> {
+    fn send(&mut self) -> Result<(), WorkloadFault> {
         let sender = self.sender();
         self.receiver.list(sender, &self.list)?;
         self.list.clear();
@@ -67,13 +67,13 @@ impl Longest {
     }
 
     /// Spells the directory as it is named after this many renames.
-    fn directory(out: &mut Vec<u8>, renames: u32) -> Result<(), Fault> {
+    fn directory(out: &mut Vec<u8>, renames: u32) -> Result<(), WorkloadFault> {
         out.clear();
         spell(out, b"products-", renames, 4)
     }
 
     /// The directory and its entries are made.
-    fn set_up(&mut self, entries: u32) -> Result<(), Fault> {
+    fn set_up(&mut self, entries: u32) -> Result<(), WorkloadFault> {
         Longest::directory(&mut self.name, 0)?;
         self.list.one(Action::CreateDirectory, &self.name)?;
         for entry in 0..entries {
@@ -88,7 +88,7 @@ impl Longest {
     }
 
     /// A list renames the directory, and makes and deletes a file in it.
-    fn rename(&mut self) -> Result<(), Fault> {
+    fn rename(&mut self) -> Result<(), WorkloadFault> {
         Longest::directory(&mut self.name, self.renames)?;
         self.renames = self.renames.wrapping_add(1);
         Longest::directory(&mut self.other, self.renames)?;
@@ -100,7 +100,7 @@ impl Longest {
     }
 
     /// A file is delivered and deleted, another one is cancelled before its end, and the directory is renamed.
-    fn round(&mut self, scale: u32) -> Result<(), Fault> {
+    fn round(&mut self, scale: u32) -> Result<(), WorkloadFault> {
         let size = (6_500_000 + self.random.below(1_000_000)) / scale.max(1);
         let pieces = self
             .pool

@@ -24,7 +24,7 @@ mod script;
 mod sessions;
 mod tree;
 
-use fault::Fault;
+use fault::WorkloadFault;
 use std::env;
 use std::process::ExitCode;
 use std::rt::Env;
@@ -49,7 +49,9 @@ fn main(rt: HostRuntime) -> ExitCode {
 }
 
 /// Does what the words of the command line ask for. Whether they are right.
-fn run<R: AllocGlobal + Env + Print + Threads + Wait + Sync>(rt: &R) -> Result<bool, Fault> {
+fn run<R: AllocGlobal + Env + Print + Threads + Wait + Sync>(
+    rt: &R,
+) -> Result<bool, WorkloadFault> {
     let Some(words) = read_words(rt) else {
         return Ok(false);
     };
@@ -85,7 +87,7 @@ fn run_one<R: AllocGlobal + Print + Threads + Wait + Sync>(
     rounds: u32,
     scale: u32,
     seed: u32,
-) -> Result<bool, Fault> {
+) -> Result<bool, WorkloadFault> {
     let alloc = rt.alloc();
     let digest = match workload {
         "bulk" => bulk::run(alloc, rounds, scale, seed)?,
@@ -99,7 +101,7 @@ fn run_one<R: AllocGlobal + Print + Threads + Wait + Sync>(
     };
     match println!(rt; "{workload} {digest}") {
         Ok(()) => Ok(true),
-        Err(_) => Err(Fault::Memory),
+        Err(_) => Err(WorkloadFault::Memory),
     }
 }
 

@@ -1,7 +1,7 @@
 //! The names of files and directories.
 ghost use Rattle.std.specs.Prelude.{◌≤◌};
 
-use crate::fault::Fault;
+use crate::fault::WorkloadFault;
 
 /// How long paths are.
 #[derive(Clone, Copy, PartialEq, Eq)]
@@ -40,7 +40,7 @@ impl Shape {
     }
 
     /// Spells a directory.
-    pub fn directory(self, out: &mut Vec<u8>, directory: u32) -> Result<(), Fault> {
+    pub fn directory(self, out: &mut Vec<u8>, directory: u32) -> Result<(), WorkloadFault> {
         out.clear();
         match self {
             Shape::Short => spell(out, b"d", directory, 1),
@@ -52,7 +52,7 @@ impl Shape {
     }
 
     /// Spells a file of a directory.
-    pub fn file(self, out: &mut Vec<u8>, directory: u32, number: u32) -> Result<(), Fault> {
+    pub fn file(self, out: &mut Vec<u8>, directory: u32, number: u32) -> Result<(), WorkloadFault> {
         self.directory(out, directory)?;
         match self {
             Shape::Short => spell(out, b"/f", number, 1),
@@ -62,13 +62,18 @@ impl Shape {
 }
 
 /// Appends a word and a number of at least this many decimal digits.
-pub fn spell(out: &mut Vec<u8>, word: &[u8], number: u32, digits: u32) -> Result<(), Fault> {
+pub fn spell(
+    out: &mut Vec<u8>,
+    word: &[u8],
+    number: u32,
+    digits: u32,
+) -> Result<(), WorkloadFault> {
     out.extend_from_slice(word)?;
     push_decimal(out, number, digits)
 }
 
 /// Appends a number of at least this many decimal digits.
-pub fn push_decimal(out: &mut Vec<u8>, number: u32, digits: u32) -> Result<(), Fault> {
+pub fn push_decimal(out: &mut Vec<u8>, number: u32, digits: u32) -> Result<(), WorkloadFault> {
     let mut weight = 1_000_000_000_u32;
     let mut has_begun = false;
     for left in 0..10_u32 {

@@ -1,6 +1,6 @@
 //! The PDUs of a sender, octet by octet (CCSDS 727.0-B-5 §5): entity IDs have two octets, transaction sequence numbers
 //! four.
-use crate::fault::Fault;
+use crate::fault::WorkloadFault;
 use cfdp_status::{Action, TransactionId};
 use std::alloc::Global;
 
@@ -29,13 +29,18 @@ impl List {
     }
 
     /// Adds a request on one name.
-    pub fn one(&mut self, action: Action, name: &[u8]) -> Result<(), Fault> {
+    pub fn one(&mut self, action: Action, name: &[u8]) -> Result<(), WorkloadFault> {
         self.begin(action, name.len().saturating_add(2))?;
         push_lv(&mut self.octets, name)
     }
 
     /// Adds a request on two names.
-    pub fn two(&mut self, action: Action, first: &[u8], second: &[u8]) -> Result<(), Fault> {
+    pub fn two(
+        &mut self,
+        action: Action,
+        first: &[u8],
+        second: &[u8],
+    ) -> Result<(), WorkloadFault> {
         self.begin(
             action,
             first.len().saturating_add(second.len()).saturating_add(3),
@@ -44,7 +49,7 @@ impl List {
         push_lv(&mut self.octets, second)
     }
 
-    fn begin(&mut self, action: Action, len: usize) -> Result<(), Fault> {
+    fn begin(&mut self, action: Action, len: usize) -> Result<(), WorkloadFault> {
         self.count = self.count.saturating_add(1);
         self.octets
             .extend_from_slice(&[0, (len % 256) as u8, action.code() << 4])?;
@@ -53,7 +58,7 @@ impl List {
 }
 
 /// Appends a length of one octet, and the octets.
-fn push_lv(out: &mut Vec<u8>, octets: &[u8]) -> Result<(), Fault> {
+fn push_lv(out: &mut Vec<u8>, octets: &[u8]) -> Result<(), WorkloadFault> {
     out.push((octets.len() % 256) as u8)?;
     out.extend_from_slice(octets)?;
     Ok(())
@@ -90,7 +95,7 @@ impl Sender {
         }
     }
 
-    fn header(&self, out: &mut Vec<u8>, first: u8, len: usize) -> Result<(), Fault> {
+    fn header(&self, out: &mut Vec<u8>, first: u8, len: usize) -> Result<(), WorkloadFault> {
         out.clear();
         out.push(first)?;
         out.extend_from_slice(&((len % 65_536) as u16).to_be_bytes())?;
@@ -108,7 +113,7 @@ impl Sender {
         size: u32,
         destination: &[u8],
         list: &List,
-    ) -> Result<(), Fault> {
+    ) -> Result<(), WorkloadFault> {
         let source_name: &[u8] = if destination.is_empty() {
             b""
         } else {
@@ -130,14 +135,14 @@ impl Sender {
     }
 
     /// A File Data PDU up to its data.
-    pub fn data_head(&self, out: &mut Vec<u8>, offset: u32, len: u32) -> Result<(), Fault> {
+    pub fn data_head(&self, out: &mut Vec<u8>, offset: u32, len: u32) -> Result<(), WorkloadFault> {
         self.header(out, FILE_DATA, (len as usize).saturating_add(4))?;
         out.extend_from_slice(&offset.to_be_bytes())?;
         Ok(())
     }
 
     /// The EOF PDU without an error.
-    pub fn eof(&self, out: &mut Vec<u8>, checksum: u32, size: u32) -> Result<(), Fault> {
+    pub fn eof(&self, out: &mut Vec<u8>, checksum: u32, size: u32) -> Result<(), WorkloadFault> {
         self.header(out, DIRECTIVE, 10)?;
         out.extend_from_slice(&[4, 0])?;
         out.extend_from_slice(&checksum.to_be_bytes())?;

@@ -1,5 +1,5 @@
 //! Octets at random, of which files are made.
-use crate::fault::Fault;
+use crate::fault::WorkloadFault;
 use crate::random::Random;
 use std::alloc::Global;
 
@@ -18,7 +18,7 @@ fn digit(number: u8) -> u8 {
 }
 
 /// Appends octets in hexadecimal.
-pub fn push_hex(out: &mut Vec<u8>, octets: &[u8]) -> Result<(), Fault> {
+pub fn push_hex(out: &mut Vec<u8>, octets: &[u8]) -> Result<(), WorkloadFault> {
     for octet in octets {
         out.push(digit(octet >> 4))?;
         out.push(digit(*octet))?;
@@ -28,7 +28,7 @@ pub fn push_hex(out: &mut Vec<u8>, octets: &[u8]) -> Result<(), Fault> {
 
 /// A piece of a file: its offset in the file and its length, and the offset of its octets in the pool.
 #[derive(Clone, Copy, Drop)]
-pub struct Piece {
+pub struct PoolPiece {
     pub offset: u32,
     pub len: u32,
     start: u32,
@@ -44,7 +44,7 @@ pub struct Pool {
 }
 
 impl Pool {
-    pub fn new(alloc: Global, random: &mut Random) -> Result<Pool, Fault> {
+    pub fn new(alloc: Global, random: &mut Random) -> Result<Pool, WorkloadFault> {
         let mut octets = Vec::with_capacity(alloc, OCTETS as usize)?;
         let mut hex = Vec::new(alloc);
         let mut sums = Vec::new(alloc);
@@ -61,28 +61,28 @@ impl Pool {
     }
 
     /// A piece of a file at random. It begins in the pool at an offset that has the same rest by four.
-    pub fn piece(&self, random: &mut Random, offset: u32, len: u32) -> Piece {
+    pub fn piece(&self, random: &mut Random, offset: u32, len: u32) -> PoolPiece {
         let len = len.min(LONGEST);
         let start = 4 * random.below((OCTETS - LONGEST) / 4 - 1) + offset % 4;
-        Piece { offset, len, start }
+        PoolPiece { offset, len, start }
     }
 
     /// The octets of a piece.
-    pub fn octets(&self, piece: Piece) -> &[u8] {
+    pub fn octets(&self, piece: PoolPiece) -> &[u8] {
         let start = piece.start as usize;
         let end = start.saturating_add(piece.len as usize);
         self.octets.get(start..end).unwrap_or(&[])
     }
 
     /// The octets of a piece, as digits of hexadecimal.
-    pub fn hex(&self, piece: Piece) -> &[u8] {
+    pub fn hex(&self, piece: PoolPiece) -> &[u8] {
         let start = (piece.start as usize).saturating_mul(2);
         let end = start.saturating_add((piece.len as usize).saturating_mul(2));
         self.hex.get(start..end).unwrap_or(&[])
     }
 
     /// What the piece adds to the modular checksum of its file.
-    pub fn sum(&self, piece: Piece) -> u32 {
+    pub fn sum(&self, piece: PoolPiece) -> u32 {
         let start = piece.start as usize;
         let end = start.saturating_add(piece.len as usize);
         match (self.sums.get(start), self.sums.get(end)) {
@@ -99,7 +99,7 @@ impl Pool {
         size: u32,
         least: u32,
         most: u32,
-    ) -> Result<Vec<Piece>, Fault> {
+    ) -> Result<Vec<PoolPiece>, WorkloadFault> {
         let mut pieces = Vec::new(alloc);
         let mut offset = 0_u32;
         for _ in 0..size {
@@ -116,7 +116,7 @@ impl Pool {
     }
 
     /// The modular checksum of a file.
-    pub fn checksum(&self, pieces: &[Piece]) -> u32 {
+    pub fn checksum(&self, pieces: &[PoolPiece]) -> u32 {
         let mut sum = 0_u32;
         for piece in pieces {
             sum = sum.wrapping_add(self.sum(*piece));

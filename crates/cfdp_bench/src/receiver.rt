@@ -1,8 +1,8 @@
 //! The receiving entity and a sender, octets in memory.
 use crate::digest::Digest;
-use crate::fault::Fault;
+use crate::fault::WorkloadFault;
 use crate::pdus::{List, Sender};
-use crate::pool::{Piece, Pool};
+use crate::pool::{Pool, PoolPiece};
 use cfdp_actions::Protected;
 use cfdp_entity::Entity;
 use cfdp_paths::{Names, Path};
@@ -11,7 +11,7 @@ use cfdp_transactions::{Config, Reply};
 use std::alloc::Global;
 
 /// How many octets the longest Finished PDU has.
-const FINISHED: usize = 16_488;
+const LONGEST_FINISHED: usize = 16_488;
 
 /// How many octets the longest path has: eight names of 96, with separators between them, and one octet more.
 const LONGEST_PATH: usize = 776;
@@ -21,7 +21,7 @@ const MOST_ITEMS: u32 = 65;
 
 /// The receiving entity, and the digest of all that it replied.
 #[derive(Drop)]
-pub struct Receiver {
+pub struct MeasuredEntity {
     alloc: Global,
     entity: Entity,
     pdu: Vec<u8>,
@@ -29,13 +29,13 @@ pub struct Receiver {
     pub digest: Digest,
 }
 
-impl Receiver {
+impl MeasuredEntity {
     /// An entity over an empty filestore of this many blocks.
-    pub fn new(alloc: Global, blocks: u32) -> Result<Receiver, Fault> {
+    pub fn new(alloc: Global, blocks: u32) -> Result<MeasuredEntity, WorkloadFault> {
         let config = Config::new(2, blocks, 7_864_320, 4, 1_000, Protected::new())?;
         let mut finished = Vec::new(alloc);
-        finished.resize(FINISHED, 0)?;
-        Ok(Receiver {
+        finished.resize(LONGEST_FINISHED, 0)?;
+        Ok(MeasuredEntity {
             alloc,
             entity: Entity::new(alloc, config)?,
             pdu: Vec::new(alloc),
@@ -45,7 +45,7 @@ impl Receiver {
     }
 
     /// The PDU that was written comes. Returns the reply.
-    fn hear(&mut self) -> Result<Reply, Fault> {
+    fn hear(&mut self) -> Result<Reply, WorkloadFault> {
         match self.entity.receive(self.alloc, &self.pdu) {
             Ok((id, reply)) => {
                 self.digest.add(id.source);
@@ -53,7 +53,7 @@ impl Receiver {
                 self.digest.add_reply(&reply);
                 Ok(reply)
             }
-            Err(fault) => Err(Fault::from(fault)),
+            Err(fault) => Err(WorkloadFault::from(fault)),
         }
     }
 
@@ -64,7 +64,7 @@ impl Receiver {
         size: u32,
         destination: &[u8],
         list: &List,
-    ) -> Result<Reply, Fault> {
+    ) -> Result<Reply, WorkloadFault> {
         sender.metadata(&mut self.pdu, size, destination, list)?;
         self.hear()
     }
@@ -80,15 +80,20 @@ impl Receiver {
         size: u32,
         destination: &[u8],
         list: &List,
-    ) -> Result<(), Fault> {
+    ) -> Result<(), WorkloadFault> {
         match self.begin(sender, size, destination, list)? {
             Reply::Admitted(..) => Ok(()),
-            _ => Err(Fault::Verdict),
+            _ => Err(WorkloadFault::Verdict),
         }
     }
 
     /// File data comes.
-    pub fn data(&mut self, sender: Sender, pool: &Pool, piece: Piece) -> Result<(), Fault> {
+    pub fn data(
+        &mut self,
+        sender: Sender,
+        pool: &Pool,
+        piece: PoolPiece,
+    ) -> Result<(), WorkloadFault> {
         sender.data_head(&mut self.pdu, piece.offset, piece.len)?;
         self.pdu.extend_from_slice(pool.octets(piece))?;
         self.hear()?;
@@ -96,7 +101,7 @@ impl Receiver {
     }
 
     /// The EOF PDU comes.
-    pub fn end(&mut self, sender: Sender, checksum: u32, size: u32) -> Result<(), Fault> {
+    pub fn end(&mut self, sender: Sender, checksum: u32, size: u32) -> Result<(), WorkloadFault> {
         sender.eof(&mut self.pdu, checksum, size)?;
         self.hear()?;
         Ok(())
@@ -120,7 +125,7 @@ impl Receiver {
     }
 
     /// The outcome is taken.
-    pub fn take(&mut self, id: TransactionId) -> Result<(), Fault> {
+    pub fn take(&mut self, id: TransactionId) -> Result<(), WorkloadFault> {
         match self.entity.take(self.alloc, id, &mut self.finished) {
             Ok((reply, count)) => {
                 self.digest.add_reply(&reply);
@@ -128,12 +133,12 @@ impl Receiver {
                     .add_octets(self.finished.get(..count).unwrap_or(&[]));
                 Ok(())
             }
-            Err(fault) => Err(Fault::from(fault)),
+            Err(fault) => Err(WorkloadFault::from(fault)),
         }
     }
 
     /// All that is in the filestore is listed, one entry at a time.
-    pub fn list_all(&mut self) -> Result<(), Fault> {
+    pub fn list_all(&mut self) -> Result<(), WorkloadFault> {
         let mut text = [0_u8; LONGEST_PATH];
         let store = self.entity.core().store();
         let mut next = store.next_entry(Names::none(), &mut text);
@@ -156,19 +161,19 @@ impl Receiver {
     /// # Errors
     ///
     /// [`Fault::Missing`] if there is no such file.
-    pub fn read_back(&mut self, name: &[u8]) -> Result<(), Fault> {
+    pub fn read_back(&mut self, name: &[u8]) -> Result<(), WorkloadFault> {
         let mut piece = [0_u8; 1_000];
         let path = Path::parse(self.alloc, name)?;
         let store = self.entity.core().store();
         let Some(found) = store.find(path.names()) else {
-            return Err(Fault::Missing);
+            return Err(WorkloadFault::Missing);
         };
         self.digest.add(found.size);
         self.digest.add(u64::from(found.checksum));
         let mut at = 0_u64;
         for _ in 0..7_865 {
             let Some(count) = store.read_at(path.names(), at, &mut piece) else {
-                return Err(Fault::Missing);
+                return Err(WorkloadFault::Missing);
             };
             if count == 0 {
                 break;
@@ -180,7 +185,7 @@ impl Receiver {
     }
 
     /// A whole transaction: a list without a file.
-    pub fn list(&mut self, sender: Sender, list: &List) -> Result<(), Fault> {
+    pub fn list(&mut self, sender: Sender, list: &List) -> Result<(), WorkloadFault> {
         self.admit(sender, 0, b"", list)?;
         self.end(sender, 0, 0)?;
         self.run();
@@ -192,10 +197,10 @@ impl Receiver {
         &mut self,
         sender: Sender,
         pool: &Pool,
-        pieces: &[Piece],
+        pieces: &[PoolPiece],
         destination: &[u8],
         list: &List,
-    ) -> Result<(), Fault> {
+    ) -> Result<(), WorkloadFault> {
         let size = size_of(pieces);
         self.admit(sender, size, destination, list)?;
         for piece in pieces {
@@ -208,7 +213,7 @@ impl Receiver {
 }
 
 /// The size of the file of these pieces.
-pub fn size_of(pieces: &[Piece]) -> u32 {
+pub fn size_of(pieces: &[PoolPiece]) -> u32 {
     let mut size = 0_u32;
     for piece in pieces {
         size = size.max(piece.offset.saturating_add(piece.len));

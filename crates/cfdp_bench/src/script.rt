@@ -1,8 +1,8 @@
 //! Scripts of `replay` and `links`, a line for each PDU and local event.
-use crate::fault::Fault;
+use crate::fault::WorkloadFault;
 use crate::names::{push_decimal, spell};
 use crate::pdus::{List, Sender};
-use crate::pool::{Piece, Pool, push_hex};
+use crate::pool::{Pool, PoolPiece, push_hex};
 use crate::receiver::size_of;
 use std::alloc::Global;
 
@@ -11,14 +11,14 @@ pub const CONFIG: &[u8] = b"config 2 65536 7864320 4 1000000\n";
 
 /// A script that is being written.
 #[derive(Drop)]
-pub struct Script {
+pub struct ScriptText {
     pub text: Vec<u8>,
     pdu: Vec<u8>,
 }
 
-impl Script {
-    pub fn new(alloc: Global) -> Script {
-        Script {
+impl ScriptText {
+    pub fn new(alloc: Global) -> ScriptText {
+        ScriptText {
             text: Vec::new(alloc),
             pdu: Vec::new(alloc),
         }
@@ -30,18 +30,18 @@ impl Script {
     }
 
     /// Appends a line as it is.
-    pub fn line(&mut self, line: &[u8]) -> Result<(), Fault> {
+    pub fn line(&mut self, line: &[u8]) -> Result<(), WorkloadFault> {
         self.text.extend_from_slice(line)?;
         Ok(())
     }
 
     /// Appends the line of the PDU that was written, up to the end of the line.
-    fn push_pdu(&mut self) -> Result<(), Fault> {
+    fn push_pdu(&mut self) -> Result<(), WorkloadFault> {
         self.text.extend_from_slice(b"pdu ")?;
         push_hex(&mut self.text, &self.pdu)
     }
 
-    fn end_line(&mut self) -> Result<(), Fault> {
+    fn end_line(&mut self) -> Result<(), WorkloadFault> {
         Ok(self.text.push(b'\n')?)
     }
 
@@ -52,14 +52,19 @@ impl Script {
         size: u32,
         destination: &[u8],
         list: &List,
-    ) -> Result<(), Fault> {
+    ) -> Result<(), WorkloadFault> {
         sender.metadata(&mut self.pdu, size, destination, list)?;
         self.push_pdu()?;
         self.end_line()
     }
 
     /// Appends a File Data PDU.
-    pub fn data(&mut self, sender: Sender, pool: &Pool, piece: Piece) -> Result<(), Fault> {
+    pub fn data(
+        &mut self,
+        sender: Sender,
+        pool: &Pool,
+        piece: PoolPiece,
+    ) -> Result<(), WorkloadFault> {
         sender.data_head(&mut self.pdu, piece.offset, piece.len)?;
         self.push_pdu()?;
         self.text.extend_from_slice(pool.hex(piece))?;
@@ -67,14 +72,14 @@ impl Script {
     }
 
     /// Appends an EOF PDU.
-    pub fn eof(&mut self, sender: Sender, checksum: u32, size: u32) -> Result<(), Fault> {
+    pub fn eof(&mut self, sender: Sender, checksum: u32, size: u32) -> Result<(), WorkloadFault> {
         sender.eof(&mut self.pdu, checksum, size)?;
         self.push_pdu()?;
         self.end_line()
     }
 
     /// Appends a PDU of which the last octets are missing.
-    pub fn cut(&mut self, sender: Sender, list: &List, octets: usize) -> Result<(), Fault> {
+    pub fn cut(&mut self, sender: Sender, list: &List, octets: usize) -> Result<(), WorkloadFault> {
         sender.metadata(&mut self.pdu, 0, b"", list)?;
         let len = self.pdu.len().saturating_sub(octets);
         self.pdu.truncate(len);
@@ -83,7 +88,7 @@ impl Script {
     }
 
     /// Appends a local event of the transaction: `step`, `check`, `cancel` or `take`.
-    pub fn local(&mut self, word: &[u8], sender: Sender) -> Result<(), Fault> {
+    pub fn local(&mut self, word: &[u8], sender: Sender) -> Result<(), WorkloadFault> {
         self.text.extend_from_slice(word)?;
         spell(&mut self.text, b" ", u32::from(sender.source), 1)?;
         self.text.push(b' ')?;
@@ -92,7 +97,12 @@ impl Script {
     }
 
     /// Appends the end of a transaction: EOF, all items, and its outcome.
-    pub fn finish(&mut self, sender: Sender, checksum: u32, size: u32) -> Result<(), Fault> {
+    pub fn finish(
+        &mut self,
+        sender: Sender,
+        checksum: u32,
+        size: u32,
+    ) -> Result<(), WorkloadFault> {
         self.eof(sender, checksum, size)?;
         self.line(b"run\n")?;
         self.local(b"take", sender)
@@ -105,7 +115,7 @@ impl Script {
         checksum: u32,
         size: u32,
         items: u32,
-    ) -> Result<(), Fault> {
+    ) -> Result<(), WorkloadFault> {
         self.eof(sender, checksum, size)?;
         for _ in 0..items {
             self.local(b"step", sender)?;
@@ -114,7 +124,7 @@ impl Script {
     }
 
     /// Appends a transaction without a file.
-    pub fn list(&mut self, sender: Sender, list: &List) -> Result<(), Fault> {
+    pub fn list(&mut self, sender: Sender, list: &List) -> Result<(), WorkloadFault> {
         self.metadata(sender, 0, b"", list)?;
         self.finish(sender, 0, 0)
     }
@@ -124,10 +134,10 @@ impl Script {
         &mut self,
         sender: Sender,
         pool: &Pool,
-        pieces: &[Piece],
+        pieces: &[PoolPiece],
         destination: &[u8],
         list: &List,
-    ) -> Result<(), Fault> {
+    ) -> Result<(), WorkloadFault> {
         self.metadata(sender, size_of(pieces), destination, list)?;
         for piece in pieces {
             self.data(sender, pool, *piece)?;

@@ -1,11 +1,11 @@
 //! Short sessions with small filestores, and the words and spaces of their lines.
 use crate::digest::Digest;
-use crate::fault::Fault;
+use crate::fault::WorkloadFault;
 use crate::names::spell;
 use crate::pdus::{List, Sender};
 use crate::pool::{Pool, push_hex};
 use crate::random::Random;
-use crate::script::Script;
+use crate::script::ScriptText;
 use cfdp_sim::replay_text;
 use cfdp_status::Action;
 use std::alloc::Global;
@@ -20,19 +20,19 @@ const HEAD: u32 = 16;
 
 /// What short sessions are written into.
 #[derive(Drop)]
-pub struct Sessions {
+pub struct ShortScripts {
     alloc: Global,
-    script: Script,
+    script: ScriptText,
     list: List,
     name: Vec<u8>,
 }
 
-impl Sessions {
+impl ShortScripts {
     /// No session yet.
-    pub fn new(alloc: Global) -> Sessions {
-        Sessions {
+    pub fn new(alloc: Global) -> ShortScripts {
+        ShortScripts {
             alloc,
-            script: Script::new(alloc),
+            script: ScriptText::new(alloc),
             list: List::new(alloc),
             name: Vec::new(alloc),
         }
@@ -45,7 +45,7 @@ impl Sessions {
         random: &mut Random,
         digest: &mut Digest,
         scale: u32,
-    ) -> Result<(), Fault> {
+    ) -> Result<(), WorkloadFault> {
         for number in 0..SESSIONS {
             for config in [
                 b"config 2 64 2400 2 1000\n".as_slice(),
@@ -63,12 +63,12 @@ impl Sessions {
         self.replay(digest)
     }
 
-    fn begin(&mut self, config: &[u8]) -> Result<(), Fault> {
+    fn begin(&mut self, config: &[u8]) -> Result<(), WorkloadFault> {
         self.script.clear();
         self.script.line(config)
     }
 
-    fn replay(&mut self, digest: &mut Digest) -> Result<(), Fault> {
+    fn replay(&mut self, digest: &mut Digest) -> Result<(), WorkloadFault> {
         let text = replay_text(self.alloc, &self.script.text)?;
         digest.add_octets(&text);
         Ok(())
@@ -80,7 +80,7 @@ impl Sessions {
         pool: &Pool,
         random: &mut Random,
         number: u32,
-    ) -> Result<(), Fault> {
+    ) -> Result<(), WorkloadFault> {
         self.list.clear();
         self.list.one(Action::CreateDirectory, b"app")?;
         self.script.list(Sender::new(SENDER, 0), &self.list)?;
@@ -101,7 +101,7 @@ impl Sessions {
         pool: &Pool,
         random: &mut Random,
         scale: u32,
-    ) -> Result<(), Fault> {
+    ) -> Result<(), WorkloadFault> {
         self.list.clear();
         for (number, octets, count) in [(100, 64, 1_000), (101, 65_000, 10)] {
             let size = octets * count / scale.max(1);
@@ -120,7 +120,7 @@ impl Sessions {
         &mut self,
         pool: &Pool,
         random: &mut Random,
-    ) -> Result<(), Fault> {
+    ) -> Result<(), WorkloadFault> {
         let sender = Sender::new(SENDER, 102);
         let mut pieces = Vec::new(self.alloc);
         let mut offset = 0_u32;
@@ -135,7 +135,7 @@ impl Sessions {
 
     /// A PDU comes with a space before each pair of digits, then a local event with many spaces between its words, and
     /// a line of spaces alone.
-    fn spaces(&mut self, pool: &Pool, random: &mut Random) -> Result<(), Fault> {
+    fn spaces(&mut self, pool: &Pool, random: &mut Random) -> Result<(), WorkloadFault> {
         self.script.line(b"pdu")?;
         for octet in pool.octets(pool.piece(random, 0, 400)) {
             self.script.line(b" ")?;

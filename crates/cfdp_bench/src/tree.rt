@@ -1,5 +1,5 @@
 //! What the sender knows of the filestore, and the lists of requests that it makes of it.
-use crate::fault::Fault;
+use crate::fault::WorkloadFault;
 use crate::names::{Shape, spell};
 use crate::pdus::List;
 use crate::random::Random;
@@ -41,12 +41,17 @@ impl Tree {
         self.high.saturating_sub(self.low)
     }
 
-    fn file(shape: Shape, directories: u32, out: &mut Vec<u8>, number: u32) -> Result<(), Fault> {
+    fn file(
+        shape: Shape,
+        directories: u32,
+        out: &mut Vec<u8>,
+        number: u32,
+    ) -> Result<(), WorkloadFault> {
         shape.file(out, number % directories.max(1), number)
     }
 
     /// Adds a request on the file with this number.
-    fn one(&mut self, list: &mut List, action: Action, number: u32) -> Result<(), Fault> {
+    fn one(&mut self, list: &mut List, action: Action, number: u32) -> Result<(), WorkloadFault> {
         Tree::file(self.shape, self.directories, &mut self.first, number)?;
         list.one(action, &self.first)
     }
@@ -58,14 +63,14 @@ impl Tree {
         action: Action,
         first: u32,
         second: u32,
-    ) -> Result<(), Fault> {
+    ) -> Result<(), WorkloadFault> {
         Tree::file(self.shape, self.directories, &mut self.first, first)?;
         Tree::file(self.shape, self.directories, &mut self.second, second)?;
         list.two(action, &self.first, &self.second)
     }
 
     /// Spells a name that was not used before, in one of the directories.
-    fn spell_spare(&mut self) -> Result<(), Fault> {
+    fn spell_spare(&mut self) -> Result<(), WorkloadFault> {
         self.spare = self.spare.wrapping_add(1);
         let directory = self.spare % self.directories.max(1);
         self.shape.directory(&mut self.first, directory)?;
@@ -73,13 +78,13 @@ impl Tree {
     }
 
     /// Spells the directory with this number.
-    pub fn directory(&mut self, directory: u32) -> Result<&[u8], Fault> {
+    pub fn directory(&mut self, directory: u32) -> Result<&[u8], WorkloadFault> {
         self.shape.directory(&mut self.first, directory)?;
         Ok(&self.first)
     }
 
     /// Adds a request that makes a directory of the shape: first those above all, then the others.
-    pub fn make_directory(&mut self, list: &mut List, index: u32) -> Result<(), Fault> {
+    pub fn make_directory(&mut self, list: &mut List, index: u32) -> Result<(), WorkloadFault> {
         let above = self.shape.above();
         match above.get(index as usize) {
             Some(name) => list.one(Action::CreateDirectory, name),
@@ -97,19 +102,19 @@ impl Tree {
     }
 
     /// Adds a request that makes a file.
-    pub fn create(&mut self, list: &mut List) -> Result<(), Fault> {
+    pub fn create(&mut self, list: &mut List) -> Result<(), WorkloadFault> {
         let number = self.high;
         self.high = self.high.wrapping_add(1);
         self.one(list, Action::CreateFile, number)
     }
 
-    fn delete(&mut self, list: &mut List, action: Action) -> Result<(), Fault> {
+    fn delete(&mut self, list: &mut List, action: Action) -> Result<(), WorkloadFault> {
         let number = self.low;
         self.low = self.low.wrapping_add(1);
         self.one(list, action, number)
     }
 
-    fn rename(&mut self, list: &mut List) -> Result<(), Fault> {
+    fn rename(&mut self, list: &mut List) -> Result<(), WorkloadFault> {
         let (old, new) = (self.low, self.high);
         self.low = self.low.wrapping_add(1);
         self.high = self.high.wrapping_add(1);
@@ -117,7 +122,7 @@ impl Tree {
     }
 
     /// Adds requests that make a directory and remove it.
-    fn directory_for_a_while(&mut self, list: &mut List) -> Result<(), Fault> {
+    fn directory_for_a_while(&mut self, list: &mut List) -> Result<(), WorkloadFault> {
         self.spell_spare()?;
         list.one(Action::CreateDirectory, &self.first)?;
         list.one(Action::RemoveDirectory, &self.first)
@@ -130,7 +135,7 @@ impl Tree {
         list: &mut List,
         count: u32,
         target: u32,
-    ) -> Result<(), Fault> {
+    ) -> Result<(), WorkloadFault> {
         for _ in 0..count {
             if list.count >= count {
                 break;
@@ -162,7 +167,7 @@ impl Tree {
     }
 
     /// Adds requests that make files, none of which is counted.
-    pub fn creates(&mut self, list: &mut List, count: u32) -> Result<(), Fault> {
+    pub fn creates(&mut self, list: &mut List, count: u32) -> Result<(), WorkloadFault> {
         for _ in 0..count {
             self.spell_spare()?;
             list.one(Action::CreateFile, &self.first)?;
@@ -171,7 +176,7 @@ impl Tree {
     }
 
     /// Adds a request to delete a file that is not there.
-    pub fn delete_nothing(&mut self, list: &mut List) -> Result<(), Fault> {
+    pub fn delete_nothing(&mut self, list: &mut List) -> Result<(), WorkloadFault> {
         self.spell_spare()?;
         list.one(Action::DeleteFile, &self.first)
     }
