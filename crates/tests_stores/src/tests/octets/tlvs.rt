@@ -10,7 +10,7 @@ use cfdp_tlv::*;
 use std::alloc::{AllocError, Global};
 
 // A response TLV, and its status, names and message.
-struct ResponseParts {
+struct ResponseRow {
     octets: &'static [u8],
     status: Status,
     first: &'static [u8],
@@ -18,10 +18,10 @@ struct ResponseParts {
     message: &'static [u8],
 }
 
-static RESPONSES: [(&str, ResponseParts); 14] = [
+static RESPONSES: [(&str, ResponseRow); 14] = [
     (
         "a file was created",
-        ResponseParts {
+        ResponseRow {
             octets: b"\x01\x04\x00\x01a\x00",
             status: Status::Successful(Action::CreateFile),
             first: b"a",
@@ -31,7 +31,7 @@ static RESPONSES: [(&str, ResponseParts); 14] = [
     ),
     (
         "create file was not allowed",
-        ResponseParts {
+        ResponseRow {
             octets: b"\x01\x04\x01\x01a\x00",
             status: Status::NotAllowed(Action::CreateFile),
             first: b"a",
@@ -41,7 +41,7 @@ static RESPONSES: [(&str, ResponseParts); 14] = [
     ),
     (
         "create file was not performed",
-        ResponseParts {
+        ResponseRow {
             octets: b"\x01\x04\x0f\x01a\x00",
             status: Status::NotPerformed(Action::CreateFile),
             first: b"a",
@@ -51,7 +51,7 @@ static RESPONSES: [(&str, ResponseParts); 14] = [
     ),
     (
         "a file was deleted",
-        ResponseParts {
+        ResponseRow {
             octets: b"\x01\x04\x10\x01a\x00",
             status: Status::Successful(Action::DeleteFile),
             first: b"a",
@@ -61,7 +61,7 @@ static RESPONSES: [(&str, ResponseParts); 14] = [
     ),
     (
         "delete file was not performed",
-        ResponseParts {
+        ResponseRow {
             octets: b"\x01\x04\x1f\x01a\x00",
             status: Status::NotPerformed(Action::DeleteFile),
             first: b"a",
@@ -71,7 +71,7 @@ static RESPONSES: [(&str, ResponseParts); 14] = [
     ),
     (
         "a directory was created",
-        ResponseParts {
+        ResponseRow {
             octets: b"\x01\x04\x50\x01d\x00",
             status: Status::Successful(Action::CreateDirectory),
             first: b"d",
@@ -81,7 +81,7 @@ static RESPONSES: [(&str, ResponseParts); 14] = [
     ),
     (
         "a file was created in a directory",
-        ResponseParts {
+        ResponseRow {
             octets: b"\x01\x06\x00\x03d/x\x00",
             status: Status::Successful(Action::CreateFile),
             first: b"d/x",
@@ -91,7 +91,7 @@ static RESPONSES: [(&str, ResponseParts); 14] = [
     ),
     (
         "remove directory was not allowed",
-        ResponseParts {
+        ResponseRow {
             octets: b"\x01\x04\x62\x01d\x00",
             status: Status::NotAllowed(Action::RemoveDirectory),
             first: b"d",
@@ -101,7 +101,7 @@ static RESPONSES: [(&str, ResponseParts); 14] = [
     ),
     (
         "a file in a directory was renamed",
-        ResponseParts {
+        ResponseRow {
             octets: b"\x01\x08\x20\x03d/x\x01b\x00",
             status: Status::Successful(Action::RenameFile),
             first: b"d/x",
@@ -111,7 +111,7 @@ static RESPONSES: [(&str, ResponseParts); 14] = [
     ),
     (
         "rename file was not performed",
-        ResponseParts {
+        ResponseRow {
             octets: b"\x01\x06\x2f\x01a\x01b\x00",
             status: Status::NotPerformed(Action::RenameFile),
             first: b"a",
@@ -121,7 +121,7 @@ static RESPONSES: [(&str, ResponseParts); 14] = [
     ),
     (
         "the second file of a replace does not exist",
-        ResponseParts {
+        ResponseRow {
             octets: b"\x01\x06\x42\x01b\x01c\x00",
             status: Status::ReplaceSecondAbsent,
             first: b"b",
@@ -131,7 +131,7 @@ static RESPONSES: [(&str, ResponseParts); 14] = [
     ),
     (
         "a directory was denied",
-        ResponseParts {
+        ResponseRow {
             octets: b"\x01\x04\x80\x01d\x00",
             status: Status::Successful(Action::DenyDirectory),
             first: b"d",
@@ -141,7 +141,7 @@ static RESPONSES: [(&str, ResponseParts); 14] = [
     ),
     (
         "an append, with a message",
-        ResponseParts {
+        ResponseRow {
             octets: b"\x01\x07\x30\x01b\x01b\x01m",
             status: Status::Successful(Action::AppendFile),
             first: b"b",
@@ -151,7 +151,7 @@ static RESPONSES: [(&str, ResponseParts); 14] = [
     ),
     (
         "a / in front",
-        ResponseParts {
+        ResponseRow {
             octets: b"\x01\x05\x00\x02/a\x00",
             status: Status::Successful(Action::CreateFile),
             first: b"/a",
@@ -212,14 +212,14 @@ fn written_response(
 }
 
 // Whether a response has the status, the names and the message of a row.
-fn tells(response: &FilestoreResponse, stated: &ResponseParts) -> bool {
+fn tells(response: &FilestoreResponse, stated: &ResponseRow) -> bool {
     response.status() == stated.status
         && response.first() == stated.first
         && response.second() == stated.second
         && response.message() == stated.message
 }
 
-impl Row for ResponseParts {
+impl Row for ResponseRow {
     fn holds(&self, alloc: Global) -> Result<bool, AllocError> {
         let response = response_in(alloc, self.octets)?;
         let out = written_response(alloc, b"x", &response)?;
@@ -258,9 +258,9 @@ fn lv_fields(rt: HostRuntime) {
 }
 
 // Octets, and the type and the value of the TLV field at the front with what is after it, if it is whole.
-type Tlv = (&'static [u8], Option<(u8, &'static [u8], &'static [u8])>);
+type TlvRow = (&'static [u8], Option<(u8, &'static [u8], &'static [u8])>);
 
-static TLVS: [(&str, Tlv); 4] = [
+static TLVS: [(&str, TlvRow); 4] = [
     (
         "one octet, and one after it",
         (b"\x06\x01\x02\x00", Some((6, b"\x02", b"\x00"))),
@@ -275,7 +275,7 @@ fn tlv_parts(octets: &[u8]) -> Option<(u8, &[u8], &[u8])> {
     Some((field.kind, field.value, field.rest))
 }
 
-impl Row for Tlv {
+impl Row for TlvRow {
     fn holds(&self, _: Global) -> Result<bool, AllocError> {
         Ok(tlv_parts(self.0) == self.1)
     }
@@ -287,34 +287,37 @@ fn tlv_fields(rt: HostRuntime) {
 }
 
 // What spells no request, and its fault.
-struct NoRequest(&'static [u8], TlvFault);
+struct RefusedRequest(&'static [u8], TlvFault);
 
-static REQUEST_FAULTS: [(&str, NoRequest); 8] = [
-    ("nothing", NoRequest(b"", TlvFault::Truncated)),
+static REQUEST_FAULTS: [(&str, RefusedRequest); 8] = [
+    ("nothing", RefusedRequest(b"", TlvFault::Truncated)),
     (
         "an action that does not exist",
-        NoRequest(b"\x90\x01a", TlvFault::BadAction),
+        RefusedRequest(b"\x90\x01a", TlvFault::BadAction),
     ),
     (
         "such an action alone",
-        NoRequest(b"\x90", TlvFault::BadAction),
+        RefusedRequest(b"\x90", TlvFault::BadAction),
     ),
-    ("an action alone", NoRequest(b"\x00", TlvFault::Truncated)),
+    (
+        "an action alone",
+        RefusedRequest(b"\x00", TlvFault::Truncated),
+    ),
     (
         "a name that is cut",
-        NoRequest(b"\x00\x02a", TlvFault::Truncated),
+        RefusedRequest(b"\x00\x02a", TlvFault::Truncated),
     ),
     (
         "no second name",
-        NoRequest(b"\x20\x01a", TlvFault::Truncated),
+        RefusedRequest(b"\x20\x01a", TlvFault::Truncated),
     ),
     (
         "an octet after the name",
-        NoRequest(b"\x10\x01a\x00", TlvFault::Trailing),
+        RefusedRequest(b"\x10\x01a\x00", TlvFault::Trailing),
     ),
     (
         "an octet after two names",
-        NoRequest(b"\x20\x01a\x01b\x00", TlvFault::Trailing),
+        RefusedRequest(b"\x20\x01a\x01b\x00", TlvFault::Trailing),
     ),
 ];
 
@@ -346,7 +349,7 @@ static RESPONSE_FAULTS: [(&str, NoResponse); 7] = [
     ),
 ];
 
-impl Row for NoRequest {
+impl Row for RefusedRequest {
     fn holds(&self, alloc: Global) -> Result<bool, AllocError> {
         Ok(read_request(alloc, self.0).err() == Some(self.1))
     }
