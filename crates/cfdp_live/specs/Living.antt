@@ -10,10 +10,10 @@
 --     MakesOut R inputs N before after  the inputs lead from R to N, and what they make comes after what there was
 use Rattle.std.specs.Prelude.{◌≡◌, ℕ, Bool, true, false, ◌||◌, List, [], ◌∷◌, ◌++◌, map}
 use Rattle.std.specs.List.{list_any}
-use Rattle.cfdp_receiver.specs.declared.answer.Became.{Became}
-use Rattle.cfdp_receiver.specs.declared.answer.Became.TheVariants.{Replied}
-use Rattle.cfdp_receiver.specs.declared.answer.Indication.{Indication}
-use Rattle.cfdp_receiver.specs.declared.answer.Indication.TheVariants.{TransactionFinished, Abandoned}
+use Rattle.cfdp_receiver.specs.declared.indication.Became.{Became}
+use Rattle.cfdp_receiver.specs.declared.indication.Became.TheVariants.{Replied}
+use Rattle.cfdp_receiver.specs.declared.indication.Indication.{Indication}
+use Rattle.cfdp_receiver.specs.declared.indication.Indication.TheVariants.{TransactionFinished, Abandoned}
 use Rattle.cfdp_receiver.specs.declared.mib.Mib.{Mib}
 use Rattle.cfdp_receiver.specs.State.{AnswerFields, Input, State}
 use Rattle.cfdp_receiver.specs.Sent.{as_sent}

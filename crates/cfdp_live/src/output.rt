@@ -3,7 +3,7 @@
 ghost use Rattle.std.specs.Prelude.{◌≡◌, ◌++◌, ◌∷◌, ◌||◌, ◌≤◌, [], false, length, map, max, OnOk};
 ghost use Rattle.std.specs.List.{list_any};
 ghost use Rattle.cfdp_actions.specs.Listed.{vector_octets};
-ghost use Rattle.cfdp_receiver.specs.declared.answer.Became.TheVariants.{Replied};
+ghost use Rattle.cfdp_receiver.specs.declared.indication.Became.TheVariants.{Replied};
 ghost use Rattle.cfdp_receiver.specs.StateMachine.{answer_in};
 ghost use Rattle.cfdp_receiver.specs.Sent.{as_sent, longest_sealed, pdus_of};
 ghost use Rattle.cfdp_reports.specs.Reports.{indication_lines};

@@ -36,8 +36,8 @@ use Rattle.cfdp_transactions.specs.declared.reply.Reply.{Reply}
 use Rattle.cfdp_transactions.proofs.Finding.{found_name as entry_name}
 use Rattle.cfdp_transactions.proofs.Lookups.{set_own}
 use Rattle.cfdp_transactions.proofs.Options.{chosen_some}
-use Rattle.cfdp_receiver.specs.declared.answer.Became.TheVariants as became
-use Rattle.cfdp_receiver.specs.declared.answer.Word.TheVariants as words
+use Rattle.cfdp_receiver.specs.declared.indication.Became.TheVariants as became
+use Rattle.cfdp_receiver.specs.declared.indication.Word.TheVariants as words
 use Rattle.cfdp_receiver.specs.declared.joint_phase.JointPhase.{JointPhase}
 use Rattle.cfdp_receiver.specs.declared.joint_phase.JointPhase.TheVariants.{Executing as At_executing, Over as At_over}
 use Rattle.cfdp_receiver.specs.declared.mib.Mib.{Mib}

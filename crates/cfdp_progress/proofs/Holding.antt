@@ -21,7 +21,7 @@ use Rattle.cfdp_transactions.specs.Entry.{Entry, id_of}
 use Rattle.cfdp_transactions.specs.declared.reply.Reply.{Reply}
 use Rattle.cfdp_transactions.specs.Next.{run, replies}
 use Rattle.cfdp_transactions.specs.World.{World, entry_of}
-use Rattle.cfdp_receiver.specs.declared.answer.Word.TheVariants as words
+use Rattle.cfdp_receiver.specs.declared.indication.Word.TheVariants as words
 use Rattle.cfdp_receiver.specs.declared.joint_phase.JointPhase.{JointPhase}
 use Rattle.cfdp_receiver.specs.declared.joint_phase.JointPhase.TheVariants.{Held as At_held}
 use Rattle.cfdp_receiver.specs.declared.mib.Handler.{Handler}

@@ -21,7 +21,7 @@ use Rattle.cfdp_transactions.specs.Received.{Received}
 use Rattle.cfdp_transactions.specs.Sound.{Sound}
 use Rattle.cfdp_transactions.specs.World.{entry_of}
 use Rattle.cfdp_transactions.specs.declared.outcome.Outcome.{Outcome}
-use Rattle.cfdp_receiver.specs.declared.answer.Word.TheVariants as words
+use Rattle.cfdp_receiver.specs.declared.indication.Word.TheVariants as words
 use Rattle.cfdp_receiver.specs.declared.mib.Mib.{Mib}
 use Rattle.cfdp_receiver.specs.State.{State, Input, Expire, Finish, session_of}
 use Rattle.cfdp_receiver.specs.Due as Dues

@@ -11,7 +11,7 @@ use Rattle.cfdp_sessions.specs.code.Sessions.{IsFound}
 use Rattle.cfdp_sessions.proofs.Names.{found_name, gone, replaced_none, added_other, without_none}
 use Rattle.cfdp_sessions.specs.declared.session.Stage.TheVariants.{Waiting}
 use Rattle.cfdp_transactions.specs.Entry.{id_of}
-use Rattle.cfdp_receiver.specs.declared.answer.Word.TheVariants as words
+use Rattle.cfdp_receiver.specs.declared.indication.Word.TheVariants as words
 use Rattle.cfdp_receiver.specs.State.{State, Input, AckPdu, now_of, session_of, is_closed}
 use Rattle.cfdp_receiver.specs.Handing as Handing
 use Rattle.cfdp_receiver.specs.Turning as Turning

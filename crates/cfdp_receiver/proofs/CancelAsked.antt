@@ -12,8 +12,8 @@ use Rattle.cfdp_transactions.specs.declared.event.Event.TheVariants.{Cancel}
 use Rattle.cfdp_transactions.specs.declared.reply.Reply.{Reply}
 use Rattle.cfdp_transactions.specs.World.{World}
 use Rattle.cfdp_transactions.specs.Next.{next}
-use Rattle.cfdp_receiver.specs.declared.answer.Became.TheVariants.{Said, Replied}
-use Rattle.cfdp_receiver.specs.declared.answer.Word.TheVariants as words
+use Rattle.cfdp_receiver.specs.declared.indication.Became.TheVariants.{Said, Replied}
+use Rattle.cfdp_receiver.specs.declared.indication.Word.TheVariants as words
 use Rattle.cfdp_receiver.specs.State.{State, CancelAsked, session_of}
 use Rattle.cfdp_receiver.specs.Handing.{of_session, where_known}
 use Rattle.cfdp_receiver.specs.StateMachine.{StateMachineFields, AnswerParts, answer_in}

@@ -27,11 +27,11 @@ use Rattle.cfdp_transactions.specs.declared.reply.Reply.{Reply}
 use Rattle.cfdp_transactions.specs.declared.reply.Reply.TheVariants as Replies
 use Rattle.cfdp_transactions.proofs.KeptTable.StepDone.{drop_get}
 use Rattle.cfdp_transactions.proofs.Options.{none_of, unless_some}
-use Rattle.cfdp_receiver.specs.declared.answer.Became.TheVariants.{Said}
-use Rattle.cfdp_receiver.specs.declared.answer.Conclusion.{Conclusion}
-use Rattle.cfdp_receiver.specs.declared.answer.Indication.TheVariants as tells
-use Rattle.cfdp_receiver.specs.declared.answer.Word.{Word}
-use Rattle.cfdp_receiver.specs.declared.answer.Word.TheVariants as words
+use Rattle.cfdp_receiver.specs.declared.indication.Became.TheVariants.{Said}
+use Rattle.cfdp_receiver.specs.declared.indication.Conclusion.{Conclusion}
+use Rattle.cfdp_receiver.specs.declared.indication.Indication.TheVariants as tells
+use Rattle.cfdp_receiver.specs.declared.indication.Word.{Word}
+use Rattle.cfdp_receiver.specs.declared.indication.Word.TheVariants as words
 use Rattle.cfdp_receiver.specs.State.{JointPhase, At_held, At_receiving, At_awaiting, At_executing, At_over, At_waiting}
 use Rattle.cfdp_receiver.specs.State.{State, Finish, at_of, at_stage, at_entry}
 use Rattle.cfdp_receiver.specs.Due.{first_over, is_over}

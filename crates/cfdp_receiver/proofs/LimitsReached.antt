@@ -13,12 +13,12 @@ use Rattle.cfdp_transactions.specs.declared.reply.Reply.{Reply}
 use Rattle.cfdp_transactions.specs.Entry.{Entry}
 use Rattle.cfdp_transactions.specs.World.{World, entry_of}
 use Rattle.cfdp_transactions.specs.Next.{next, run}
-use Rattle.cfdp_receiver.specs.declared.answer.Became.TheVariants.{Said}
-use Rattle.cfdp_receiver.specs.declared.answer.Indication.TheVariants.{Abandoned}
-use Rattle.cfdp_receiver.specs.declared.answer.Word.{Word}
+use Rattle.cfdp_receiver.specs.declared.indication.Became.TheVariants.{Said}
+use Rattle.cfdp_receiver.specs.declared.indication.Indication.TheVariants.{Abandoned}
+use Rattle.cfdp_receiver.specs.declared.indication.Word.{Word}
 use Rattle.cfdp_receiver.specs.declared.mib.Handler.{Handler}
 use Rattle.cfdp_receiver.specs.declared.mib.Handler.TheVariants as handlers
-use Rattle.cfdp_receiver.specs.declared.answer.Word.TheVariants as words
+use Rattle.cfdp_receiver.specs.declared.indication.Word.TheVariants as words
 use Rattle.cfdp_receiver.specs.State.{State, Expire, JointPhase, At_held, At_receiving, At_awaiting, At_executing, At_over, At_waiting, at_of, at_stage, at_entry, at_phase}
 use Rattle.cfdp_receiver.specs.Due.{Stage_due, fault_at, first_due, handler_at}
 use Rattle.cfdp_receiver.specs.Handing.{due_events, limit_events, makes_checks, where_known}

@@ -12,9 +12,9 @@ use Rattle.cfdp_transactions.specs.World.{World, entry_of}
 use Rattle.cfdp_transactions.specs.declared.event.Event.TheVariants.{Data as DataCame}
 use Rattle.cfdp_transactions.specs.declared.reply.Reply.{Reply}
 use Rattle.cfdp_transactions.specs.Next.{next}
-use Rattle.cfdp_receiver.specs.declared.answer.Became.TheVariants.{Replied}
-use Rattle.cfdp_receiver.specs.declared.answer.Indication.{Indication}
-use Rattle.cfdp_receiver.specs.declared.answer.Indication.TheVariants.{FileSegmentRecv}
+use Rattle.cfdp_receiver.specs.declared.indication.Became.TheVariants.{Replied}
+use Rattle.cfdp_receiver.specs.declared.indication.Indication.{Indication}
+use Rattle.cfdp_receiver.specs.declared.indication.Indication.TheVariants.{FileSegmentRecv}
 use Rattle.cfdp_receiver.specs.State.{State, DataPdu, AnswerFields, at_of, session_of}
 use Rattle.cfdp_receiver.specs.Due.{is_receiving_at}
 use Rattle.cfdp_receiver.specs.Handing.{is_ours, of_session, where_known}

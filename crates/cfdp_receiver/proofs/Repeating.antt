@@ -15,8 +15,8 @@ use Rattle.cfdp_sessions.proofs.Indexes.{found_by_name}
 use Rattle.cfdp_transactions.specs.declared.reply.Reply.{Reply}
 use Rattle.cfdp_transactions.specs.World.{World}
 use Rattle.cfdp_transactions.specs.Next.{run}
-use Rattle.cfdp_receiver.specs.declared.answer.Became.TheVariants.{Said}
-use Rattle.cfdp_receiver.specs.declared.answer.Word.TheVariants as words
+use Rattle.cfdp_receiver.specs.declared.indication.Became.TheVariants.{Said}
+use Rattle.cfdp_receiver.specs.declared.indication.Word.TheVariants as words
 use Rattle.cfdp_receiver.specs.declared.mib.Mib.{Mib}
 use Rattle.cfdp_receiver.specs.State.{State, Expire, JointPhase, At_held, At_receiving, At_awaiting, At_executing, At_over, At_waiting, at_of}
 use Rattle.cfdp_receiver.specs.Due.{Stage_due, first_due}

@@ -24,8 +24,8 @@ use Rattle.cfdp_transactions.specs.Next.{next, run, replies as replies_of}
 use Rattle.cfdp_transactions.specs.World.{World, start}
 use Rattle.cfdp_transactions.proofs.Examples.Computing.{look_ups}
 use Rattle.cfdp_transactions.proofs.Examples.ExampleWords.{config, id, asks}
-use Rattle.cfdp_receiver.specs.declared.answer.Indication.TheVariants as tells
-use Rattle.cfdp_receiver.specs.declared.answer.Word.TheVariants as words
+use Rattle.cfdp_receiver.specs.declared.indication.Indication.TheVariants as tells
+use Rattle.cfdp_receiver.specs.declared.indication.Word.TheVariants as words
 use Rattle.cfdp_receiver.specs.declared.mib.Handler.TheVariants as handlers
 use Rattle.cfdp_receiver.specs.declared.mib.Mib.{Mib}
 use Rattle.cfdp_receiver.specs.declared.mib.NakMode.TheVariants as modes

@@ -20,10 +20,10 @@ use Rattle.cfdp_directives.specs.declared.keep_alive.KeepAlive.{KeepAlive}
 use Rattle.cfdp_transactions.specs.declared.reply.Reply.{Reply}
 use Rattle.cfdp_transactions.specs.World.{start}
 use Rattle.cfdp_transactions.proofs.Examples.ExampleWords.{config, id}
-use Rattle.cfdp_receiver.specs.declared.answer.Became.TheVariants.{Nothing, Said, Replied}
-use Rattle.cfdp_receiver.specs.declared.answer.Indication.{Indication}
-use Rattle.cfdp_receiver.specs.declared.answer.Indication.TheVariants as tells
-use Rattle.cfdp_receiver.specs.declared.answer.Word.{Word}
+use Rattle.cfdp_receiver.specs.declared.indication.Became.TheVariants.{Nothing, Said, Replied}
+use Rattle.cfdp_receiver.specs.declared.indication.Indication.{Indication}
+use Rattle.cfdp_receiver.specs.declared.indication.Indication.TheVariants as tells
+use Rattle.cfdp_receiver.specs.declared.indication.Word.{Word}
 use Rattle.cfdp_receiver.specs.declared.mib.Handler.TheVariants as handlers
 use Rattle.cfdp_receiver.specs.declared.mib.Mib.{Mib}
 use Rattle.cfdp_receiver.specs.declared.mib.NakMode.TheVariants as modes

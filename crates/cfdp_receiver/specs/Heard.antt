@@ -3,7 +3,7 @@
 --     heard now octets          the same, of octets that may have a CRC
 --     IsDropped now octets why  why octets were dropped: by their first fault, or out of memory for a Metadata
 --                               PDU;  IsUnread: without a CRC
-use Rattle.std.specs.Prelude.{◌≡◌, ◌⊎◌, ⊤, ℕ, ◌==◌, if◌then◌else◌, List, Result, Ok, Err}
+use Rattle.std.specs.Prelude.{◌≡◌, ◌⊎◌, ℕ, ◌==◌, if◌then◌else◌, List, Result, Ok, Err}
 use Rattle.cfdp_crc.specs.Seal.{unsealed}
 use Rattle.cfdp_crc.specs.declared.sealing.CrcFault.{CrcFault}
 use Rattle.cfdp_pdus.specs.First.{pdu_at}
@@ -16,6 +16,7 @@ use Rattle.cfdp_pdus.specs.declared.fault.PduFault.TheVariants.{Memory}
 use Rattle.cfdp_directives.specs.Reading.{NakFields, nak_at, directive_spelled}
 use Rattle.cfdp_directives.specs.declared.read.Directive.{Directive}
 use Rattle.cfdp_directives.specs.declared.read.Directive.TheVariants as directives
+use Rattle.cfdp_entity.specs.Hearing.{MayLackMemory}
 use Rattle.cfdp_receiver.specs.declared.reading.Dropped.{Dropped}
 use Rattle.cfdp_receiver.specs.declared.reading.Dropped.TheVariants as dropped
 use Rattle.cfdp_receiver.specs.State.{Input, MetadataPdu, DataPdu, EofPdu, AckPdu, PromptPdu, OtherPdu}
@@ -54,12 +55,8 @@ heard_in now (Err fault) = Err (dropped.Crc fault)
 abbrev pub heard : ℕ → List ℕ → Result Input Dropped
 heard now octets = heard_in now (unsealed octets)
 
-abbrev pub IsMetadata : Result Pdu PduFault → Type 0
-IsMetadata (Ok (pdus.Metadata h m)) = ⊤
-IsMetadata read = ⊥
-
 abbrev pub IsUnread : ℕ → List ℕ → Dropped → Type 0
-IsUnread now octets why = (input_at now octets ≡ Err why) ⊎ ((why ≡ dropped.Pdu Memory) × IsMetadata (pdu_at octets))
+IsUnread now octets why = (input_at now octets ≡ Err why) ⊎ ((why ≡ dropped.Pdu Memory) × MayLackMemory octets)
 
 abbrev pub IsUnheardInput : ℕ → Result (List ℕ) CrcFault → Dropped → Type 0
 IsUnheardInput now (Ok octets) why = IsUnread now octets why

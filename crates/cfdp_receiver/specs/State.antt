@@ -31,8 +31,8 @@ use Rattle.cfdp_transactions.specs.Entry.{Entry}
 use Rattle.cfdp_transactions.specs.World.{World, entry_of}
 pub use Rattle.cfdp_receiver.specs.declared.joint_phase.JointPhase.{JointPhase}
 pub use Rattle.cfdp_receiver.specs.declared.joint_phase.JointPhase.TheVariants.{Held as At_held, Receiving as At_receiving, Awaiting as At_awaiting, Executing as At_executing, Over as At_over, Waiting as At_waiting}
-use Rattle.cfdp_receiver.specs.declared.answer.Became.{Became}
-use Rattle.cfdp_receiver.specs.declared.answer.Indication.{Indication}
+use Rattle.cfdp_receiver.specs.declared.indication.Became.{Became}
+use Rattle.cfdp_receiver.specs.declared.indication.Indication.{Indication}
 use Rattle.cfdp_receiver.specs.declared.mib.Mib.{Mib}
 
 pub record State : Type 0 where

@@ -20,8 +20,8 @@ use Rattle.cfdp_retransmission.specs.Naks.{naks}
 use Rattle.cfdp_retransmission.specs.declared.timer.Expiry.TheVariants.{Limit}
 use Rattle.cfdp_sessions.specs.Sessions.{SessionFields}
 use Rattle.cfdp_transactions.specs.World.{World}
-use Rattle.cfdp_receiver.specs.declared.answer.Became.{Became}
-use Rattle.cfdp_receiver.specs.declared.answer.Indication.{Indication}
+use Rattle.cfdp_receiver.specs.declared.indication.Became.{Became}
+use Rattle.cfdp_receiver.specs.declared.indication.Indication.{Indication}
 use Rattle.cfdp_receiver.specs.declared.mib.Mib.{Mib}
 use Rattle.cfdp_receiver.specs.declared.receiver.NotMade.{NotMade}
 use Rattle.cfdp_receiver.specs.declared.receiver.NotMade.TheVariants as not_made

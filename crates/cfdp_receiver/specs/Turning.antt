@@ -39,13 +39,13 @@ use Rattle.cfdp_transactions.specs.Outcome.{outcome_of}
 use Rattle.cfdp_transactions.specs.Writable.{finished_octets}
 use Rattle.cfdp_transactions.specs.World.{World, entry_of, next_runnable}
 use Rattle.cfdp_transactions.specs.Next.{run, replies}
-use Rattle.cfdp_receiver.specs.declared.answer.Became.{Became}
-use Rattle.cfdp_receiver.specs.declared.answer.Became.TheVariants.{Nothing, NotOurs, Said, Replied}
-use Rattle.cfdp_receiver.specs.declared.answer.Conclusion.{Conclusion}
-use Rattle.cfdp_receiver.specs.declared.answer.Indication.{Indication}
-use Rattle.cfdp_receiver.specs.declared.answer.Indication.TheVariants as tells
-use Rattle.cfdp_receiver.specs.declared.answer.Word.{Word}
-use Rattle.cfdp_receiver.specs.declared.answer.Word.TheVariants as words
+use Rattle.cfdp_receiver.specs.declared.indication.Became.{Became}
+use Rattle.cfdp_receiver.specs.declared.indication.Became.TheVariants.{Nothing, NotOurs, Said, Replied}
+use Rattle.cfdp_receiver.specs.declared.indication.Conclusion.{Conclusion}
+use Rattle.cfdp_receiver.specs.declared.indication.Indication.{Indication}
+use Rattle.cfdp_receiver.specs.declared.indication.Indication.TheVariants as tells
+use Rattle.cfdp_receiver.specs.declared.indication.Word.{Word}
+use Rattle.cfdp_receiver.specs.declared.indication.Word.TheVariants as words
 use Rattle.cfdp_receiver.specs.declared.mib.Handler.{Handler}
 use Rattle.cfdp_receiver.specs.declared.mib.Handler.TheVariants as handlers
 use Rattle.cfdp_receiver.specs.declared.mib.Mib.{Mib}

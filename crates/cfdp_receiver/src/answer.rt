@@ -7,7 +7,7 @@ ghost use Rattle.cfdp_directives.specs.Spelling.{IsSizedAck};
 ghost use Rattle.cfdp_receiver.specs.StateMachine.{listed};
 ghost use Rattle.cfdp_receiver.specs.code.StateMachine.{all_naks, silent};
 ghost use Rattle.cfdp_receiver.specs.State.{turned_header};
-ghost use Rattle.cfdp_receiver.specs.declared.answer.Became.TheVariants.{Nothing, Said, Replied};
+ghost use Rattle.cfdp_receiver.specs.declared.indication.Became.TheVariants.{Nothing, Said, Replied};
 
 use crate::{Became, Indication, Word};
 use arrayvec::ArrayVec;

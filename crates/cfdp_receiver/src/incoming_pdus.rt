@@ -12,7 +12,7 @@ ghost use Rattle.cfdp_transactions.specs.Next.{next};
 ghost use Rattle.cfdp_transactions.specs.World.{World, entry_of};
 ghost use Rattle.cfdp_transactions.specs.Writable.{IsReadable};
 ghost use Rattle.cfdp_receiver.specs.State.{MetadataPdu, DataPdu, EofPdu, AckPdu, PromptPdu, OtherPdu, at_of, past_status, is_closed, session_of, status_of};
-ghost use Rattle.cfdp_receiver.specs.declared.answer.Indication.TheVariants.{FileSegmentRecv};
+ghost use Rattle.cfdp_receiver.specs.declared.indication.Indication.TheVariants.{FileSegmentRecv};
 ghost use Rattle.cfdp_receiver.specs.Handing.{is_ours};
 ghost use Rattle.cfdp_receiver.specs.Due.{is_receiving_at};
 ghost use Rattle.cfdp_receiver.specs.StateMachine.{StateMachineFields, answer_in, listed};
@@ -20,7 +20,7 @@ ghost use Rattle.cfdp_receiver.specs.code.StateMachine.{AtIndex, IsInOrder, begi
 ghost use Rattle.cfdp_receiver.specs.Laws.{AreKnown};
 ghost use Rattle.cfdp_receiver.specs.Turning.{acked, acks_only, asks_at_once, described, foreign, is_immediate, is_kept_by, progress_at, prompted, quiet, roused, stage_in, takes_prompts};
 
-use crate::answering::{Answer, NakSequence, Unsent, turned};
+use crate::answer::{Answer, NakSequence, Unsent, turned};
 use crate::state_machine::StateMachine;
 use crate::{Became, Described, Indication, JointPhase, Word};
 use cfdp_directives::{Ack, Prompt, TransactionStatus};

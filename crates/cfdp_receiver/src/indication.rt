@@ -1,4 +1,4 @@
-//! What a receiving entity notifies its user of.
+//! What becomes of an input, and what a receiving entity notifies its user of.
 
 use cfdp_status::TransactionId;
 use cfdp_transactions::Reply;

@@ -9,8 +9,8 @@
 #![tactic(auto)]
 
 mod answer;
-mod answering;
 mod incoming_pdus;
+mod indication;
 mod joint_phase;
 mod last_finished;
 pub mod laws;
@@ -22,8 +22,8 @@ mod state_machine;
 mod timing;
 mod writing;
 
-pub use answer::{Became, Conclusion, Described, Indication, Word};
-pub use answering::{Answer, NakSequence};
+pub use answer::{Answer, NakSequence};
+pub use indication::{Became, Conclusion, Described, Indication, Word};
 pub use joint_phase::JointPhase;
 pub use mib::{Handler, Mib, MibFault, NakMode, Retries, Watch};
 pub use reading::Dropped;

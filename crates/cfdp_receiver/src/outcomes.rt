@@ -11,7 +11,7 @@ ghost use Rattle.cfdp_receiver.specs.StateMachine.{finished_for};
 ghost use Rattle.cfdp_receiver.specs.code.StateMachine.{AtIndex, Concludes, Turns, at_moment};
 ghost use Rattle.cfdp_receiver.specs.Turning.{conclusion_of, stage_outcome};
 
-use crate::answering::{Answer, turned};
+use crate::answer::{Answer, turned};
 use crate::last_finished::LastFinished;
 use crate::state_machine::StateMachine;
 use crate::{Conclusion, Indication, JointPhase, Word};

@@ -5,7 +5,8 @@ ghost use Rattle.cfdp_pdus.specs.Canonical.{IsHeader};
 ghost use Rattle.cfdp_pdus.specs.First.{pdu_at};
 ghost use Rattle.cfdp_pdus.specs.Sound.{IsNoFileData};
 ghost use Rattle.cfdp_pdus.specs.declared.fault.PduFault.TheVariants.{Memory};
-ghost use Rattle.cfdp_receiver.specs.Heard.{IsMetadata, input_at, other_input};
+ghost use Rattle.cfdp_entity.specs.Hearing.{MayLackMemory};
+ghost use Rattle.cfdp_receiver.specs.Heard.{input_at, other_input};
 ghost use Rattle.cfdp_receiver.specs.code.Heard.{IsHearable, input_of};
 ghost use Rattle.cfdp_receiver.specs.State.{DataPdu};
 ghost use Rattle.cfdp_receiver.specs.declared.reading.Dropped.TheVariants.{Crc as CrcDropped, Pdu as PduDropped};
@@ -93,7 +94,7 @@ pub(crate) fn read_directed(alloc: Global, octets: &[u8]) -> Result<Directed, Pd
     ensures ok { IfOk result (λ directed. (now : ℕ) → input_at now octets.now ≡ Ok (input_of now directed)) }
     ensures sound { IfOk result IsHearable }
     ensures err { IfErr result (λ fault. ((now : ℕ) → input_at now octets.now ≡ Err (PduDropped fault))
-        ⊎ ((fault ≡ Memory) × IsMetadata (pdu_at octets.now))) }
+        ⊎ ((fault ≡ Memory) × MayLackMemory octets.now)) }
 {
     match read_for_receiver(alloc, octets)? {
         None => Ok(Directed::Other(read_start(octets)?.header)),

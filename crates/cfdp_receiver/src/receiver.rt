@@ -24,7 +24,7 @@ ghost use Rattle.cfdp_receiver.specs.code.StateMachine.{AtIndex, IsInOrder, IsWh
 ghost use Rattle.cfdp_receiver.specs.Sent.{IsNotWritten, as_sent, crc_len, longest_sealed, pdus_of};
 ghost use Rattle.cfdp_receiver.specs.Turning.{after_input, most_nak_requests, turn};
 
-use crate::answering::{Answer, Unsent};
+use crate::answer::{Answer, Unsent};
 use crate::reading::{Directed, Dropped, read_data, read_directed};
 use crate::state_machine::StateMachine;
 use crate::{Mib, MibFault};

@@ -16,7 +16,7 @@ ghost use Rattle.cfdp_receiver.specs.StateMachine.{IsMib};
 ghost use Rattle.cfdp_receiver.specs.code.StateMachine.{AtIndex, IsSessionAt, IsTaking, awaited_of, machine_heard, all_naks};
 ghost use Rattle.cfdp_receiver.specs.Turning.{word_without_session, all_of, asks, asks_entry, asks_where_awaiting, begun_session, gaps_after, is_immediate, is_news, most_nak_requests, progress_at, sequence};
 
-use crate::answering::{Answer, NakSequence};
+use crate::answer::{Answer, NakSequence};
 use crate::last_finished::LastFinished;
 use crate::{JointPhase, Mib, NakMode, Word};
 use arrayvec::ArrayVec;
@@ -227,7 +227,7 @@ impl StateMachine {
         ensures { result ≡ sequence self.now.state.mib session.now.header low high requests.items }
     {
         NakSequence {
-            header: crate::answering::turned(&session.header),
+            header: crate::answer::turned(&session.header),
             low,
             high,
             most: self.mib.most_requests(),

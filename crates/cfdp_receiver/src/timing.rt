@@ -13,7 +13,7 @@ ghost use Rattle.cfdp_receiver.specs.StateMachine.{has_come, is_any_due};
 ghost use Rattle.cfdp_receiver.specs.code.StateMachine.{AtIndex, Turns, in_world, is_expired, is_within, timer_in};
 ghost use Rattle.cfdp_receiver.specs.Turning.{over_here};
 
-use crate::answering::{Answer, turned};
+use crate::answer::{Answer, turned};
 use crate::state_machine::StateMachine;
 use crate::{Handler, Indication, JointPhase, Word};
 use cfdp_pdus::condition::{

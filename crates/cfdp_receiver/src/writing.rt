@@ -10,7 +10,7 @@ ghost use Rattle.cfdp_retransmission.specs.Naks.{naks};
 ghost use Rattle.cfdp_transactions.specs.Writable.{longest_finished};
 
 use crate::NotWritten;
-use crate::answering::{Answer, NakSequence};
+use crate::answer::{Answer, NakSequence};
 use crate::state_machine::StateMachine;
 use cfdp_directives::{NakRange, put_ack, put_keep_alive, put_nak};
 use cfdp_retransmission::{NakPart, next_nak};

@@ -24,13 +24,13 @@ use Rattle.cfdp_directives.specs.Spelling.{ack_pdu, nak_pdu, keep_alive_pdu}
 use Rattle.cfdp_texts.specs.Replies.{line, word, labelled, reply_line, fault_line, not_ours}
 use Rattle.cfdp_transactions.specs.declared.reply.Reply.{Reply}
 use Rattle.cfdp_transactions.specs.declared.reply.Reply.TheVariants as replied
-use Rattle.cfdp_receiver.specs.declared.answer.Conclusion.{Conclusion}
-use Rattle.cfdp_receiver.specs.declared.answer.Indication.{Indication}
-use Rattle.cfdp_receiver.specs.declared.answer.Indication.TheVariants.{MetadataRecv, FileSegmentRecv, EofRecv, TransactionFinished, Fault, Abandoned}
-use Rattle.cfdp_receiver.specs.declared.answer.Word.{Word}
-use Rattle.cfdp_receiver.specs.declared.answer.Word.TheVariants as words
-use Rattle.cfdp_receiver.specs.declared.answer.Became.{Became}
-use Rattle.cfdp_receiver.specs.declared.answer.Became.TheVariants.{Nothing, NotOurs, Said, Replied}
+use Rattle.cfdp_receiver.specs.declared.indication.Conclusion.{Conclusion}
+use Rattle.cfdp_receiver.specs.declared.indication.Indication.{Indication}
+use Rattle.cfdp_receiver.specs.declared.indication.Indication.TheVariants.{MetadataRecv, FileSegmentRecv, EofRecv, TransactionFinished, Fault, Abandoned}
+use Rattle.cfdp_receiver.specs.declared.indication.Word.{Word}
+use Rattle.cfdp_receiver.specs.declared.indication.Word.TheVariants as words
+use Rattle.cfdp_receiver.specs.declared.indication.Became.{Became}
+use Rattle.cfdp_receiver.specs.declared.indication.Became.TheVariants.{Nothing, NotOurs, Said, Replied}
 use Rattle.cfdp_receiver.specs.declared.mib.Mib.{Mib}
 use Rattle.cfdp_receiver.specs.declared.reading.Dropped.{Dropped}
 use Rattle.cfdp_receiver.specs.declared.reading.Dropped.TheVariants as dropped

@@ -15,8 +15,8 @@ use Rattle.cfdp_transactions.specs.MostSettled.{most_settled}
 use Rattle.cfdp_transactions.specs.World.{next_runnable}
 use Rattle.cfdp_receiver.specs.declared.reading.Dropped.{Dropped}
 use Rattle.cfdp_receiver.specs.State.{State, Input, Expire, Work, Finish}
-use Rattle.cfdp_receiver.specs.declared.answer.Became.{Became}
-use Rattle.cfdp_receiver.specs.declared.answer.Became.TheVariants.{Nothing}
+use Rattle.cfdp_receiver.specs.declared.indication.Became.{Became}
+use Rattle.cfdp_receiver.specs.declared.indication.Became.TheVariants.{Nothing}
 use Rattle.cfdp_receiver.specs.Due.{first_over}
 use Rattle.cfdp_receiver.specs.Turning.{parts, after_input, after_all}
 use Rattle.cfdp_reports.specs.Reports.{answer_text, dropped_line}

@@ -33,7 +33,7 @@ use Rattle.cfdp_transactions.specs.Entry.{Entry, id_of, takes_data}
 use Rattle.cfdp_transactions.specs.declared.outcome.Outcome.{Outcome}
 use Rattle.cfdp_transactions.specs.World.{World, entry_of}
 use Rattle.cfdp_transactions.specs.Next.{run, replies}
-use Rattle.cfdp_receiver.specs.declared.answer.Became.{Became}
+use Rattle.cfdp_receiver.specs.declared.indication.Became.{Became}
 use Rattle.cfdp_receiver.specs.State.{State, Input, is_closed, session_of, at_of}
 use Rattle.cfdp_receiver.specs.declared.timing.DueTimer.{DueTimer}
 use Rattle.cfdp_receiver.specs.declared.timing.DueTimer.TheVariants as timers

@@ -1,7 +1,7 @@
 use Rattle.std.proofs.Common.{◌≡◌, ℕ, ◌+◌, ◌-◌, ◌/◌, List, length, sym, ap, ◌∙◌, arith}
 use Rattle.cfdp_directives.specs.Reading.{NakFields}
 use Rattle.cfdp_receiver.proofs.PdusByNumber.{counted}
-use Rattle.cfdp_receiver.proofs.answering.NakSequence.count.Goals as goal
+use Rattle.cfdp_receiver.proofs.answer.NakSequence.count.Goals as goal
 
 pub returns-clause-value : goal.returns-clause-value
 returns-clause-value c =

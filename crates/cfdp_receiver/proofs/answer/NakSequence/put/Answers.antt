@@ -5,7 +5,7 @@ use Rattle.cfdp_directives.specs.Spelling.{nak_pdu}
 use Rattle.cfdp_retransmission.specs.Naks.{SegmentRequest, naks}
 use Rattle.cfdp_receiver.specs.code.StateMachine.{IsAsking}
 use Rattle.cfdp_receiver.proofs.PdusByNumber.{FitsPdu, fits_pdu, nak_short, sequence_at, put_enough, put_is}
-use Rattle.cfdp_receiver.proofs.answering.NakSequence.put.Goals as goal
+use Rattle.cfdp_receiver.proofs.answer.NakSequence.put.Goals as goal
 
 here : (most low high number : ℕ) (slice rs requests : List SegmentRequest) (scope : SegmentRequest) → slice ≡ rs →
     slice_get (naks most low high slice) number ≡ Some (record { scope = scope; requests = requests }) →

@@ -7,7 +7,7 @@ use Rattle.cfdp_transactions.specs.declared.reply.Reply.{Reply}
 use Rattle.cfdp_transactions.specs.Next.{next, run}
 use Rattle.cfdp_transactions.specs.World.{World}
 use Rattle.cfdp_receiver.specs.declared.mib.Handler.TheVariants.{Cancel}
-use Rattle.cfdp_receiver.specs.declared.answer.Word.TheVariants as words
+use Rattle.cfdp_receiver.specs.declared.indication.Word.TheVariants as words
 use Rattle.cfdp_receiver.specs.State.{At_held, At_awaiting, At_waiting}
 use Rattle.cfdp_receiver.specs.Due.{fault_at, handler_at}
 use Rattle.cfdp_receiver.specs.Handing.{makes_checks, where_known}

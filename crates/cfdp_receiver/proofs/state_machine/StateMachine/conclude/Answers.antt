@@ -7,9 +7,9 @@ use Rattle.cfdp_retransmission.specs.declared.timer.Timer.{Timer}
 use Rattle.cfdp_sessions.specs.Sessions.{SessionFields, AreDistinct, session_id, replaced}
 use Rattle.cfdp_sessions.specs.declared.session.Stage.TheVariants.{Waiting}
 use Rattle.cfdp_transactions.specs.Writable.{finished_octets}
-use Rattle.cfdp_receiver.specs.declared.answer.Conclusion.{Conclusion}
-use Rattle.cfdp_receiver.specs.declared.answer.Indication.TheVariants.{TransactionFinished}
-use Rattle.cfdp_receiver.specs.declared.answer.Word.TheVariants as words
+use Rattle.cfdp_receiver.specs.declared.indication.Conclusion.{Conclusion}
+use Rattle.cfdp_receiver.specs.declared.indication.Indication.TheVariants.{TransactionFinished}
+use Rattle.cfdp_receiver.specs.declared.indication.Word.TheVariants as words
 use Rattle.cfdp_receiver.specs.StateMachine.{StateMachineFields, AnswerParts}
 use Rattle.cfdp_receiver.specs.code.StateMachine.{Concludes}
 use Rattle.cfdp_receiver.specs.Turning.{waits_for_ack}

@@ -5,7 +5,7 @@ use Rattle.cfdp_sessions.proofs.Names.{found_name}
 use Rattle.cfdp_transactions.specs.Entry.{id_of}
 use Rattle.cfdp_transactions.specs.declared.event.Event.TheVariants.{Data as DataCame}
 use Rattle.cfdp_transactions.specs.Next.{next}
-use Rattle.cfdp_receiver.specs.declared.answer.Became.TheVariants.{Replied}
+use Rattle.cfdp_receiver.specs.declared.indication.Became.TheVariants.{Replied}
 use Rattle.cfdp_receiver.specs.code.StateMachine.{machine_heard, in_world, silent}
 use Rattle.cfdp_receiver.proofs.OnlyKeepsData.{only_kept, indications_of}
 use Rattle.cfdp_receiver.proofs.NoGap.{none_at_once}
