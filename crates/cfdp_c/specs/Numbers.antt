@@ -1,5 +1,6 @@
 -- The kinds of replies, the reasons of refusals and the kinds of entries, as C numbers them: the names are those of
--- `include/cfdp.h`, without CFDP_.
+-- `include/cfdp.h`, without CFDP_. Each of these numbers is both read and written. The numbers of the other
+-- enumerations go one way only, and each is in the one definition that maps it.
 use Rattle.std.specs.Prelude.{ℕ}
 
 abbrev pub reply_none : ℕ

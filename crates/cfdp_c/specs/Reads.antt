@@ -16,13 +16,13 @@ use Rattle.cfdp_c.specs.declared.fields.GrantFields.{GrantFields}
 use Rattle.cfdp_c.specs.declared.fields.NameFields.{NameFields}
 use Rattle.cfdp_c.specs.declared.fields.PhaseFields.{PhaseFields}
 
-abbrev pub Found : {X : Type 0} → Option X → X → X → ℕ → Type 0
-Found None old new answer = (new ≡ old) × (answer ≡ answer_code Nothing)
-Found (Some x) old new answer = (new ≡ x) × (answer ≡ answer_code Done)
+abbrev pub FoundOrNothing : {X : Type 0} → Option X → X → X → ℕ → Type 0
+FoundOrNothing None old new answer = (new ≡ old) × (answer ≡ answer_code Nothing)
+FoundOrNothing (Some x) old new answer = (new ≡ x) × (answer ≡ answer_code Done)
 
 abbrev pub Reads : {X : Type 0} → (World → Option X) → Option World → X → X → ℕ → Type 0
 Reads f None old new answer = (new ≡ old) × (answer ≡ answer_code NoEngine)
-Reads f (Some W) old new answer = Found (f W) old new answer
+Reads f (Some W) old new answer = FoundOrNothing (f W) old new answer
 
 abbrev pub name_fields : TransactionId → NameFields
 name_fields id = record { source = id.source; number = id.number }

@@ -25,7 +25,7 @@ use Rattle.cfdp_transactions.specs.World.{World}
 use Rattle.cfdp_c.specs.Answers.{answer_code, fault_answer}
 use Rattle.cfdp_c.specs.Calls.{NothingChanges}
 use Rattle.cfdp_c.specs.Mibs.{opened}
-use Rattle.cfdp_c.specs.Reads.{Found}
+use Rattle.cfdp_c.specs.Reads.{FoundOrNothing}
 use Rattle.cfdp_c.specs.Reports.{report_of}
 use Rattle.cfdp_c.specs.declared.answer.CallAnswer.{CallAnswer}
 use Rattle.cfdp_c.specs.declared.answer.CallAnswer.TheVariants.{Done, NoEngine, HasEngine, Memory, TooShort, Nothing, Truncated, BadVersion, LengthMismatch, BadCrc}
@@ -83,7 +83,7 @@ IsDeadline R moment = (now : ℕ) → now < 2 ^ 64 → has_come moment now
 abbrev pub TellsDeadline : Option ReceptionFields → ℕ → ℕ → ℕ → Type 0
 TellsDeadline None old new answer = (new ≡ old) × (answer ≡ answer_code NoEngine)
 TellsDeadline (Some S) old new answer = (moment : Option ℕ) × IsDeadline S.machine.state moment
-    × Found moment old new answer
+    × FoundOrNothing moment old new answer
 
 -- a buffer after a PDU was written to its beginning
 abbrev pub IsAfter : List ℕ → List ℕ → List ℕ → ℕ → Type 0

@@ -13,7 +13,7 @@ use Rattle.cfdp_transactions.specs.World.{World}
 use Rattle.cfdp_c.specs.Answers.{answer_code}
 use Rattle.cfdp_c.specs.Creation.{path_in_fields}
 use Rattle.cfdp_c.specs.Numbers.{entry_file, entry_directory}
-use Rattle.cfdp_c.specs.Reads.{Found}
+use Rattle.cfdp_c.specs.Reads.{FoundOrNothing}
 use Rattle.cfdp_c.specs.declared.answer.CallAnswer.TheVariants.{Done, NoEngine, Nothing, BadPath}
 use Rattle.cfdp_c.specs.declared.fields.EntryFields.{EntryFields}
 use Rattle.cfdp_c.specs.declared.fields.PathFields.{PathFields}
@@ -27,7 +27,7 @@ looked F p = option_map node_fields (node_at F p)
 
 abbrev pub Looks : Option Path → World → EntryFields → EntryFields → ℕ → Type 0
 Looks None W old new answer = (new ≡ old) × (answer ≡ answer_code BadPath)
-Looks (Some path) W old new answer = Found (looked W.filestore path) old new answer
+Looks (Some path) W old new answer = FoundOrNothing (looked W.filestore path) old new answer
 
 abbrev pub LooksUp : PathFields → Option World → EntryFields → EntryFields → ℕ → Type 0
 LooksUp path None old new answer = (new ≡ old) × (answer ≡ answer_code NoEngine)

@@ -10,7 +10,7 @@
 --   dropped_text    the line that is written for a line that is dropped
 --   response_to     the response to a request
 --   response_line   the line that is written for a request: its response TLV in hexadecimal (§5.4.2)
-use Rattle.std.specs.Prelude.{ℕ, ◌==◌, nat_lt, if◌then◌else◌, List, [], ◌∷◌, ◌++◌, length, Result, Ok, Err, codes}
+use Rattle.std.specs.Prelude.{ℕ, ◌==◌, nat_lt, if◌then◌else◌, List, [], ◌∷◌, length, Result, Ok, Err, codes}
 use Rattle.hex.specs.Hex.{encode_lower}
 use Rattle.cfdp_status.specs.declared.status.Status.{Status}
 use Rattle.cfdp_tlv.specs.Types.{filestore_request_type, filestore_response_type}
@@ -19,6 +19,7 @@ use Rattle.cfdp_tlv.specs.Grammar.{request_at, response_octets}
 use Rattle.cfdp_tlv.specs.Values.{RequestFields, ResponseFields}
 use Rattle.cfdp_tlv.specs.declared.fault.TlvFault.{TlvFault}
 use Rattle.cfdp_tlv.specs.declared.fault.TlvFault.TheVariants as fault
+use Rattle.cfdp_texts.specs.Replies.{line}
 use Rattle.cfdp_commands.specs.declared.dropped.DroppedLine.{DroppedLine}
 use Rattle.cfdp_commands.specs.declared.dropped.DroppedLine.TheVariants.{Truncated, Trailing, NotARequest, BadAction, RequestTooLong}
 
@@ -64,4 +65,4 @@ response_to request status = record { status = status; first = request.first; se
 
 abbrev pub response_line : RequestFields → Status → List ℕ
 response_line request status =
-    encode_lower (tlv filestore_response_type (response_octets (response_to request status))) ++ 10 ∷ []
+    line (encode_lower (tlv filestore_response_type (response_octets (response_to request status))))

@@ -4,16 +4,17 @@ use Rattle.std.specs.Prelude.{IfSome}
 use Rattle.std.specs.List.{slice_get}
 use Rattle.std.specs.Option.{option_map}
 use Rattle.std.specs.Io.KnownBytes.{Appends}
-use Rattle.cfdp_plans.specs.Names.{before, name_in}
+use Rattle.cfdp_lines.specs.Words.{number_before}
+use Rattle.cfdp_plans.specs.Names.{name_in}
 
 -- an octet more
 pub octet_taken : (name : List ℕ) (octet : ℕ) (more : Option (List ℕ))
-    → option_map (λ (xs : List ℕ). name ++ xs) (before (Some octet) more) ≡ option_map (λ (xs : List ℕ). (name ++ octet ∷ []) ++ xs) more
+    → option_map (λ (xs : List ℕ). name ++ xs) (number_before (Some octet) more) ≡ option_map (λ (xs : List ℕ). (name ++ octet ∷ []) ++ xs) more
 octet_taken name octet None = refl
 octet_taken name octet (Some more) = ap Some (sym (append_assoc name (octet ∷ []) more))
 
 pub octets_taken : (text rest others : Option (List ℕ)) (name longer : List ℕ) (octet : ℕ)
-    → text ≡ option_map (λ (xs : List ℕ). name ++ xs) rest → rest ≡ before (Some octet) others → longer ≡ name ++ octet ∷ []
+    → text ≡ option_map (λ (xs : List ℕ). name ++ xs) rest → rest ≡ number_before (Some octet) others → longer ≡ name ++ octet ∷ []
     → text ≡ option_map (λ (xs : List ℕ). longer ++ xs) others
 octets_taken text rest others name longer octet text_is rest_is longer_is =
     text_is ∙ ap (option_map (λ (xs : List ℕ). name ++ xs)) rest_is ∙ octet_taken name octet others

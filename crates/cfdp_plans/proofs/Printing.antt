@@ -6,35 +6,36 @@ use Rattle.std.proofs.lemmas.Bool.{not-true, and_parts}
 use Rattle.hex.specs.Hex.{hex_digit_value, encode_with, lower_digits}
 use Rattle.hex.proofs.HexLemmas.{IsDigits-lower_digits}
 use Rattle.cfdp_texts.specs.Replies.{is_plain, shown_octet, two_digits}
-use Rattle.cfdp_plans.specs.Names.{before, itself, octet_of_pair, name_in}
+use Rattle.cfdp_lines.specs.Words.{number_before}
+use Rattle.cfdp_plans.specs.Names.{itself, octet_of_pair, name_in}
 use Rattle.cfdp_plans.specs.Laws.{PrintedIsRead}
 
 no_percent : (octet : ℕ) → is_plain octet ≡ true → eqb octet 37 ≡ false
 no_percent octet plain = not-true (eqb octet 37) (and_parts _ (not (eqb octet 37)) plain).1
 
-plain_read : (octet : ℕ) (text : List ℕ) → is_plain octet ≡ true → name_in (octet ∷ text) ≡ before (Some octet) (name_in text)
+plain_read : (octet : ℕ) (text : List ℕ) → is_plain octet ≡ true → name_in (octet ∷ text) ≡ number_before (Some octet) (name_in text)
 unfolding name_in
-plain_read octet [] plain = ap (λ b. before (cond b (Some octet) None) (Some [])) plain
-plain_read octet (next ∷ []) plain = ap (λ b. before (cond b (Some octet) None) (before (itself next) (Some []))) plain
+plain_read octet [] plain = ap (λ b. number_before (cond b (Some octet) None) (Some [])) plain
+plain_read octet (next ∷ []) plain = ap (λ b. number_before (cond b (Some octet) None) (number_before (itself next) (Some []))) plain
 plain_read octet (high ∷ low ∷ text) plain =
-    ap (λ b. cond b (before (octet_of_pair (hex_digit_value high) (hex_digit_value low)) (name_in text))
-    (before (itself octet) (name_in (high ∷ low ∷ text))))
+    ap (λ b. cond b (number_before (octet_of_pair (hex_digit_value high) (hex_digit_value low)) (name_in text))
+    (number_before (itself octet) (name_in (high ∷ low ∷ text))))
     (no_percent octet plain)
-    ∙ ap (λ b. before (cond b (Some octet) None) (name_in (high ∷ low ∷ text))) plain
+    ∙ ap (λ b. number_before (cond b (Some octet) None) (name_in (high ∷ low ∷ text))) plain
 
-pair_read : (octet : ℕ) (text : List ℕ) → octet < 256 → name_in (37 ∷ (two_digits octet ++ text)) ≡ before (Some octet) (name_in text)
+pair_read : (octet : ℕ) (text : List ℕ) → octet < 256 → name_in (37 ∷ (two_digits octet ++ text)) ≡ number_before (Some octet) (name_in text)
 unfolding name_in two_digits encode_with
 pair_read octet text small =
     let high : octet / 16 < 16 = omega arith in
     let low : octet % 16 < 16 = omega arith in
     let whole : 16 * (octet / 16) + octet % 16 ≡ octet = omega (arith, div-add-mod' octet 16) in
-    ap (λ value. before (octet_of_pair value (hex_digit_value (slice_index lower_digits (octet % 16)))) (name_in text))
+    ap (λ value. number_before (octet_of_pair value (hex_digit_value (slice_index lower_digits (octet % 16)))) (name_in text))
     (IsDigits-lower_digits (octet / 16) high)
-    ∙ ap (λ value. before (octet_of_pair (Some (octet / 16)) value) (name_in text)) (IsDigits-lower_digits (octet % 16) low)
-    ∙ ap (λ value. before (Some value) (name_in text)) whole
+    ∙ ap (λ value. number_before (octet_of_pair (Some (octet / 16)) value) (name_in text)) (IsDigits-lower_digits (octet % 16) low)
+    ∙ ap (λ value. number_before (Some value) (name_in text)) whole
 
 shown_by : (octet : ℕ) (text : List ℕ) (plain : Bool) → is_plain octet ≡ plain → octet < 256
-    → name_in (cond plain (octet ∷ []) (37 ∷ two_digits octet) ++ text) ≡ before (Some octet) (name_in text)
+    → name_in (cond plain (octet ∷ []) (37 ∷ two_digits octet) ++ text) ≡ number_before (Some octet) (name_in text)
 shown_by octet text true is small = plain_read octet text is
 shown_by octet text false is small = pair_read octet text small
 
@@ -45,4 +46,4 @@ nothing_read = refl
 pub printed_read : PrintedIsRead
 printed_read [] small = nothing_read
 printed_read (octet ∷ octets) small =
-    shown_by octet (flat_map shown_octet octets) (is_plain octet) refl small.0 ∙ ap (before (Some octet)) (printed_read octets small.1)
+    shown_by octet (flat_map shown_octet octets) (is_plain octet) refl small.0 ∙ ap (number_before (Some octet)) (printed_read octets small.1)

@@ -7,6 +7,7 @@
 use Rattle.std.specs.Prelude.{ℕ, ◌+◌, ◌*◌, ◌==◌, if◌then◌else◌, List, [], ◌∷◌, Option, Some, None, is_some, option_and_then}
 use Rattle.hex.specs.Hex.{hex_digit_value}
 use Rattle.cfdp_paths.specs.Paths.{Path, path_of}
+use Rattle.cfdp_lines.specs.Words.{number_before}
 use Rattle.cfdp_texts.specs.Replies.{is_plain}
 
 abbrev pub octet_of_pair : Option ℕ → Option ℕ → Option ℕ
@@ -14,21 +15,16 @@ octet_of_pair (Some high) (Some low) = Some (16 * high + low)
 octet_of_pair (Some high) None = None
 octet_of_pair None low = None
 
-abbrev pub before : Option ℕ → Option (List ℕ) → Option (List ℕ)
-before (Some octet) (Some octets) = Some (octet ∷ octets)
-before (Some octet) None = None
-before None octets = None
-
 abbrev pub itself : ℕ → Option ℕ
 itself octet = if is_plain octet then Some octet else None
 
 unfoldable pub name_in : List ℕ → Option (List ℕ)
 name_in [] = Some []
-name_in (octet ∷ []) = before (itself octet) (Some [])
-name_in (octet ∷ next ∷ []) = before (itself octet) (before (itself next) (Some []))
+name_in (octet ∷ []) = number_before (itself octet) (Some [])
+name_in (octet ∷ next ∷ []) = number_before (itself octet) (number_before (itself next) (Some []))
 name_in (octet ∷ high ∷ low ∷ text) =
-    if octet == 37 then before (octet_of_pair (hex_digit_value high) (hex_digit_value low)) (name_in text)
-    else before (itself octet) (name_in (high ∷ low ∷ text))
+    if octet == 37 then number_before (octet_of_pair (hex_digit_value high) (hex_digit_value low)) (name_in text)
+    else number_before (itself octet) (name_in (high ∷ low ∷ text))
 
 abbrev pub if_path : Option (List ℕ) → Option (List ℕ)
 if_path None = None

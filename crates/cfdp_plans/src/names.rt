@@ -3,7 +3,8 @@
 ghost use Rattle.std.specs.Prelude.{◌≡◌, ◌<◌, length, Some, None, IfOk, IfSome, IfNone};
 ghost use Rattle.std.specs.Option.{option_map};
 ghost use Rattle.hex.specs.Hex.{hex_digit_value};
-ghost use Rattle.cfdp_plans.specs.Names.{before, octet_of_pair, name_in, path_spelled, path_octets_in};
+ghost use Rattle.cfdp_lines.specs.Words.{number_before};
+ghost use Rattle.cfdp_plans.specs.Names.{octet_of_pair, name_in, path_spelled, path_octets_in};
 
 use cfdp_paths::{Path, PathFault};
 use cfdp_texts::is_plain;
@@ -34,7 +35,7 @@ fn pair(high: u8, low: u8) -> Option<u8>
 #[tactic(auto, unfolding(crate::specs::Names::name_in))]
 fn first_octet(text: &[u8]) -> Option<(u8, &[u8])>
     requires { 0 < length text.now }
-    ensures some { IfSome result (λ first. name_in text.now ≡ before (Some first.0) (name_in first.1.now)) }
+    ensures some { IfSome result (λ first. name_in text.now ≡ number_before (Some first.0) (name_in first.1.now)) }
     ensures shorter { IfSome result (λ first. length first.1.now < length text.now) }
     ensures none { IfNone result (name_in text.now ≡ None) }
 {

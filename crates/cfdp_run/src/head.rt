@@ -24,7 +24,7 @@ use std::alloc::{AllocError, Global};
 use std::mem;
 
 /// The configuration of a script that gives none, with nothing protected.
-fn default_config() -> Config
+fn first_config() -> Config
     ensures { result ≡ first_config }
 {
     Config::new(2, 64, 2_400, 2, 1_000, Protected::new()).unwrap()
@@ -73,7 +73,7 @@ impl Head {
     {
         Ok(Head {
             mib: default_mib(),
-            entity: Entity::new(alloc, default_config())?,
+            entity: Entity::new(alloc, first_config())?,
             protected: Protected::new(),
             has_begun: false,
         })

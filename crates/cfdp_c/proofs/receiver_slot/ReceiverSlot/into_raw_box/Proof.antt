@@ -29,7 +29,7 @@ use Rattle.std_heap.specs.contracts.GlobalAllocator.TheImpl.{ghosts}
 use Rattle.std_heap.proofs.Global.TheLaws as GL
 use Rattle.cfdp_c.proofs.Boxes.{both, RawBox, raw_box_good, raw_box_in}
 use Rattle.cfdp_reception.specs.contracts.reception.Reception as T
-use Rattle.cfdp_c.specs.code.Ownership.{box_freeing}
+use Rattle.cfdp_arena.specs.code.Ownership.{freeing}
 use Rattle.cfdp_c.specs.code.ReceiverOwnership.{receiver_owns}
 use Rattle.cfdp_c.proofs.Values.{slot_val, slot_fields, slot_typed, content_of, content_is}
 use Rattle.cfdp_c.specs.contracts.receiver_slot.ReceiverSlot as slot
@@ -58,7 +58,7 @@ into_raw_box_spec 𝓤 𝓛 𝓜 𝓡 wired =
     split ! $ move ! (1 ∷ []) $ fsplit ! $ fsplit ! $ drop ! $
     -- [what the pointer owns; the handle and nothing; the tokens]
     rewrite ! 0 (λ (e : Option ReceptionFields). ‵ (receiver_owns s.at e)) (content_is s.receiver has) refl $
-    in_a_block ! s.at (λ p. box_owns box_freeing T.the_row p t) (fst∗ 𝓤 (never 𝓤) (sem 𝓛 (box_freeing (bare (lone (T.the_row).mir)) null_ptr))) (λ b o e.
+    in_a_block ! s.at (λ p. box_owns freeing T.the_row p t) (fst∗ 𝓤 (never 𝓤) (sem 𝓛 (freeing (bare (lone (T.the_row).mir)) null_ptr))) (λ b o e.
     move ! (1 ∷ []) $ fsplit ! $ handle_tells handles ! alloc z.0.4.1.0 (λ h eh fits.
     -- [the handle; nothing; the block; the tokens]
     let x : (RawBox T.the_row G.the_row GL.the_row_laws ghosts).Denot = record { at = block_ptr b o; alloc = alloc; value = t } in

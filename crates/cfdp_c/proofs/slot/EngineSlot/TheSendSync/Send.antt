@@ -5,7 +5,8 @@ use Rattle.cfdp_entity.specs.contracts.entity.Entity as T
 use Rattle.cfdp_entity.proofs.entity.Entity.TheSendSync.{the_send}
 use Rattle.std_alloc.proofs.SendSync.{quiet, lies}
 use Rattle.std.proofs.Crossing.{frees}
-use Rattle.cfdp_c.specs.code.Ownership.{slot_owns, heap_handle}
+use Rattle.cfdp_arena.specs.code.Ownership.{the_heap}
+use Rattle.cfdp_c.specs.code.Ownership.{slot_owns}
 use Rattle.cfdp_c.specs.contracts.slot.EngineSlot as C
 use base.Shift.{Keyless}
 use denote.Memory.{lone}
@@ -17,7 +18,7 @@ use mir.Raw.{raw}
 
 slot-keyless : (p : Ptr) (e : Option World) → Keyless (slot_owns p e)
 slot-keyless p None = tt
-slot-keyless p (Some t) = (lies T.the_row the_send p t, frees.frees heap_handle (raw (lone (T.the_row).mir)) p)
+slot-keyless p (Some t) = (lies T.the_row the_send p t, frees.frees the_heap (raw (lone (T.the_row).mir)) p)
 
 pub send : IsSend C.the_row
 send =
