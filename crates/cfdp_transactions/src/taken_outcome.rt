@@ -9,10 +9,10 @@ ghost use Rattle.cfdp_transactions.specs.code.Books.{AnswersAt, IsBooked, IsLive
 ghost use Rattle.cfdp_transactions.specs.Ending.{taken_out};
 ghost use Rattle.cfdp_transactions.specs.Entry.{Entry as Transaction, has_file, is_live};
 ghost use Rattle.cfdp_transactions.specs.code.FinishedInBuffer.{FallsShort, Issues};
-ghost use Rattle.cfdp_transactions.specs.Outcome.{condition_of, outcome_of, responses_of};
+ghost use Rattle.cfdp_transactions.specs.Outcome.{condition_of, fault_location_of, file_status_of, outcome_of, responses_of};
 ghost use Rattle.cfdp_transactions.specs.code.TableEntries.{entry_in};
 ghost use Rattle.cfdp_transactions.specs.Sound.{Sound};
-ghost use Rattle.cfdp_transactions.specs.code.TakenOutcome.{answered_by, statuses_of, status_by, fault_by};
+ghost use Rattle.cfdp_transactions.specs.code.TakenOutcome.{answered_by, statuses_of};
 ghost use Rattle.cfdp_transactions.specs.Writable.{IsWritable};
 
 use crate::books::Books;
@@ -186,14 +186,12 @@ fn bare_outcome(alloc: Global, entry: &TableEntry) -> Outcome
     ensures { (F : Files) → result ≡ answered_by [] (outcome_of (entry_in F entry.now)) }
 {
     let header = entry.header();
-    let metadata = entry.metadata();
-    let condition = condition_of(entry.phase());
     let finished = Finished {
-        condition,
+        condition: condition_of(entry.phase()),
         incomplete: !entry.is_complete(),
-        file_status: file_status(names_file(metadata), entry.is_installed(), entry.phase()),
+        file_status: file_status(entry),
         responses: Vec::new(alloc),
-        fault: find_fault(condition, entry.is_ended_by_eof(), header),
+        fault: find_fault(entry),
     };
     Outcome {
         header: Header {
@@ -201,7 +199,7 @@ fn bare_outcome(alloc: Global, entry: &TableEntry) -> Outcome
             ..*header
         },
         finished,
-        send: header.acknowledged || metadata.closure,
+        send: header.acknowledged || entry.metadata().closure,
     }
 }
 
@@ -237,14 +235,14 @@ fn condition_of(phase: Phase) -> u8
 }
 
 /// What became of the file.
-fn file_status(has_file: bool, installed: bool, phase: Phase) -> u8
-    ensures { result ≡ status_by has_file installed phase }
+fn file_status(entry: &TableEntry) -> u8
+    ensures { (F : Files) → result ≡ file_status_of (entry_in F entry.now) }
 {
-    if !has_file {
+    if !names_file(entry.metadata()) {
         UNREPORTED
-    } else if installed {
+    } else if entry.is_installed() {
         RETAINED
-    } else if phase == Phase::Refused {
+    } else if entry.phase() == Phase::Refused {
         REJECTED
     } else {
         DISCARDED
@@ -253,15 +251,16 @@ fn file_status(has_file: bool, installed: bool, phase: Phase) -> u8
 
 /// Who is at fault: nobody where there is no error or the checksum type is not supported, the sender where its EOF said
 /// so, and else this entity.
-fn find_fault(condition: u8, by_eof: bool, header: &Header) -> Option<u64>
-    ensures { result ≡ fault_by condition by_eof header.now }
+fn find_fault(entry: &TableEntry) -> Option<u64>
+    ensures { (F : Files) → result ≡ fault_location_of (entry_in F entry.now) }
 {
+    let condition = condition_of(entry.phase());
     if condition == NO_ERROR || condition == UNSUPPORTED_CHECKSUM_TYPE {
         None
-    } else if by_eof {
-        Some(header.source)
+    } else if entry.is_ended_by_eof() {
+        Some(entry.header().source)
     } else {
-        Some(header.destination)
+        Some(entry.header().destination)
     }
 }
 
