@@ -73,7 +73,7 @@ impl MeasuredEntity {
     ///
     /// # Errors
     ///
-    /// [`Fault::Verdict`] if it is not admitted.
+    /// [`WorkloadFault::Verdict`] if it is not admitted.
     pub fn admit(
         &mut self,
         sender: Sender,
@@ -160,7 +160,7 @@ impl MeasuredEntity {
     ///
     /// # Errors
     ///
-    /// [`Fault::Missing`] if there is no such file.
+    /// [`WorkloadFault::Missing`] if there is no such file.
     pub fn read_back(&mut self, name: &[u8]) -> Result<(), WorkloadFault> {
         let mut piece = [0_u8; 1_000];
         let path = Path::parse(self.alloc, name)?;
