@@ -16,7 +16,7 @@
 //! `cfdp draw [FILE]` plays a script as `cfdp run` does, and writes a picture of the run in SVG.
 //!
 //! `cfdp disturb [--loss P] [--twice P] [--swap P] [--seed N] [FILE]` writes a script as if its PDUs came over a bad
-//! link: P percent are lost, written twice, or swapped.
+//! link: each is lost, written twice or swapped with the probability, in percent, that its option gives.
 //!
 //! `cfdp receive --into DIR [--mib FILE]` is a live receiving entity of both modes, by the clock of the system: PDUs
 //! come on standard input and go to standard output, and a folder holds what its filestore holds.

@@ -3,7 +3,7 @@
 --   transaction_named source number  the transaction of these numbers
 --   DoesEvent event            an event of the entity's own: the reply is that of the table of events
 --   Receives octets            octets that came: likewise, or why there is no reply, with all as before
---   NothingChanges             an engine or a receiver, and the report before, are as they were
+--   NothingChanges             an engine or a receiver is as it was, and so is the reply or the report
 --   Frees                      an engine or a receiver is freed
 --   Takes id                   a request for the outcome, with the buffer before and after, and the count of octets
 use Rattle.std.specs.Prelude.{◌≡◌, ◌⊎◌, ℕ, ◌<◌, ◌++◌, drop, length, List, Option, Some, None, IsSome, Result, Ok, Err}

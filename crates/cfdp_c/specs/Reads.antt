@@ -1,4 +1,5 @@
 -- What the calls from C that change nothing write, and what they return.
+--   FoundOrNothing found old new answer    what was found is written, or there is nothing and all is as before
 --   Reads f handle old new answer    what f says of the world of an engine: there is something, which is written, or
 --                                    there is nothing
 --   name_fields, phase_fields, grant_fields, gap_fields    what is reported, as structs

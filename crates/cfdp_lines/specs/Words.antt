@@ -4,6 +4,7 @@
 --   is_numeral     a word of decimal digits
 --   number_of      the number that such a word writes, if it is below 2^64
 --   numbers_of     the numbers of some words, if each writes one
+--   number_before  a number, or an octet, before others, if all are there
 --   id_by          the transaction that two numbers name: its source entity ID, and its sequence number
 use Rattle.std.specs.Prelude.{ℕ, ◌^◌, ◌==◌, Bool, not, ◌&&◌, nat_lt, if◌then◌else◌, List, [], ◌∷◌, length, Option, Some, None}
 use Rattle.std.specs.List.{slice_split, filter, list_all}

@@ -3,6 +3,7 @@ use Rattle.std.specs.Prelude.{if◌then◌else◌, slice_get, is_some, ◌==◌}
 use Rattle.std.proofs.Common.{◌≡◌, inl, inr, ℕ, Bool, true, false, not, ◌&&◌, ◌||◌, List, [], ◌∷◌, ◌++◌, Option, Some, None, refl, sym, ap, subst, ◌∙◌}
 use Rattle.std.proofs.lemmas.Bool.{cond_both, cond-true, cond-false, cases_Bool, both_ways}
 use Rattle.std.proofs.lemmas.Option.{none-some}
+use Rattle.cfdp_status.proofs.Choices.{either_way}
 use Rattle.cfdp_status.specs.declared.transaction.TransactionId.{TransactionId}
 use Rattle.cfdp_leases.specs.Leases.{is_same}
 use Rattle.cfdp_pdus.specs.Values.{MetadataFields, FileDataFields}
@@ -222,11 +223,6 @@ fits_data : Laws → (R : State) (h : Header) (piece : FileDataFields) (o : Opti
 fits_data laws R h piece None sound k = fits_keeps R (id_of h) None silent k
 fits_data laws R h piece (Some s) sound k = fits_data_stage laws R h piece s s.stage sound k refl
 
-fits_none_if : (R : State) (id : TransactionId) (b : Bool) (p q : Turning.Parts) → Fits R id [] (λ V rs. p) → Fits R id [] (λ V rs. q) →
-    Fits R id [] (λ V rs. if b then p else q)
-fits_none_if R id true p q hp hq = hp
-fits_none_if R id false p q hp hq = hq
-
 fits_over : (R : State) (id : TransactionId) (s new : SessionFields) (a : AnswerFields) → Knows R id (Some s) → session_id new ≡ id → is_known s.stage
     ≡ is_known new.stage → Fits R id [] (λ V rs. Turning.replaces_one R new a)
 fits_over R id s new a k name same = fits_put R id s [] (λ V rs. new) (λ V rs. a) k.0 (λ V rs. name) (k.1 ∙ same)
@@ -235,7 +231,7 @@ fits_eof_stage : Laws → (R : State) (h : Header) (eof : Eof) (s : SessionField
     ≡ stage →
     Fits R (id_of h) (Handing.where_known stage (EofCame h eof ∷ [])) (λ V rs. Turning.eof_stage R V rs h eof s stage)
 fits_eof_stage laws R h eof s (Held kept) sound k is =
-    fits_none_if R (id_of h) (eof.condition == 0) (Turning.keeps R (Turning.acks_only h eof Active words.Duplicate))
+    either_way (λ (parts : Turning.Parts). Fits R (id_of h) [] (λ V rs. parts)) (eof.condition == 0) (Turning.keeps R (Turning.acks_only h eof Active words.Duplicate))
     (Turning.replaces_one R (Turning.ended_by h eof s) (Turning.acks_only h eof Active words.Faulted))
     (fits_keeps R (id_of h) (Some s) silent k)
     (fits_over R (id_of h) s (Turning.ended_by h eof s) silent k (found_name R.sessions (id_of h) s k.0) (ap is_known is))
@@ -250,9 +246,9 @@ fits_eof laws R h eof None sound k =
     let kept = Turning.keeps R (Turning.acks_only h eof (status_of R (id_of h)) (Turning.word_without_session R (id_of h))) in
     let full = Turning.keeps R (Turning.said_of_header h words.TableFull) in
     let holds = Turning.held_first R h eof in
-    fits_none_if R (id_of h) (is_closed R (id_of h) || not (eof.condition == 0) || not h.acknowledged) kept (if is_full R then full else holds)
+    either_way (λ (parts : Turning.Parts). Fits R (id_of h) [] (λ V rs. parts)) (is_closed R (id_of h) || not (eof.condition == 0) || not h.acknowledged) kept (if is_full R then full else holds)
     (fits_keeps R (id_of h) None silent k)
-    (fits_none_if R (id_of h) (is_full R) full holds (fits_keeps R (id_of h) None silent k)
+    (either_way (λ (parts : Turning.Parts). Fits R (id_of h) [] (λ V rs. parts)) (is_full R) full holds (fits_keeps R (id_of h) None silent k)
     (fits_add R (id_of h) [] (λ V rs. Turning.begun_session R h (Held eof)) (λ V rs. holds.answer) k.0 (λ V rs. refl) k.1))
 fits_eof laws R h eof (Some s) sound k = fits_eof_stage laws R h eof s s.stage sound k refl
 
@@ -262,7 +258,7 @@ fits_ack_stage R h ack s (Held eof) d k is = fits_keeps R (id_of h) (Some s) sil
 fits_ack_stage R h ack s Known d k is = fits_keeps R (id_of h) (Some s) silent k
 fits_ack_stage R h ack s (OverStage ending) d k is = fits_keeps R (id_of h) (Some s) silent k
 fits_ack_stage R h ack s Waiting d k is =
-    fits_none_if R (id_of h) (ack.directive == 5) (Turning.closes R (session_id s) (Turning.said_of_header h words.Acknowledged))
+    either_way (λ (parts : Turning.Parts). Fits R (id_of h) [] (λ V rs. parts)) (ack.directive == 5) (Turning.closes R (session_id s) (Turning.said_of_header h words.Acknowledged))
     (Turning.keeps R (Turning.said_of_header h words.Idle))
     (fits_close R (id_of h) s [] (λ V rs. Turning.said_of_header h words.Acknowledged) d (found_name R.sessions (id_of h) s k.0) (k.1 ∙ ap is_known is))
     (fits_keeps R (id_of h) (Some s) silent k)
@@ -282,7 +278,7 @@ fits_prompt : (R : State) (h : Header) (prompt : Prompt) (o : Option SessionFiel
     Fits R (id_of h) [] (λ V rs. Turning.prompt_parts R h prompt o)
 fits_prompt R h prompt None k = fits_keeps R (id_of h) None silent k
 fits_prompt R h prompt (Some s) k =
-    fits_none_if R (id_of h) (s.header.acknowledged && Turning.takes_prompts (at_of R.world s))
+    either_way (λ (parts : Turning.Parts). Fits R (id_of h) [] (λ V rs. parts)) (s.header.acknowledged && Turning.takes_prompts (at_of R.world s))
     (Turning.replaces_one R (Turning.roused R s) (Turning.prompted R h s prompt)) (Turning.keeps R (Turning.said_of_header h words.Idle))
     (fits_over R (id_of h) s (Turning.roused R s) (Turning.prompted R h s prompt) k ((roused_is R s).0 ∙ found_name R.sessions (id_of h) s k.0)
     (roused_is R s).1)
@@ -424,11 +420,6 @@ finish_there laws R s Known sound is before over =
 finish_there laws R s (OverStage ending) sound is before over = before ∙ ap is_known is
 finish_there laws R s Waiting sound is before over = before ∙ ap is_known is
 
-fits_same_if : (R : State) (id : TransactionId) (es : List Event) (b : Bool) (p q : Turning.Parts) → Fits R id es (λ V rs. p) → Fits R id es (λ V rs. q) →
-    Fits R id es (λ V rs. if b then p else q)
-fits_same_if R id es true p q hp hq = hp
-fits_same_if R id es false p q hp hq = hq
-
 fits_session : (R : State) (s : SessionFields) (o : Outcome) (es : List Event) → AreDistinct R.sessions → session_of R (session_id s) ≡ Some s →
     is_there (run R.world es) (session_id s) ≡ false →
     Fits R (session_id s) es (λ V rs. Turning.finish_session R s o)
@@ -440,11 +431,14 @@ fits_session R s o es d here gone_now =
     let third = if not s.header.acknowledged then Turning.closes R (session_id s) (Turning.sends_it s o words.Closed)
     else Turning.replaces_one R (Turning.waits_for_ack R s o) (Turning.sends_it s o words.Finished) in
     let second = if not o.send then Turning.closes R (session_id s) (Turning.concluded s o words.Closed) else third in
-    fits_same_if R (session_id s) es s.is_abandoned (Turning.closes R (session_id s) (Turning.said_word s words.Closed)) second
+    either_way (λ (parts : Turning.Parts). Fits R (session_id s) es (λ V rs. parts)) s.is_abandoned
+    (Turning.closes R (session_id s) (Turning.said_word s words.Closed)) second
     (closed (Turning.said_word s words.Closed)) (
-    fits_same_if R (session_id s) es (not o.send) (Turning.closes R (session_id s) (Turning.concluded s o words.Closed)) third
+    either_way (λ (parts : Turning.Parts). Fits R (session_id s) es (λ V rs. parts)) (not o.send)
+    (Turning.closes R (session_id s) (Turning.concluded s o words.Closed)) third
     (closed (Turning.concluded s o words.Closed)) (
-    fits_same_if R (session_id s) es (not s.header.acknowledged) (Turning.closes R (session_id s) (Turning.sends_it s o words.Closed))
+    either_way (λ (parts : Turning.Parts). Fits R (session_id s) es (λ V rs. parts)) (not s.header.acknowledged)
+    (Turning.closes R (session_id s) (Turning.sends_it s o words.Closed))
     (Turning.replaces_one R (Turning.waits_for_ack R s o) (Turning.sends_it s o words.Finished))
     (closed (Turning.sends_it s o words.Closed)) waits
     )
@@ -465,7 +459,7 @@ fits_finish laws R (Some s) sound d is k =
 fits_ours_none : (R : State) (h : Header) (p : Turning.Parts) → AreKnown R → Fits R (id_of h) [] (λ V rs. p) →
     Fits R (id_of h) [] (λ V rs. Turning.where_ours R h p)
 fits_ours_none R h p known f =
-    fits_none_if R (id_of h) (Handing.is_ours R h) p (Turning.keeps R (Turning.quiet (Turning.foreign h))) f
+    either_way (λ (parts : Turning.Parts). Fits R (id_of h) [] (λ V rs. parts)) (Handing.is_ours R h) p (Turning.keeps R (Turning.quiet (Turning.foreign h))) f
     (fits_keeps R (id_of h) (session_of R (id_of h)) silent (refl, known (id_of h)))
 
 fits_touched : Laws → (R : State) (i : Input) → Sound R.world → AreDistinct R.sessions → AreKnown R → is_work i ≡ false →

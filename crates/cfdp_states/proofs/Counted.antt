@@ -14,6 +14,7 @@ use Rattle.std.proofs.lemmas.Float.{T_from_true}
 use Rattle.std.specs.List.{list_all, list_any}
 use Rattle.std.specs.FinMap.{empty, empty_of_len, len-entries, get, find, put, insert, remove, entries, from_sorted, entries_sorted, entries-from_sorted, entries-insert, get-from_sorted, get-entries, same_entries_map}
 use Rattle.std.specs.FinMap.Entries.{where_key, is_sorted-put, is_sorted-where_key, find-put, find-where_key}
+use Rattle.cfdp_status.proofs.Choices.{either_way}
 use Rattle.cfdp_paths.specs.Paths.{Path, path_cmp, same_path, is_at_or_below, rebased}
 use Rattle.cfdp_paths.specs.PathMaps.{IsOrdered, without, tree_in, rest_in, moved_to, puts, is_too_deep}
 use Rattle.cfdp_paths.proofs.Moving.{tree_all, tree_ordered}
@@ -77,17 +78,13 @@ total-without k es s =
     let sum = totals-without extent_weight k es (T_from_true _ s) in
     omega (arith, sum, total-is (without k es), total-is es, weight-is (find path_cmp k es))
 
-small-cond : (b : Bool) (a c : Option Extent) → weight_in a ≤ 2 ^ 58 → weight_in c ≤ 2 ^ 58 → weight_in (cond b a c) ≤ 2 ^ 58
-small-cond true a c one two = one
-small-cond false a c one two = two
-
 pub put_counted : (k : Path) (v : Extent) (es fs : Entries) (used now : ℕ) → IsCounted es used → extent_weight v ≤ 2 ^ 58 → fs ≡ put path_cmp k v es → now
     + weight_in (find path_cmp k es) ≡ used + extent_weight v → IsCounted fs now
 put_counted k v es fs used now h small is sum =
     subst (λ fs. IsCounted fs now) (sym is) (record {
       ordered = put_ordered k v es h.ordered;
       small = λ p. subst (λ (a : Option Extent). weight_in a ≤ 2 ^ 58) (sym (find-put path_cmp path_cmp-total p k v es))
-          (small-cond (same_path p k) (Some v) (find path_cmp p es) small (h.small p));
+          (either_way (λ (v : Option Extent). weight_in v ≤ 2 ^ 58) (same_path p k) (Some v) (find path_cmp p es) small (h.small p));
       counted = omega (arith, sum, h.counted, total-put k v es h.ordered);
     })
 
@@ -98,7 +95,7 @@ without_counted k es fs used now h is sum =
       ordered = where_ordered (λ q. not (same_path k q)) es h.ordered;
       small = λ p. subst (λ (a : Option Extent). weight_in a ≤ 2 ^ 58) (sym
           (find-where_key path_cmp (λ q. not (same_path k q)) p (λ x e. ap (λ x. not (same_path k x)) (sym (path_antisym p x e))) es))
-          (small-cond (not (same_path k p)) (find path_cmp p es) None (h.small p) (omega arith));
+          (either_way (λ (v : Option Extent). weight_in v ≤ 2 ^ 58) (not (same_path k p)) (find path_cmp p es) None (h.small p) (omega arith));
       counted = omega (arith, sum, h.counted, total-without k es h.ordered);
     })
 
@@ -223,9 +220,10 @@ moved_counted p q es fs used now h is sum = record {
   ordered = subst IsOrdered (sym is) (moved_entries_ordered p q es h.ordered);
   small = λ x.
       let left : weight_in (cond (is_at_or_below x p) None (find path_cmp x es)) ≤ 2 ^ 58 =
-      small-cond (is_at_or_below x p) None (find path_cmp x es) (omega arith) (h.small x) in
+      either_way (λ (v : Option Extent). weight_in v ≤ 2 ^ 58) (is_at_or_below x p) None (find path_cmp x es) (omega arith) (h.small x) in
       subst (λ (a : Option Extent). weight_in a ≤ 2 ^ 58) (sym (ap (find path_cmp x) is ∙ find-moved_entries p q es h.ordered x))
-      (small-cond (is_at_or_below x q) _ _ (small-cond (is_some (find path_cmp (rebased q p x) es)) _ _ (h.small (rebased q p x)) left) left);
+      (either_way (λ (v : Option Extent). weight_in v ≤ 2 ^ 58) (is_at_or_below x q) _ _
+      (either_way (λ (v : Option Extent). weight_in v ≤ 2 ^ 58) (is_some (find path_cmp (rebased q p x) es)) _ _ (h.small (rebased q p x)) left) left);
   counted = sum;
 }
 

@@ -322,30 +322,33 @@ static REQUEST_FAULTS: [(&str, RefusedRequest); 8] = [
 ];
 
 // What spells no response, and its fault.
-struct NoResponse(&'static [u8], TlvFault);
+struct RefusedResponse(&'static [u8], TlvFault);
 
-static RESPONSE_FAULTS: [(&str, NoResponse); 7] = [
-    ("nothing", NoResponse(b"", TlvFault::Truncated)),
+static RESPONSE_FAULTS: [(&str, RefusedResponse); 7] = [
+    ("nothing", RefusedResponse(b"", TlvFault::Truncated)),
     (
         "an action that does not exist",
-        NoResponse(b"\x90\x01a\x00", TlvFault::BadAction),
+        RefusedResponse(b"\x90\x01a\x00", TlvFault::BadAction),
     ),
     (
         "a status that does not exist",
-        NoResponse(b"\x02\x01a\x00", TlvFault::BadStatus),
+        RefusedResponse(b"\x02\x01a\x00", TlvFault::BadStatus),
     ),
     (
         "such a status alone",
-        NoResponse(b"\x71", TlvFault::BadStatus),
+        RefusedResponse(b"\x71", TlvFault::BadStatus),
     ),
-    ("no message", NoResponse(b"\x00\x01a", TlvFault::Truncated)),
+    (
+        "no message",
+        RefusedResponse(b"\x00\x01a", TlvFault::Truncated),
+    ),
     (
         "no message after two names",
-        NoResponse(b"\x20\x01a\x01b", TlvFault::Truncated),
+        RefusedResponse(b"\x20\x01a\x01b", TlvFault::Truncated),
     ),
     (
         "an octet after the message",
-        NoResponse(b"\x00\x01a\x00\x00", TlvFault::Trailing),
+        RefusedResponse(b"\x00\x01a\x00\x00", TlvFault::Trailing),
     ),
 ];
 
@@ -355,7 +358,7 @@ impl Row for RefusedRequest {
     }
 }
 
-impl Row for NoResponse {
+impl Row for RefusedResponse {
     fn holds(&self, alloc: Global) -> Result<bool, AllocError> {
         Ok(read_response(alloc, self.0).err() == Some(self.1))
     }
