@@ -231,7 +231,8 @@ fits_eof_stage : Laws → (R : State) (h : Header) (eof : Eof) (s : SessionField
     ≡ stage →
     Fits R (id_of h) (Handing.where_known stage (EofCame h eof ∷ [])) (λ V rs. Turning.eof_stage R V rs h eof s stage)
 fits_eof_stage laws R h eof s (Held kept) sound k is =
-    either_way (λ (parts : Turning.Parts). Fits R (id_of h) [] (λ V rs. parts)) (eof.condition == 0) (Turning.keeps R (Turning.acks_only h eof Active words.Duplicate))
+    either_way (λ (parts : Turning.Parts). Fits R (id_of h) [] (λ V rs. parts)) (eof.condition == 0)
+    (Turning.keeps R (Turning.acks_only h eof Active words.Duplicate))
     (Turning.replaces_one R (Turning.ended_by h eof s) (Turning.acks_only h eof Active words.Faulted))
     (fits_keeps R (id_of h) (Some s) silent k)
     (fits_over R (id_of h) s (Turning.ended_by h eof s) silent k (found_name R.sessions (id_of h) s k.0) (ap is_known is))
@@ -246,7 +247,8 @@ fits_eof laws R h eof None sound k =
     let kept = Turning.keeps R (Turning.acks_only h eof (status_of R (id_of h)) (Turning.word_without_session R (id_of h))) in
     let full = Turning.keeps R (Turning.said_of_header h words.TableFull) in
     let holds = Turning.held_first R h eof in
-    either_way (λ (parts : Turning.Parts). Fits R (id_of h) [] (λ V rs. parts)) (is_closed R (id_of h) || not (eof.condition == 0) || not h.acknowledged) kept (if is_full R then full else holds)
+    either_way (λ (parts : Turning.Parts). Fits R (id_of h) [] (λ V rs. parts)) (is_closed R (id_of h) || not (eof.condition == 0) || not h.acknowledged)
+    kept (if is_full R then full else holds)
     (fits_keeps R (id_of h) None silent k)
     (either_way (λ (parts : Turning.Parts). Fits R (id_of h) [] (λ V rs. parts)) (is_full R) full holds (fits_keeps R (id_of h) None silent k)
     (fits_add R (id_of h) [] (λ V rs. Turning.begun_session R h (Held eof)) (λ V rs. holds.answer) k.0 (λ V rs. refl) k.1))
@@ -258,7 +260,8 @@ fits_ack_stage R h ack s (Held eof) d k is = fits_keeps R (id_of h) (Some s) sil
 fits_ack_stage R h ack s Known d k is = fits_keeps R (id_of h) (Some s) silent k
 fits_ack_stage R h ack s (OverStage ending) d k is = fits_keeps R (id_of h) (Some s) silent k
 fits_ack_stage R h ack s Waiting d k is =
-    either_way (λ (parts : Turning.Parts). Fits R (id_of h) [] (λ V rs. parts)) (ack.directive == 5) (Turning.closes R (session_id s) (Turning.said_of_header h words.Acknowledged))
+    either_way (λ (parts : Turning.Parts). Fits R (id_of h) [] (λ V rs. parts)) (ack.directive == 5)
+    (Turning.closes R (session_id s) (Turning.said_of_header h words.Acknowledged))
     (Turning.keeps R (Turning.said_of_header h words.Idle))
     (fits_close R (id_of h) s [] (λ V rs. Turning.said_of_header h words.Acknowledged) d (found_name R.sessions (id_of h) s k.0) (k.1 ∙ ap is_known is))
     (fits_keeps R (id_of h) (Some s) silent k)
