@@ -80,7 +80,7 @@ fn run<R: AllocGlobal + Env + Print + Threads + Wait + Sync>(
     Ok(true)
 }
 
-/// Runs a workload, and prints its digest. Whether there is such a one.
+/// Runs a workload, and prints its digest. Returns false if no workload has this name.
 fn run_one<R: AllocGlobal + Print + Threads + Wait + Sync>(
     rt: &R,
     workload: &str,
