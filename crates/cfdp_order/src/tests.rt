@@ -13,13 +13,13 @@ use std::process::Abort;
 
 /// A key that is sought among those of the nodes, and a count of the nodes that were compared with it.
 #[derive(Drop)]
-struct Key<'a> {
+struct OrderKey<'a> {
     keys: &'a [u32],
     key: u32,
     compared: Cell<u32>,
 }
 
-impl Sought for Key<'_> {
+impl Sought for OrderKey<'_> {
     ghost can_compare = { λ sought node. node < length sought.keys.now };
 
     ghost side = { λ sought node. nat_cmp (slice_index sought.keys.now node) sought.key };
@@ -31,11 +31,11 @@ impl Sought for Key<'_> {
 }
 
 /// A key among those of the nodes, which nothing was compared with yet.
-fn sought_key(keys: &[u32], key: u32) -> Key<'_>
+fn sought_key(keys: &[u32], key: u32) -> OrderKey<'_>
     ensures keys { result.keys.now ≡ keys.now }
     ensures key { result.key ≡ key }
 {
-    Key {
+    OrderKey {
         keys,
         key,
         compared: Cell::new(0),

@@ -44,7 +44,7 @@ pub(crate) fn nodes_below(
 
 /// The nodes, each with its path. One buffer serves to spell all of them.
 ///
-/// The paths are made from the last one to the first, and turned round after that. Made the other way, they would be
+/// The paths are made from the last one to the first, and reversed after that. Made the other way, they would be
 /// freed in the order of their addresses, and glibc's allocator would give pages back and ask for them again.
 fn with_paths(
     alloc: Global,

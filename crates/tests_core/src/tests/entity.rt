@@ -356,7 +356,7 @@ fn meet<S: Filestore>(
 ) -> Result<(), Memory> {
     for (index, row) in rows.iter().enumerate() {
         let met = is_met(rt, name, alloc, core, *row, twice)?;
-        assert!(rt; met, "{name}: row {index}, {}", row.about());
+        assert!(rt; met, "{name}: {}, number {index}", row.about());
     }
     Ok(())
 }

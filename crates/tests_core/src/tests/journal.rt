@@ -106,9 +106,9 @@ pub fn journaled_tree(alloc: Global, entries: u32) -> Result<JournaledTree, Memo
 }
 
 /// What exists, the blocks to spare, the entries, and how far the four transactions are.
-type Seen = (Vec<Entry>, u32, usize, [Option<Phase>; 4]);
+type JournalView = (Vec<Entry>, u32, usize, [Option<Phase>; 4]);
 
-fn seen(alloc: Global, journaled: &JournaledTree) -> Result<Seen, Memory> {
+fn seen(alloc: Global, journaled: &JournaledTree) -> Result<JournalView, Memory> {
     let core = journaled.core();
     let phases = [
         core.phase(id(5)),

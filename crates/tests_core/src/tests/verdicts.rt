@@ -137,9 +137,9 @@ static LISTS: [Row; 5] = [
 
 /// What stays the same when out of memory: what exists, the first transaction in the way of a list that deletes
 /// `x`, and the blocks to spare.
-type Seen = (Vec<Entry>, Option<TransactionId>, u32);
+type SceneView = (Vec<Entry>, Option<TransactionId>, u32);
 
-fn seen(rt: &impl Abort, alloc: Global, scene: &Scene) -> Result<Seen, Memory> {
+fn seen(rt: &impl Abort, alloc: Global, scene: &Scene) -> Result<SceneView, Memory> {
     let delete = [parse(alloc, b"\x00\x03\x10\x01x")?];
     let in_the_way = footprint(alloc, &delete, None)?;
     let listing = scene.store.listing(alloc)?;

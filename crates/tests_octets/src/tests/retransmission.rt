@@ -6,7 +6,7 @@ use cfdp_directives::NakRange;
 use cfdp_retransmission::{Expiry, NakPart, Timer, next_nak};
 
 /// A timer of 10 ticks with the limit 3, and what it is at a moment.
-struct Moment {
+struct TimerRow {
     name: &'static str,
     since: u64,
     count: u64,
@@ -15,8 +15,8 @@ struct Moment {
     after: Timer,
 }
 
-static MOMENTS: [Moment; 9] = [
-    Moment {
+static MOMENTS: [TimerRow; 9] = [
+    TimerRow {
         name: "it has just begun",
         since: 5,
         count: 0,
@@ -24,7 +24,7 @@ static MOMENTS: [Moment; 9] = [
         expiry: Expiry::NotDue,
         after: Timer { since: 5, count: 0 },
     },
-    Moment {
+    TimerRow {
         name: "one tick before it expires",
         since: 5,
         count: 0,
@@ -32,7 +32,7 @@ static MOMENTS: [Moment; 9] = [
         expiry: Expiry::NotDue,
         after: Timer { since: 5, count: 0 },
     },
-    Moment {
+    TimerRow {
         name: "it expires",
         since: 5,
         count: 0,
@@ -43,7 +43,7 @@ static MOMENTS: [Moment; 9] = [
             count: 1,
         },
     },
-    Moment {
+    TimerRow {
         name: "it expired long ago: it begins anew at the present moment",
         since: 5,
         count: 1,
@@ -54,7 +54,7 @@ static MOMENTS: [Moment; 9] = [
             count: 2,
         },
     },
-    Moment {
+    TimerRow {
         name: "the third expiry reaches the limit",
         since: 5,
         count: 2,
@@ -65,7 +65,7 @@ static MOMENTS: [Moment; 9] = [
             count: 0,
         },
     },
-    Moment {
+    TimerRow {
         name: "the limit is not reached before the interval passed",
         since: 5,
         count: 2,
@@ -73,7 +73,7 @@ static MOMENTS: [Moment; 9] = [
         expiry: Expiry::NotDue,
         after: Timer { since: 5, count: 2 },
     },
-    Moment {
+    TimerRow {
         name: "it expired as often as can be counted",
         since: 5,
         count: u64::MAX,
@@ -84,7 +84,7 @@ static MOMENTS: [Moment; 9] = [
             count: 0,
         },
     },
-    Moment {
+    TimerRow {
         name: "a moment before it began",
         since: 5,
         count: 0,
@@ -92,7 +92,7 @@ static MOMENTS: [Moment; 9] = [
         expiry: Expiry::NotDue,
         after: Timer { since: 5, count: 0 },
     },
-    Moment {
+    TimerRow {
         name: "a deadline past the greatest moment",
         since: u64::MAX - 9,
         count: 0,

@@ -130,7 +130,7 @@ fn octets_of(input: Input) -> Option<&'static str> {
 /// What a receiver answers to questions, without memory: its timers, work and outcomes, what it says of the
 /// transaction and of the filestore.
 #[derive(Clone, Copy, PartialEq, Eq)]
-struct Seen {
+struct ActorView {
     deadline: Option<u64>,
     has_work: bool,
     has_outcome: bool,
@@ -208,11 +208,11 @@ impl Actor {
     }
 
     /// What is seen now.
-    fn seen(&self) -> Seen {
+    fn seen(&self) -> ActorView {
         let receiver = &self.receiver;
         let session = receiver.session(ID);
         let core = receiver.entity().core();
-        Seen {
+        ActorView {
             deadline: receiver.deadline(),
             has_work: receiver.has_work(),
             has_outcome: receiver.has_outcome(),
@@ -233,7 +233,7 @@ impl Actor {
 
     /// An input was out of memory, and it was handed in again, at the moment of the input before it. All was as
     /// before then, and its own moment was not noted: no timer runs from it.
-    fn was_refused(&mut self, before: &Seen, between: &Seen) {
+    fn was_refused(&mut self, before: &ActorView, between: &ActorView) {
         let late = self.moment.saturating_add(self.stride);
         let is_noted = self
             .receiver

@@ -1,7 +1,7 @@
 //! What the program ends with: its status, and its line on standard error.
 use super::fakes::{Stream, Writer};
 use super::links::{CREATED, run};
-use super::runs::{Kind, Run};
+use super::runs::{Run, ScriptKind};
 use super::{Row, all_hold};
 use cfdp_sim::{LinkFault, Open, ProgramEnd, RunFault};
 use std::alloc::{AllocError, Global};
@@ -127,8 +127,8 @@ const SECOND_FAILS: Stream = Stream {
 
 /// A script, a beginning of what it writes, its reads and its writes, and the status and the line of the end that its
 /// run comes to.
-struct Ending {
-    kind: Kind,
+struct EndedRun {
+    kind: ScriptKind,
     script: &'static str,
     report: &'static str,
     reads: Stream,
@@ -137,11 +137,11 @@ struct Ending {
     line: &'static str,
 }
 
-static ENDINGS: [(&str, Ending); 2] = [
+static ENDINGS: [(&str, EndedRun); 2] = [
     (
         "the second read fails",
-        Ending {
-            kind: Kind::Plain,
+        EndedRun {
+            kind: ScriptKind::Plain,
             script: CREATE,
             report: CREATE_REPORT,
             reads: SECOND_FAILS,
@@ -152,8 +152,8 @@ static ENDINGS: [(&str, Ending); 2] = [
     ),
     (
         "the first write fails",
-        Ending {
-            kind: Kind::Plain,
+        EndedRun {
+            kind: ScriptKind::Plain,
             script: CREATE,
             report: CREATE_REPORT,
             reads: SOUND,
@@ -165,7 +165,7 @@ static ENDINGS: [(&str, Ending); 2] = [
 ];
 
 /// What the program ends with where the run of a script comes to this.
-fn end_of<R: Abort + Print>(rt: &R, alloc: Global, ending: &Ending) -> ProgramEnd {
+fn end_of<R: Abort + Print>(rt: &R, alloc: Global, ending: &EndedRun) -> ProgramEnd {
     let run = Run {
         kind: ending.kind,
         script: ending.script.as_bytes(),
@@ -179,7 +179,7 @@ fn end_of<R: Abort + Print>(rt: &R, alloc: Global, ending: &Ending) -> ProgramEn
     }
 }
 
-impl Row for Ending {
+impl Row for EndedRun {
     fn holds<R: Abort + Print>(&self, rt: &R, alloc: Global) -> bool {
         is_end(alloc, end_of(rt, alloc, self), self.status, self.line)
     }

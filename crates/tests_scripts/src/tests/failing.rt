@@ -1,7 +1,7 @@
 //! Reads and writes that fail in mid-stream, and std's streams that are interrupted.
 use super::fakes::{Call, Reader, Scripted, Stream, Writer};
 use super::links::link;
-use super::runs::{Kind, Ran, Run, has_text};
+use super::runs::{Ran, Run, ScriptKind, has_text};
 use super::{REPLAY_REPORT, REPLAY_SCRIPT, REPORT, Row, SCRIPT, all_hold};
 use cfdp_commands::{Requests, Transfers};
 use cfdp_lines::{LineFault, Script};
@@ -16,7 +16,7 @@ use std::thread::Threads;
 
 /// A script of either kind, each line of which that is not empty is answered by a line.
 struct Example {
-    kind: Kind,
+    kind: ScriptKind,
     script: &'static str,
     report: &'static str,
 }
@@ -25,7 +25,7 @@ static EXAMPLES: [(&str, Example); 2] = [
     (
         "three lists of requests",
         Example {
-            kind: Kind::Plain,
+            kind: ScriptKind::Plain,
             script: SCRIPT,
             report: REPORT,
         },
@@ -33,7 +33,7 @@ static EXAMPLES: [(&str, Example); 2] = [
     (
         "a cancelled list beside another",
         Example {
-            kind: Kind::Replay,
+            kind: ScriptKind::Replay,
             script: REPLAY_SCRIPT,
             report: REPLAY_REPORT,
         },
@@ -132,7 +132,7 @@ static REFUSED: [(&str, Example); 4] = [
     (
         "a file that is created",
         Example {
-            kind: Kind::Replay,
+            kind: ScriptKind::Replay,
             script: "\
             pdu 24000D00010502 07 40 00000000 00 00 00 03 00 01 61\n\
             pdu 24000A00010502 04 00 00000000 00000000\n\
@@ -145,7 +145,7 @@ static REFUSED: [(&str, Example); 4] = [
     (
         "two spellings of one path",
         Example {
-            kind: Kind::Replay,
+            kind: ScriptKind::Replay,
             script: "\
             pdu 24001300010802 0740 00000000 0000 000400022f61 0003100161\n\
             pdu 24000a00010802 0400 00000000 00000000\n\
@@ -158,7 +158,7 @@ static REFUSED: [(&str, Example); 4] = [
     (
         "a file in two pieces",
         Example {
-            kind: Kind::Replay,
+            kind: ScriptKind::Replay,
             script: "\
             pdu 24000a00010a02 0740 0000000f 0173 0166\n\
             pdu 34000b00010a02 00000008 08090a0b0c0d0e\n\
@@ -174,7 +174,7 @@ static REFUSED: [(&str, Example); 4] = [
     (
         "a list that is cancelled",
         Example {
-            kind: Kind::Replay,
+            kind: ScriptKind::Replay,
             script: "\
             pdu 24001700010c02 0740 00000000 0000 0003000161 0003000162 0003000163\n\
             pdu 24000a00010c02 0400 00000000 00000000\n\
@@ -218,11 +218,11 @@ fn texts_of_bad_lines(rt: HostRuntime) {
     let end = Err(RunFault::BadLine(2));
     let script = b"# a\n0\n".as_slice();
     assert!(rt;
-        has_text(&rt, rt.alloc(), Kind::Plain, script, "", end),
+        has_text(&rt, rt.alloc(), ScriptKind::Plain, script, "", end),
         "plain"
     );
     assert!(rt;
-        has_text(&rt, rt.alloc(), Kind::Replay, script, "", end),
+        has_text(&rt, rt.alloc(), ScriptKind::Replay, script, "", end),
         "replay"
     );
 }
@@ -408,8 +408,8 @@ fn end_of_unwritten(alloc: Global, example: &Example) -> Result<(), RunFault> {
     let mut reader = Reader::new(example.script.as_bytes(), Stream::sound(100));
     let mut writer = ToWrite::new(Scripted { calls: &NOTHING });
     match example.kind {
-        Kind::Plain => plain(alloc, &mut reader, &mut writer),
-        Kind::Replay => replay(alloc, &mut reader, &mut writer),
+        ScriptKind::Plain => plain(alloc, &mut reader, &mut writer),
+        ScriptKind::Replay => replay(alloc, &mut reader, &mut writer),
     }
 }
 

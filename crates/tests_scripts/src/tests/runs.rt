@@ -7,7 +7,7 @@ use std::process::Abort;
 
 /// What runs a script.
 #[derive(Clone, Copy)]
-pub(super) enum Kind {
+pub(super) enum ScriptKind {
     Plain,
     Replay,
 }
@@ -62,7 +62,7 @@ fn run_replay(alloc: Global, reader: &mut Reader<'_>, writer: &mut Writer) -> En
 /// A script, what it writes where nothing fails, and the streams that it is run over.
 #[derive(Clone, Copy)]
 pub(super) struct Run<'a> {
-    pub(super) kind: Kind,
+    pub(super) kind: ScriptKind,
     pub(super) script: &'a [u8],
     pub(super) report: &'a str,
     pub(super) reads: Stream,
@@ -72,8 +72,8 @@ pub(super) struct Run<'a> {
 impl<'a> Run<'a> {
     fn end(&self, alloc: Global, reader: &mut Reader<'_>, writer: &mut Writer) -> End {
         match self.kind {
-            Kind::Plain => run_plain(alloc, reader, writer),
-            Kind::Replay => run_replay(alloc, reader, writer),
+            ScriptKind::Plain => run_plain(alloc, reader, writer),
+            ScriptKind::Replay => run_replay(alloc, reader, writer),
         }
     }
 
@@ -115,10 +115,15 @@ fn is_replay(alloc: Global, script: &[u8], report: &[u8]) -> Result<bool, RunFau
 }
 
 /// Whether the text of a script in memory is the report.
-fn is_text(alloc: Global, kind: Kind, script: &[u8], report: &[u8]) -> Result<bool, RunFault> {
+fn is_text(
+    alloc: Global,
+    kind: ScriptKind,
+    script: &[u8],
+    report: &[u8],
+) -> Result<bool, RunFault> {
     match kind {
-        Kind::Plain => is_plain(alloc, script, report),
-        Kind::Replay => is_replay(alloc, script, report),
+        ScriptKind::Plain => is_plain(alloc, script, report),
+        ScriptKind::Replay => is_replay(alloc, script, report),
     }
 }
 
@@ -126,7 +131,7 @@ fn is_text(alloc: Global, kind: Kind, script: &[u8], report: &[u8]) -> Result<bo
 fn is_text_at_last<R: Print>(
     rt: &R,
     alloc: Global,
-    kind: Kind,
+    kind: ScriptKind,
     script: &[u8],
     report: &[u8],
 ) -> Result<bool, RunFault> {
@@ -143,7 +148,7 @@ fn is_text_at_last<R: Print>(
 pub(super) fn has_text<R: Print>(
     rt: &R,
     alloc: Global,
-    kind: Kind,
+    kind: ScriptKind,
     script: &[u8],
     report: &str,
     end: End,

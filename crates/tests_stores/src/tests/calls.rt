@@ -41,7 +41,7 @@ pub fn request(
 
 /// What is asked of a store.
 #[derive(Clone, Copy)]
-pub enum Asked<'a> {
+pub enum StoreCall<'a> {
     /// An action at its names. No second one: empty.
     Perform(Action, &'a [u8], &'a [u8]),
     /// What is staged in the slot gets this many octets.
@@ -56,7 +56,7 @@ pub enum Asked<'a> {
 
 /// What a store answers.
 #[derive(Drop, PartialEq)]
-pub enum Answer {
+pub enum CallResult {
     /// The status octet and the ticks.
     Performed(u8, u32),
     /// The ticks.
@@ -67,7 +67,7 @@ pub enum Answer {
     NotAllowed,
 }
 
-impl<'a> Asked<'a> {
+impl<'a> StoreCall<'a> {
     /// Asks it of the store. Memory that is refused was wanted by the store: a path that is refused it is parsed once
     /// more.
     pub fn answer<S: Filestore>(
@@ -75,15 +75,15 @@ impl<'a> Asked<'a> {
         alloc: Global,
         store: &mut S,
         protected: &Protected,
-    ) -> Result<Answer, Memory> {
+    ) -> Result<CallResult, Memory> {
         match self {
-            Asked::Perform(action, first, second) => {
+            StoreCall::Perform(action, first, second) => {
                 performed(store, protected, &request(alloc, *action, first, second)?)
             }
-            Asked::Extend(slot, size) => extend(store, *slot, *size),
-            Asked::Put(slot, at, octets) => Ok(put(store, *slot, *at, octets)),
-            Asked::Unstage(slot) => Ok(unstage(store, *slot)),
-            Asked::Install(slot, path) => install(store, *slot, &parsed(alloc, path)?),
+            StoreCall::Extend(slot, size) => extend(store, *slot, *size),
+            StoreCall::Put(slot, at, octets) => Ok(put(store, *slot, *at, octets)),
+            StoreCall::Unstage(slot) => Ok(unstage(store, *slot)),
+            StoreCall::Install(slot, path) => install(store, *slot, &parsed(alloc, path)?),
         }
     }
 }
@@ -92,9 +92,9 @@ fn performed<S: Filestore>(
     store: &mut S,
     protected: &Protected,
     request: &Request,
-) -> Result<Answer, Memory> {
+) -> Result<CallResult, Memory> {
     let done = perform(store, protected, request)?;
-    Ok(Answer::Performed(done.status.octet(), done.ticks))
+    Ok(CallResult::Performed(done.status.octet(), done.ticks))
 }
 
 /// The blocks of this many octets, at most 65,536.
@@ -107,46 +107,46 @@ fn blocks_of(octets: u64) -> u64
 }
 
 #[tactic(auto, unfolding(cfdp_actions::specs::Filestore::blocks_of))]
-fn extend<S: Filestore>(store: &mut S, slot: u8, size: u64) -> Result<Answer, Memory> {
+fn extend<S: Filestore>(store: &mut S, slot: u8, size: u64) -> Result<CallResult, Memory> {
     if slot > 63 || size > 7_864_320 {
-        return Ok(Answer::NotAllowed);
+        return Ok(CallResult::NotAllowed);
     }
     let staged = store.staged_size(slot);
     if staged > size || blocks_of(size) - blocks_of(staged) > u64::from(store.free()) {
-        return Ok(Answer::NotAllowed);
+        return Ok(CallResult::NotAllowed);
     }
-    Ok(Answer::Ticks(store.stage_extend(slot, size)?))
+    Ok(CallResult::Ticks(store.stage_extend(slot, size)?))
 }
 
-fn put<S: Filestore>(store: &mut S, slot: u8, at: u64, octets: &[u8]) -> Answer {
+fn put<S: Filestore>(store: &mut S, slot: u8, at: u64, octets: &[u8]) -> CallResult {
     if slot > 63 {
-        return Answer::NotAllowed;
+        return CallResult::NotAllowed;
     }
     let size = store.staged_size(slot);
     let length = octets.len() as u64;
     if length > size || at > size - length {
-        return Answer::NotAllowed;
+        return CallResult::NotAllowed;
     }
     store.stage_put(slot, at, octets);
-    Answer::Put
+    CallResult::Put
 }
 
 /// Drops what is staged in the slot.
-pub fn unstage<S: Filestore>(store: &mut S, slot: u8) -> Answer {
+pub fn unstage<S: Filestore>(store: &mut S, slot: u8) -> CallResult {
     if slot > 63 {
-        return Answer::NotAllowed;
+        return CallResult::NotAllowed;
     }
-    Answer::Ticks(store.unstage(slot))
+    CallResult::Ticks(store.unstage(slot))
 }
 
-fn install<S: Filestore>(store: &mut S, slot: u8, path: &Path) -> Result<Answer, Memory> {
+fn install<S: Filestore>(store: &mut S, slot: u8, path: &Path) -> Result<CallResult, Memory> {
     if slot > 63 || !store.parent_is_good(path) {
-        return Ok(Answer::NotAllowed);
+        return Ok(CallResult::NotAllowed);
     }
     match store.kind(path) {
-        Some(Kind::Directory) => Ok(Answer::NotAllowed),
-        None if store.free() == 0 => Ok(Answer::NotAllowed),
-        Some(Kind::File) | None => Ok(Answer::Ticks(store.install(slot, path)?)),
+        Some(Kind::Directory) => Ok(CallResult::NotAllowed),
+        None if store.free() == 0 => Ok(CallResult::NotAllowed),
+        Some(Kind::File) | None => Ok(CallResult::Ticks(store.install(slot, path)?)),
     }
 }
 

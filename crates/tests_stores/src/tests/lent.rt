@@ -1,7 +1,7 @@
 //! The store inside an arena, looked up and read by names that are lent out of octets; and the checksum of a file in
 //! both stores.
 
-use super::calls::{Asked, parsed};
+use super::calls::{StoreCall, parsed};
 use super::steps::{BLOCKS, Existing, Step, performs, puts, take, takes};
 use cfdp_actions::{Filestore, Kind, ListStore, Protected, entry_checksum};
 use cfdp_paths::{Memory, Names, Path};
@@ -13,9 +13,9 @@ use std::process::Abort;
 const MAKES: &[Step<'static>] = &[
     performs!(CreateDirectory, b"d" => status 0x50, ticks 1, free 63),
     performs!(CreateFile, b"e" => status 0x00, ticks 1, free 62),
-    takes!(Asked::Extend(0, 5) => ticks 1, free 61),
+    takes!(StoreCall::Extend(0, 5) => ticks 1, free 61),
     puts!(slot 0, at 0, b"abcde"),
-    takes!(Asked::Install(0, b"d/f") => ticks 1, free 60),
+    takes!(StoreCall::Install(0, b"d/f") => ticks 1, free 60),
 ];
 
 /// What exists, also with a `/` in front. The octets of `d/f` are the words 61 62 63 64 and 65 00 00 00.
@@ -192,9 +192,9 @@ fn sum_written<S: Filestore>(
     let blocks = octets.len().div_ceil(120).min(64) as u32;
     let free = BLOCKS.saturating_sub(blocks);
     let steps = [
-        takes!(Asked::Extend(0, octets.len() as u64) => ticks blocks, free free),
+        takes!(StoreCall::Extend(0, octets.len() as u64) => ticks blocks, free free),
         puts!(slot 0, at 0, octets),
-        takes!(Asked::Install(0, b"sum") => ticks 1, free free.saturating_sub(1)),
+        takes!(StoreCall::Install(0, b"sum") => ticks 1, free free.saturating_sub(1)),
     ];
     take(rt, alloc, store, &Protected::new(), "written", &steps)?;
     let path = parsed(alloc, b"sum")?;

@@ -1,9 +1,9 @@
 //! A `TreeStore` of as many blocks as there may be: a staged list that takes all that is left, and a path of as many
 //! and as long names as there may be. `.ci/run_scripts` has a directory of 4,096 entries.
 
-use super::calls::{Asked, deepest, parsed};
+use super::calls::{StoreCall, deepest, parsed};
 use super::steps::{
-    Existing, Script, Shown, Step, are_existing, are_listed, performs, puts, run, shows_octets,
+    Existing, NamedSteps, Shown, Step, are_existing, are_listed, performs, puts, run, shows_octets,
     shows_staged, take, takes,
 };
 use cfdp_actions::{Filestore, Kind, Protected};
@@ -27,9 +27,9 @@ const CHECKSUM: u32 = 0xab2f_bfb5;
 const A_LIST_TAKES_ALL_THAT_IS_LEFT: &[Step<'static>] = &[
     performs!(CreateDirectory, b"d" => status 0x50, ticks 1, free 65_535),
     performs!(CreateFile, b"d/f" => status 0x00, ticks 1, free 65_534),
-    takes!(Asked::Extend(63, 1) => ticks 1, free 65_533),
-    takes!(Asked::Extend(63, 3_600_000) => ticks 29_999, free 35_534),
-    takes!(Asked::Extend(63, LONGEST) => ticks 35_534, free 0),
+    takes!(StoreCall::Extend(63, 1) => ticks 1, free 65_533),
+    takes!(StoreCall::Extend(63, 3_600_000) => ticks 29_999, free 35_534),
+    takes!(StoreCall::Extend(63, LONGEST) => ticks 35_534, free 0),
     puts!(slot 63, at LONGEST - 4, b"last"),
     puts!(slot 63, at 3_599_998, b"middle"),
     puts!(slot 63, at 0, b"first"),
@@ -37,7 +37,7 @@ const A_LIST_TAKES_ALL_THAT_IS_LEFT: &[Step<'static>] = &[
     shows_staged!(slot 63, size LONGEST, at 3_599_998, b"middle"),
     shows_staged!(slot 63, size LONGEST, at LONGEST - 4, b"last"),
     Step::Shows(Shown::StagedChecksum(63, CHECKSUM)),
-    takes!(Asked::Install(63, b"d/f") => ticks 0, free 0),
+    takes!(StoreCall::Install(63, b"d/f") => ticks 0, free 0),
     shows_staged!(slot 63, size 0, at 0, b""),
     shows_octets!(b"d/f", size LONGEST, at 0, b"first"),
     shows_octets!(b"d/f", size LONGEST, at 3_599_998, b"middle"),
@@ -49,14 +49,14 @@ const A_LIST_TAKES_ALL_THAT_IS_LEFT: &[Step<'static>] = &[
 
 /// The octets of all blocks are staged, and given back.
 const A_LIST_TAKES_ALL_BLOCKS: &[Step<'static>] = &[
-    takes!(Asked::Extend(63, 65_536 * 120) => ticks BLOCKS, free 0),
-    takes!(Asked::Unstage(63) => ticks BLOCKS, free BLOCKS),
+    takes!(StoreCall::Extend(63, 65_536 * 120) => ticks BLOCKS, free 0),
+    takes!(StoreCall::Unstage(63) => ticks BLOCKS, free BLOCKS),
 ];
 
 #[test]
 fn a_list_takes_all_blocks(rt: HostRuntime) -> Result<(), Memory> {
     let mut store = TreeStore::new(rt.alloc(), BLOCKS)?;
-    let script = Script {
+    let script = NamedSteps {
         name: "a list takes all blocks",
         parts: &[A_LIST_TAKES_ALL_BLOCKS, A_LIST_TAKES_ALL_THAT_IS_LEFT],
     };
@@ -121,9 +121,9 @@ fn made(alloc: Global, path: &[u8]) -> Result<Vec<Step<'_>>, Memory> {
 /// Makes the file.
 fn delivered(file: &[u8]) -> [Step<'_>; 4] {
     [
-        takes!(Asked::Extend(0, 6) => ticks 1, free 65_528),
+        takes!(StoreCall::Extend(0, 6) => ticks 1, free 65_528),
         puts!(slot 0, at 0, b"octets"),
-        takes!(Asked::Install(0, file) => ticks 1, free 65_527),
+        takes!(StoreCall::Install(0, file) => ticks 1, free 65_527),
         shows_octets!(file, size 6, at 0, b"octets"),
     ]
 }

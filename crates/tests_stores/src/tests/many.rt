@@ -1,7 +1,7 @@
 //! A store of more than forty entries in several directories, and each change of it with ample memory. `worked` runs
 //! these scripts.
 
-use super::calls::Asked;
+use super::calls::StoreCall;
 use super::steps::{Existing, Script, Shown, Step, performs, puts, shows_octets, takes};
 use cfdp_actions::Kind;
 
@@ -103,9 +103,9 @@ const EXISTING: &[Existing<'static>] = &[
 
 /// Octets that are installed and appended, that replace others, and that are given back.
 const MOVE_OCTETS: &[Step<'static>] = &[
-    takes!(Asked::Extend(0, 121) => ticks 2, free 17),
+    takes!(StoreCall::Extend(0, 121) => ticks 2, free 17),
     puts!(slot 0, at 0, SEVENS),
-    takes!(Asked::Install(0, b"b/3") => ticks 0, free 17),
+    takes!(StoreCall::Install(0, b"b/3") => ticks 0, free 17),
     performs!(AppendFile, b"b/3", b"b/3" => status 0x30, ticks 3, free 16),
     performs!(AppendFile, b"c/1", b"b/3" => status 0x30, ticks 6, free 13),
     performs!(ReplaceFile, b"d/8", b"c/1" => status 0x40, ticks 6, free 10),

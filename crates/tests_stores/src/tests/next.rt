@@ -3,7 +3,7 @@
 ghost use Rattle.std.specs.Prelude.{All};
 ghost use Rattle.cfdp_paths.specs.Paths.{IsName};
 
-use super::calls::{Asked, parsed};
+use super::calls::{StoreCall, parsed};
 use super::steps::{BLOCKS, Existing, Step, performs, puts, take, takes};
 use cfdp_actions::{Kind, Protected};
 use cfdp_paths::{Memory, Names};
@@ -18,9 +18,9 @@ const MAKES: &[Step<'static>] = &[
     performs!(CreateDirectory, b"a" => status 0x50, ticks 1, free 61),
     performs!(CreateFile, b"a!" => status 0x00, ticks 1, free 60),
     performs!(CreateDirectory, b"a/b" => status 0x50, ticks 1, free 59),
-    takes!(Asked::Extend(0, 3) => ticks 1, free 58),
+    takes!(StoreCall::Extend(0, 3) => ticks 1, free 58),
     puts!(slot 0, at 0, b"abc"),
-    takes!(Asked::Install(0, b"a/b/c") => ticks 1, free 57),
+    takes!(StoreCall::Install(0, b"a/b/c") => ticks 1, free 57),
 ];
 
 /// What exists, in path order: names are compared whole, so that what is below `a` is before `a!`. The octets of

@@ -1,8 +1,8 @@
 //! More names of one hash than the index of the store inside an arena has in a list: they are found, listed, removed
 //! and renamed like others. `worked` runs these scripts.
 
-use super::calls::Asked;
-use super::steps::{Existing, Script, Shown, Step, performs, puts, shows_octets, takes};
+use super::calls::StoreCall;
+use super::steps::{Existing, NamedSteps, Shown, Step, performs, puts, shows_octets, takes};
 use cfdp_actions::Kind;
 use std::hash::{FoldHasher, Hasher};
 
@@ -152,9 +152,9 @@ const IN_DIRECTORIES: &[Step<'static>] = &[
     performs!(RemoveDirectory, K => status 0x62, ticks 0, free 51),
     performs!(RenameFile, IN_K, BELOW_A => status 0x20, ticks 0, free 51),
     performs!(RemoveDirectory, K => status 0x60, ticks 1, free 52),
-    takes!(Asked::Extend(0, 3) => ticks 1, free 51),
+    takes!(StoreCall::Extend(0, 3) => ticks 1, free 51),
     puts!(slot 0, at 0, b"abc"),
-    takes!(Asked::Install(0, BELOW_K) => ticks 1, free 50),
+    takes!(StoreCall::Install(0, BELOW_K) => ticks 1, free 50),
     performs!(CreateFile, BELOW_B => status 0x00, ticks 1, free 49),
     performs!(ReplaceFile, BELOW_B, BELOW_K => status 0x40, ticks 2, free 48),
     performs!(AppendFile, J, BELOW_B => status 0x30, ticks 2, free 47),
@@ -167,20 +167,20 @@ const IN_DIRECTORIES: &[Step<'static>] = &[
     Step::Shows(Shown::Deepest(IN_K, None)),
 ];
 
-pub static SCRIPTS: [Script<'static>; 4] = [
-    Script {
+pub static SCRIPTS: [NamedSteps<'static>; 4] = [
+    NamedSteps {
         name: "finds",
         parts: &[CREATES, FINDS],
     },
-    Script {
+    NamedSteps {
         name: "removes",
         parts: &[CREATES, REMOVES],
     },
-    Script {
+    NamedSteps {
         name: "renames",
         parts: &[CREATES, RENAMES],
     },
-    Script {
+    NamedSteps {
         name: "in directories",
         parts: &[CREATES, IN_DIRECTORIES],
     },

@@ -4,8 +4,8 @@
 ghost use Rattle.std.specs.Prelude.{◌<◌, ◌≤◌};
 
 use super::calls::{
-    Answer, Asked, checksum, deepest, parsed, read, read_staged, request, size, staged_size,
-    unstage,
+    CallResult, StoreCall, checksum, deepest, parsed, read, read_staged, request, size,
+    staged_size, unstage,
 };
 use cfdp_actions::{ExistingNode, Filestore, Kind, ListStore, Protected, Request, refusal};
 use cfdp_paths::{Memory, Path};
@@ -50,7 +50,7 @@ impl Random {
         alloc: Global,
         store: &S,
         task: Task,
-    ) -> Result<Names, Memory> {
+    ) -> Result<NamePair, Memory> {
         let is_directory = task.is_of_directories();
         let mut names = (self.name(is_directory), self.name(is_directory));
         for _ in 0..self.below(16) {
@@ -119,10 +119,10 @@ static FILES: [&[u8]; 18] = [
 ];
 
 /// The names that something is done to: the second one only where the action has two.
-type Names = (&'static [u8], &'static [u8]);
+type NamePair = (&'static [u8], &'static [u8]);
 
 /// The second name of the action; empty where it has none.
-fn second_of(action: Action, names: Names) -> &'static [u8] {
+fn second_of(action: Action, names: NamePair) -> &'static [u8] {
     if action.has_second() { names.1 } else { b"" }
 }
 
@@ -150,7 +150,7 @@ impl Task {
         self,
         alloc: Global,
         store: &S,
-        names: Names,
+        names: NamePair,
     ) -> Result<bool, Memory> {
         match self {
             Task::Perform(action) => is_refused(alloc, store, action, names),
@@ -164,7 +164,7 @@ fn is_refused<S: Filestore>(
     alloc: Global,
     store: &S,
     action: Action,
-    names: Names,
+    names: NamePair,
 ) -> Result<bool, Memory> {
     let request = request(alloc, action, names.0, second_of(action, names))?;
     Ok(refusal(store, &request).is_some())
@@ -245,7 +245,7 @@ impl Reach {
 #[derive(Drop)]
 struct Operation {
     task: Task,
-    names: Names,
+    names: NamePair,
     slot: u8,
     at: u64,
     octets: Vec<u8>,
@@ -278,15 +278,19 @@ impl Random {
 
 impl Operation {
     /// What is asked of each store.
-    fn asked(&self) -> Asked<'_> {
+    fn asked(&self) -> StoreCall<'_> {
         let (first, _) = self.names;
         let count = self.octets.len() as u64;
         match self.task {
-            Task::Perform(action) => Asked::Perform(action, first, second_of(action, self.names)),
-            Task::Extend => Asked::Extend(self.slot, self.at.saturating_add(count)),
-            Task::Put => Asked::Put(self.slot, self.at, &self.octets),
-            Task::Unstage => Asked::Unstage(self.slot),
-            Task::Install => Asked::Install(self.slot, first),
+            Task::Perform(action) => StoreCall::Perform(
+                action,
+                first,
+                second_of(action, self.names),
+            ),
+            Task::Extend => StoreCall::Extend(self.slot, self.at.saturating_add(count)),
+            Task::Put => StoreCall::Put(self.slot, self.at, &self.octets),
+            Task::Unstage => StoreCall::Unstage(self.slot),
+            Task::Install => StoreCall::Install(self.slot, first),
         }
     }
 }
@@ -402,7 +406,7 @@ fn staged_checksum<S: Filestore>(store: &S, slot: u8) -> Option<u32> {
 }
 
 /// Drops all that is staged: the answers.
-fn all_unstaged<S: Filestore>(alloc: Global, store: &mut S) -> Result<Vec<Answer>, Memory> {
+fn all_unstaged<S: Filestore>(alloc: Global, store: &mut S) -> Result<Vec<CallResult>, Memory> {
     let mut all = Vec::new(alloc);
     for slot in 0..SLOTS {
         all.push(unstage(store, slot.wrapping_mul(21)))?;
@@ -465,13 +469,13 @@ impl<L: Filestore, T: Filestore> Pair<L, T> {
 
 /// A script, and how far it has come.
 #[derive(Drop)]
-struct Script<L, T> {
+struct RandomRun<L, T> {
     random: Random,
     reach: Reach,
     pair: Pair<L, T>,
 }
 
-impl<L: Filestore, T: Filestore> Script<L, T> {
+impl<L: Filestore, T: Filestore> RandomRun<L, T> {
     /// One operation: both stores give the same answer.
     fn go_on(&mut self, rt: &impl Abort, alloc: Global, work: &Work) -> Result<(), Memory> {
         let operation = self
@@ -528,7 +532,7 @@ fn run(rt: &impl Abort, alloc: Global, blocks: u32, reach: Reach, rounds: u32) -
     requires some { 1 ≤ blocks }
     requires few { blocks ≤ 65536 }
 {
-    let mut script = Script {
+    let mut script = RandomRun {
         random: Random {
             state: u64::from(blocks),
         },

@@ -3,8 +3,8 @@
 //! the allocation is the test's own, the test ends. With every allocation granted each call succeeds at once. Of a
 //! `TreeStore` no change can be refused.
 
-use super::calls::{Asked, read_staged, staged_size};
-use super::steps::{BLOCKS, Script, Shown, Step, performs, puts, shows_staged, takes};
+use super::calls::{StoreCall, read_staged, staged_size};
+use super::steps::{BLOCKS, NamedSteps, Shown, Step, performs, puts, shows_staged, takes};
 use cfdp_actions::{Entry, Filestore, Kind, ListStore, Protected};
 use cfdp_paths::Memory;
 use cfdp_tree::TreeStore;
@@ -77,7 +77,7 @@ fn take_at_last<S: Filestore, R: Abort + Print>(
 const NEW: &[Step<'static>] = &[
     Step::Shows(Shown::Listing(&[])),
     shows_staged!(slot SLOT, size 0, at 0, b""),
-    takes!(Asked::Unstage(SLOT) => ticks 0, free BLOCKS),
+    takes!(StoreCall::Unstage(SLOT) => ticks 0, free BLOCKS),
 ];
 
 const CREATES: &[Step<'static>] = &[
@@ -117,17 +117,17 @@ const ONES: &[u8] = &[1; 120];
 
 /// What is delivered at `a` takes blocks of its own: one where it is staged, and one for the file.
 const APPENDS: &[Step<'static>] = &[
-    takes!(Asked::Extend(SLOT, 120) => ticks 1, free 63),
+    takes!(StoreCall::Extend(SLOT, 120) => ticks 1, free 63),
     puts!(slot SLOT, at 0, ONES),
-    takes!(Asked::Install(SLOT, b"a") => ticks 1, free 62),
+    takes!(StoreCall::Install(SLOT, b"a") => ticks 1, free 62),
     performs!(AppendFile, b"a", b"a" => status 0x30, ticks 2, free 61),
     Step::Shows(Shown::Listing(&[(b"a", Kind::File, 240, 0x3c3c_3c3c)])),
 ];
 
 const REPLACES: &[Step<'static>] = &[
-    takes!(Asked::Extend(SLOT, 120) => ticks 1, free 63),
+    takes!(StoreCall::Extend(SLOT, 120) => ticks 1, free 63),
     puts!(slot SLOT, at 0, ONES),
-    takes!(Asked::Install(SLOT, b"a") => ticks 1, free 62),
+    takes!(StoreCall::Install(SLOT, b"a") => ticks 1, free 62),
     performs!(CreateFile, b"b" => status 0x00, ticks 1, free 61),
     performs!(ReplaceFile, b"b", b"a" => status 0x40, ticks 2, free 60),
     Step::Shows(Shown::Listing(&[
@@ -138,13 +138,13 @@ const REPLACES: &[Step<'static>] = &[
 
 /// What is staged grows, is installed where nothing exists, and then over the file.
 const STAGES_AND_INSTALLS: &[Step<'static>] = &[
-    takes!(Asked::Extend(SLOT, 4) => ticks 1, free 63),
-    takes!(Asked::Extend(SLOT, 120) => ticks 0, free 63),
+    takes!(StoreCall::Extend(SLOT, 4) => ticks 1, free 63),
+    takes!(StoreCall::Extend(SLOT, 120) => ticks 0, free 63),
     puts!(slot SLOT, at 0, ONES),
-    takes!(Asked::Install(SLOT, b"a") => ticks 1, free 62),
-    takes!(Asked::Extend(SLOT, 4) => ticks 1, free 61),
+    takes!(StoreCall::Install(SLOT, b"a") => ticks 1, free 62),
+    takes!(StoreCall::Extend(SLOT, 4) => ticks 1, free 61),
     puts!(slot SLOT, at 0, &[1; 4]),
-    takes!(Asked::Install(SLOT, b"a") => ticks 1, free 62),
+    takes!(StoreCall::Install(SLOT, b"a") => ticks 1, free 62),
     shows_staged!(slot SLOT, size 0, at 0, b""),
     Step::Shows(Shown::Listing(&[(b"a", Kind::File, 4, 0x0101_0101)])),
 ];
@@ -160,43 +160,47 @@ const WHAT_EXISTS: &[Step<'static>] = &[
 ];
 
 /// Each is run in stores of its own.
-static SCRIPTS: [Script<'static>; 8] = [
-    Script {
+static SCRIPTS: [NamedSteps<'static>; 8] = [
+    NamedSteps {
         name: "new",
         parts: &[NEW],
     },
-    Script {
+    NamedSteps {
         name: "creates",
         parts: &[CREATES],
     },
-    Script {
+    NamedSteps {
         name: "renames",
         parts: &[RENAMES],
     },
-    Script {
+    NamedSteps {
         name: "removes",
         parts: &[REMOVES],
     },
-    Script {
+    NamedSteps {
         name: "appends",
         parts: &[APPENDS],
     },
-    Script {
+    NamedSteps {
         name: "replaces",
         parts: &[REPLACES],
     },
-    Script {
+    NamedSteps {
         name: "stages and installs",
         parts: &[STAGES_AND_INSTALLS],
     },
-    Script {
+    NamedSteps {
         name: "what exists",
         parts: &[WHAT_EXISTS],
     },
 ];
 
 /// Runs the script in a new store of each kind.
-fn run_at_last<R: Abort + Print>(rt: &R, alloc: Global, script: &Script<'_>) -> Result<(), Memory> {
+fn run_at_last<R: Abort + Print>(
+    rt: &R,
+    alloc: Global,
+    script: &NamedSteps<'_>,
+) -> Result<(), Memory> {
     let (mut lists, mut tree) = (
         ListStore::new(alloc, BLOCKS)?,
         TreeStore::new(alloc, BLOCKS)?,
@@ -213,14 +217,14 @@ const MORE_BLOCKS: u32 = 257;
 
 /// Of 60 staged blocks the last one is written first, then the first one, and then the 33rd one.
 const WRITES_OUT_OF_ORDER: &[Step<'static>] = &[
-    takes!(Asked::Extend(SLOT, 7_200) => ticks 60, free 197),
+    takes!(StoreCall::Extend(SLOT, 7_200) => ticks 60, free 197),
     puts!(slot SLOT, at 7_080, ONES),
     puts!(slot SLOT, at 0, ONES),
     puts!(slot SLOT, at 3_840, ONES),
     shows_staged!(slot SLOT, size 7_200, at 7_080, ONES),
     shows_staged!(slot SLOT, size 7_200, at 0, ONES),
     shows_staged!(slot SLOT, size 7_200, at 3_840, ONES),
-    takes!(Asked::Unstage(SLOT) => ticks 60, free MORE_BLOCKS),
+    takes!(StoreCall::Unstage(SLOT) => ticks 60, free MORE_BLOCKS),
 ];
 
 /// A store of more blocks. If one of its allocations is refused, the next call makes it.

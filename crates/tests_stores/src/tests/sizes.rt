@@ -1,6 +1,6 @@
 //! Octets of sizes around those of whole blocks: staged in pieces, appended to others and to themselves, and replaced.
 
-use super::calls::Asked;
+use super::calls::StoreCall;
 use super::steps::{
     BLOCKS, Script, Step, performs, puts, run_on_both, shows_octets, shows_staged, takes,
 };
@@ -56,9 +56,9 @@ fn push_file<'a>(
     let taken = blocks(octets.len());
     let used = used.wrapping_add(taken);
     steps.extend_from_slice(&[
-        takes!(Asked::Extend(0, octets.len() as u64) => ticks taken, free all_but(used)),
+        takes!(StoreCall::Extend(0, octets.len() as u64) => ticks taken, free all_but(used)),
         puts!(slot 0, at 0, octets),
-        takes!(Asked::Install(0, name) => ticks 1, free all_but(used.wrapping_add(1))),
+        takes!(StoreCall::Install(0, name) => ticks 1, free all_but(used.wrapping_add(1))),
     ])?;
     Ok(())
 }
@@ -185,15 +185,15 @@ fn push_growth<'a>(
     let whole = part(octets, 0, size);
     let beginning = part(whole, 0, begun);
     steps.extend_from_slice(&[
-        takes!(Asked::Extend(SLOT, begun as u64) => ticks first, free all_but(first)),
+        takes!(StoreCall::Extend(SLOT, begun as u64) => ticks first, free all_but(first)),
         puts!(slot SLOT, at 0, beginning),
-        takes!(Asked::Extend(SLOT, size as u64) => ticks last.wrapping_sub(first), free all_but(last)),
+        takes!(StoreCall::Extend(SLOT, size as u64) => ticks last.wrapping_sub(first), free all_but(last)),
         is_staged(size, 0, beginning),
         is_staged(size, begun, part(&ZEROS, begun, size)),
         puts!(slot SLOT, at begun as u64, part(whole, begun, middle)),
         puts!(slot SLOT, at middle as u64, part(whole, middle, size)),
         is_staged(size, 0, whole),
-        takes!(Asked::Unstage(SLOT) => ticks last, free BLOCKS),
+        takes!(StoreCall::Unstage(SLOT) => ticks last, free BLOCKS),
     ])?;
     Ok(())
 }

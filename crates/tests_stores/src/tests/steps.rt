@@ -1,7 +1,7 @@
 //! Steps of scripts as rows of tables: what is asked of a store and what results from it, and what the store shows.
 
 use super::calls::{
-    Answer, Asked, checksum, deepest, parsed, read, read_staged, size, staged_size,
+    CallResult, StoreCall, checksum, deepest, parsed, read, read_staged, size, staged_size,
 };
 use cfdp_actions::{Entry, ExistingNode, Filestore, Kind, ListStore, Protected};
 use cfdp_paths::{Memory, Path};
@@ -30,7 +30,7 @@ pub enum Step<'a> {
     },
     /// What is asked comes to ticks and free blocks.
     Takes {
-        asked: Asked<'a>,
+        asked: StoreCall<'a>,
         ticks: u32,
         free: u32,
     },
@@ -169,8 +169,8 @@ impl<'a> Step<'a> {
                 ticks,
                 free,
             } => {
-                let asked = Asked::Perform(*action, first, second);
-                let answer = Answer::Performed(*status, *ticks);
+                let asked = StoreCall::Perform(*action, first, second);
+                let answer = CallResult::Performed(*status, *ticks);
                 comes_to(alloc, store, protected, &asked, &answer, *free)
             }
             Step::Takes { asked, ticks, free } => {
@@ -179,14 +179,14 @@ impl<'a> Step<'a> {
                     store,
                     protected,
                     asked,
-                    &Answer::Ticks(*ticks),
+                    &CallResult::Ticks(*ticks),
                     *free,
                 )
             }
             Step::Puts { slot, at, octets } => {
                 let free = store.free();
-                let asked = Asked::Put(*slot, *at, octets);
-                comes_to(alloc, store, protected, &asked, &Answer::Put, free)
+                let asked = StoreCall::Put(*slot, *at, octets);
+                comes_to(alloc, store, protected, &asked, &CallResult::Put, free)
             }
             Step::Shows(shown) => shown.holds(alloc, store),
         }
@@ -198,8 +198,8 @@ fn comes_to<S: Filestore>(
     alloc: Global,
     store: &mut S,
     protected: &Protected,
-    asked: &Asked<'_>,
-    answer: &Answer,
+    asked: &StoreCall<'_>,
+    answer: &CallResult,
     free: u32,
 ) -> Result<bool, Memory> {
     let found = asked.answer(alloc, store, protected)?;
@@ -308,7 +308,7 @@ fn texts(alloc: Global, listing: &[Entry]) -> Result<Vec<u8>, Memory> {
 
 /// Steps under a name, in parts that follow one another.
 #[derive(Drop)]
-pub struct Script<'a> {
+pub struct NamedSteps<'a> {
     pub name: &'a str,
     pub parts: &'a [&'a [Step<'a>]],
 }
@@ -336,7 +336,7 @@ pub fn run<S: Filestore>(
     alloc: Global,
     store: &mut S,
     protected: &Protected,
-    script: &Script<'_>,
+    script: &NamedSteps<'_>,
 ) -> Result<(), Memory> {
     for steps in script.parts {
         take(rt, alloc, store, protected, script.name, steps)?;
@@ -349,7 +349,7 @@ pub fn run_on_both(
     rt: &impl Abort,
     alloc: Global,
     protected: &Protected,
-    script: &Script<'_>,
+    script: &NamedSteps<'_>,
 ) -> Result<(), Memory> {
     run(
         rt,

@@ -1,9 +1,10 @@
 //! Worked scripts, each run on a `ListStore` and a `TreeStore` of 64 blocks. Eight protected paths are in
 //! `.ci/cases/run/lines.txt`.
 
-use super::calls::{Asked, parsed};
+use super::calls::{StoreCall, parsed};
 use super::steps::{
-    Existing, Script, Shown, Step, performs, puts, run_on_both, shows_octets, shows_staged, takes,
+    Existing, NamedSteps, Shown, Step, performs, puts, run_on_both, shows_octets, shows_staged,
+    takes,
 };
 use super::{many, one_hash};
 use cfdp_actions::{Filestore, Kind, ListStore, Protected};
@@ -84,27 +85,27 @@ const BLOCK: &[u8] = &[1; 120];
 const SHORT: &[u8] = &[1; 119];
 
 const APPENDS_A_BLOCK_TO_ITSELF: &[Step<'static>] = &[
-    takes!(Asked::Extend(0, 120) => ticks 1, free 63),
+    takes!(StoreCall::Extend(0, 120) => ticks 1, free 63),
     puts!(slot 0, at 0, BLOCK),
-    takes!(Asked::Install(0, b"a") => ticks 1, free 62),
+    takes!(StoreCall::Install(0, b"a") => ticks 1, free 62),
     performs!(AppendFile, b"a", b"a" => status 0x30, ticks 2, free 61),
     Step::Shows(Shown::Listing(&[(b"a", Kind::File, 240, 0x3c3c_3c3c)])),
     shows_octets!(b"a", size 240, at 0, ONES),
 ];
 
 const APPENDS_A_SHORT_FILE_TO_ITSELF: &[Step<'static>] = &[
-    takes!(Asked::Extend(0, 119) => ticks 1, free 63),
+    takes!(StoreCall::Extend(0, 119) => ticks 1, free 63),
     puts!(slot 0, at 0, SHORT),
-    takes!(Asked::Install(0, b"a") => ticks 1, free 62),
+    takes!(StoreCall::Install(0, b"a") => ticks 1, free 62),
     performs!(AppendFile, b"a", b"a" => status 0x30, ticks 2, free 61),
     Step::Shows(Shown::Listing(&[(b"a", Kind::File, 238, 0x3c3c_3b3b)])),
 ];
 
 /// A copy of a file over it and beside it, and three octets over the copy.
 const REPLACES: &[Step<'static>] = &[
-    takes!(Asked::Extend(0, 120) => ticks 1, free 63),
+    takes!(StoreCall::Extend(0, 120) => ticks 1, free 63),
     puts!(slot 0, at 0, BLOCK),
-    takes!(Asked::Install(0, b"a") => ticks 1, free 62),
+    takes!(StoreCall::Install(0, b"a") => ticks 1, free 62),
     performs!(ReplaceFile, b"a", b"a" => status 0x40, ticks 0, free 62),
     performs!(CreateFile, b"b" => status 0x00, ticks 1, free 61),
     performs!(ReplaceFile, b"b", b"a" => status 0x40, ticks 2, free 60),
@@ -112,9 +113,9 @@ const REPLACES: &[Step<'static>] = &[
     Step::Shows(Shown::Checksum(b"a", Some(0x1e1e_1e1e))),
     shows_octets!(b"b", size 120, at 0, BLOCK),
     Step::Shows(Shown::Checksum(b"b", Some(0x1e1e_1e1e))),
-    takes!(Asked::Extend(0, 3) => ticks 1, free 59),
+    takes!(StoreCall::Extend(0, 3) => ticks 1, free 59),
     puts!(slot 0, at 0, b"xyz"),
-    takes!(Asked::Install(0, b"b") => ticks 1, free 60),
+    takes!(StoreCall::Install(0, b"b") => ticks 1, free 60),
     Step::Shows(Shown::ExistingNode(b"b", &[(b"b", Kind::File, 3, 0)])),
     shows_octets!(b"b", size 3, at 0, b"xyz"),
     Step::Shows(Shown::Checksum(b"b", Some(0x7879_7a00))),
@@ -122,21 +123,21 @@ const REPLACES: &[Step<'static>] = &[
 
 /// What is staged in the last slot takes all that another one leaves, and gives it back.
 const STAGES: &[Step<'static>] = &[
-    takes!(Asked::Extend(0, 7440) => ticks 62, free 2),
-    takes!(Asked::Extend(63, 121) => ticks 2, free 0),
+    takes!(StoreCall::Extend(0, 7440) => ticks 62, free 2),
+    takes!(StoreCall::Extend(63, 121) => ticks 2, free 0),
     shows_staged!(slot 63, size 121, at 118, &[0, 0, 0]),
     puts!(slot 63, at 119, b"ab"),
     shows_staged!(slot 63, size 121, at 118, &[0, b'a', b'b']),
-    takes!(Asked::Unstage(63) => ticks 2, free 2),
+    takes!(StoreCall::Unstage(63) => ticks 2, free 2),
     shows_staged!(slot 63, size 0, at 0, b""),
-    takes!(Asked::Unstage(0) => ticks 62, free 64),
+    takes!(StoreCall::Unstage(0) => ticks 62, free 64),
 ];
 
 /// The sum of what is staged after each piece: among zeros, over a part of the last one, over its beginning, and twice.
 /// Then over all with the greatest octets and with zeros, and after the list grew within a word. Then the sum of files
 /// that are appended within a word, and of one that is replaced.
 const KEEPS_SUMS: &[Step<'static>] = &[
-    takes!(Asked::Extend(0, 7) => ticks 1, free 63),
+    takes!(StoreCall::Extend(0, 7) => ticks 1, free 63),
     Step::Shows(Shown::StagedChecksum(0, 0)),
     puts!(slot 0, at 2, &[1, 2, 3]),
     Step::Shows(Shown::StagedChecksum(0, 0x0300_0102)),
@@ -152,16 +153,16 @@ const KEEPS_SUMS: &[Step<'static>] = &[
     Step::Shows(Shown::StagedChecksum(0, 0)),
     puts!(slot 0, at 4, &[1, 2, 3]),
     Step::Shows(Shown::StagedChecksum(0, 0x0102_0300)),
-    takes!(Asked::Extend(0, 9) => ticks 0, free 63),
+    takes!(StoreCall::Extend(0, 9) => ticks 0, free 63),
     Step::Shows(Shown::StagedChecksum(0, 0x0102_0300)),
     puts!(slot 0, at 7, &[4, 5]),
     Step::Shows(Shown::StagedChecksum(0, 0x0602_0304)),
-    takes!(Asked::Install(0, b"a") => ticks 1, free 62),
+    takes!(StoreCall::Install(0, b"a") => ticks 1, free 62),
     Step::Shows(Shown::StagedChecksum(0, 0)),
     Step::Shows(Shown::Checksum(b"a", Some(0x0602_0304))),
-    takes!(Asked::Extend(1, 5) => ticks 1, free 61),
+    takes!(StoreCall::Extend(1, 5) => ticks 1, free 61),
     puts!(slot 1, at 0, &[1, 2, 3, 4, 5]),
-    takes!(Asked::Install(1, b"b") => ticks 1, free 60),
+    takes!(StoreCall::Install(1, b"b") => ticks 1, free 60),
     Step::Shows(Shown::Checksum(b"b", Some(0x0602_0304))),
     performs!(AppendFile, b"a", b"b" => status 0x30, ticks 1, free 60),
     Step::Shows(Shown::Checksum(b"a", Some(0x0a08_0507))),
@@ -170,52 +171,52 @@ const KEEPS_SUMS: &[Step<'static>] = &[
     performs!(ReplaceFile, b"a", b"b" => status 0x40, ticks 3, free 60),
     Step::Shows(Shown::Checksum(b"a", Some(0x0d0c_0b09))),
     // What a file had is staged no more, once another one replaced it.
-    takes!(Asked::Extend(0, 4) => ticks 1, free 59),
+    takes!(StoreCall::Extend(0, 4) => ticks 1, free 59),
     puts!(slot 0, at 0, &[1]),
-    takes!(Asked::Install(0, b"b") => ticks 1, free 60),
+    takes!(StoreCall::Install(0, b"b") => ticks 1, free 60),
     Step::Shows(Shown::Checksum(b"b", Some(0x0100_0000))),
-    takes!(Asked::Extend(0, 2) => ticks 1, free 59),
+    takes!(StoreCall::Extend(0, 2) => ticks 1, free 59),
     puts!(slot 0, at 1, &[9]),
     Step::Shows(Shown::StagedChecksum(0, 0x0009_0000)),
-    takes!(Asked::Unstage(0) => ticks 1, free 60),
+    takes!(StoreCall::Unstage(0) => ticks 1, free 60),
     Step::Shows(Shown::StagedChecksum(0, 0)),
 ];
 
 /// Each is run on a store of its own.
-static SCRIPTS: [Script<'static>; 9] = [
-    Script {
+static SCRIPTS: [NamedSteps<'static>; 9] = [
+    NamedSteps {
         name: "keeps sums",
         parts: &[KEEPS_SUMS],
     },
-    Script {
+    NamedSteps {
         name: "creates and removes",
         parts: &[CREATES_AND_REMOVES],
     },
-    Script {
+    NamedSteps {
         name: "denies",
         parts: &[DENIES],
     },
-    Script {
+    NamedSteps {
         name: "moves a directory",
         parts: &[MOVES_A_DIRECTORY],
     },
-    Script {
+    NamedSteps {
         name: "moves no deeper than eight names",
         parts: &[MOVES_NO_DEEPER_THAN_EIGHT_NAMES],
     },
-    Script {
+    NamedSteps {
         name: "appends a block to itself",
         parts: &[APPENDS_A_BLOCK_TO_ITSELF],
     },
-    Script {
+    NamedSteps {
         name: "appends a short file to itself",
         parts: &[APPENDS_A_SHORT_FILE_TO_ITSELF],
     },
-    Script {
+    NamedSteps {
         name: "replaces",
         parts: &[REPLACES],
     },
-    Script {
+    NamedSteps {
         name: "stages",
         parts: &[STAGES],
     },
@@ -250,7 +251,7 @@ fn protects(rt: HostRuntime) -> Result<(), Memory> {
     let mut protected = Protected::new();
     let is_added = adds(rt.alloc(), &mut protected, b"sys/boot")?;
     assert!(rt; is_added, "a path is protected");
-    let script = Script {
+    let script = NamedSteps {
         name: "protects",
         parts: &[PROTECTS],
     };

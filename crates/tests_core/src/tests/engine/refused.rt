@@ -3,7 +3,7 @@
 
 use super::super::journal::journaled_tree;
 use super::scene::{Given, inbox};
-use super::workers::Open;
+use super::workers::OpenGate;
 use cfdp_engine::{Seat, Shared, Stop, Worked, close, work};
 use cfdp_paths::Memory;
 use cfdp_pdus::condition;
@@ -66,7 +66,7 @@ fn does_well<R: Wait>(
     counts: Counts,
 ) -> Result<bool, Memory> {
     let inbox = inbox(rt, alloc, given)?;
-    let worked = work(rt, alloc, shared, Seat::new(alloc, seat), inbox, &Open);
+    let worked = work(rt, alloc, shared, Seat::new(alloc, seat), inbox, &OpenGate);
     let well = is_well(&worked, seat, counts);
     seats.push(worked.seat)?;
     Ok(well)

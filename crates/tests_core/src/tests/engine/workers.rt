@@ -9,9 +9,9 @@ use std::alloc::Global;
 use std::sync::Wait;
 
 /// A gate that lets everybody pass.
-pub struct Open;
+pub struct OpenGate;
 
-impl Gate for Open {
+impl Gate for OpenGate {
     fn pass<R: Wait>(&self, _rt: &R, _seat: u8, _turn: u64) {}
 }
 
@@ -45,7 +45,7 @@ fn work_on<R: Wait>(
     given: &[Given],
 ) -> Result<(usize, usize, Option<Stop>), Memory> {
     let inbox = inbox(rt, alloc, given)?;
-    let worked = work(rt, alloc, shared, Seat::new(alloc, seat), inbox, &Open);
+    let worked = work(rt, alloc, shared, Seat::new(alloc, seat), inbox, &OpenGate);
     Ok((
         worked.seat.receipts().len(),
         worked.taken.len(),

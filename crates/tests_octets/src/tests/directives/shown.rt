@@ -10,7 +10,7 @@ use std::alloc::{AllocError, Global};
 
 /// Whose lengths and flags the header has.
 #[derive(Clone, Copy)]
-enum Kind {
+enum HeaderSize {
     /// Each name has one octet.
     Short,
     /// Entity IDs of two octets, and a sequence number of four.
@@ -23,16 +23,16 @@ enum Kind {
     Large,
 }
 
-static KINDS: [Kind; 5] = [
-    Kind::Short,
-    Kind::Middle,
-    Kind::Long,
-    Kind::Other,
-    Kind::Large,
+static KINDS: [HeaderSize; 5] = [
+    HeaderSize::Short,
+    HeaderSize::Middle,
+    HeaderSize::Long,
+    HeaderSize::Other,
+    HeaderSize::Large,
 ];
 
 /// A header of that kind.
-fn header_of(kind: Kind) -> Header
+fn header_of(kind: HeaderSize) -> Header
     ensures { IsHeader result }
 {
     let short = Header {
@@ -46,8 +46,8 @@ fn header_of(kind: Kind) -> Header
         destination: 2,
     };
     match kind {
-        Kind::Short => short,
-        Kind::Middle => Header {
+        HeaderSize::Short => short,
+        HeaderSize::Middle => Header {
             id_len: 2,
             number_len: 4,
             source: 0x0102,
@@ -55,7 +55,7 @@ fn header_of(kind: Kind) -> Header
             destination: 0xff03,
             ..short
         },
-        Kind::Long => Header {
+        HeaderSize::Long => Header {
             id_len: 8,
             number_len: 8,
             source: 0x0102_0304_0506_0708,
@@ -63,12 +63,12 @@ fn header_of(kind: Kind) -> Header
             destination: 9,
             ..short
         },
-        Kind::Other => Header {
+        HeaderSize::Other => Header {
             toward_sender: false,
             acknowledged: false,
             ..short
         },
-        Kind::Large => Header {
+        HeaderSize::Large => Header {
             large: true,
             ..short
         },
@@ -206,7 +206,7 @@ fn show_keep_alives(rt: &HostRuntime, header: &Header) -> Result<(), WriteFault>
 
 #[test]
 fn pdus_for_tshark(rt: HostRuntime) -> Result<(), WriteFault> {
-    show_acks(&rt, &header_of(Kind::Short))?;
+    show_acks(&rt, &header_of(HeaderSize::Short))?;
     for kind in KINDS {
         let header = header_of(kind);
         show_statuses(&rt, &header, directive::EOF, condition::NO_ERROR)?;

@@ -13,9 +13,9 @@ use std::alloc::Global;
 use std::cmp::Ordering;
 
 /// Octets that spell no path, and their fault.
-type Fault = (&'static [u8], PathFault);
+type FaultyPath = (&'static [u8], PathFault);
 
-static FAULTS: [(&str, Fault); 24] = [
+static FAULTS: [(&str, FaultyPath); 24] = [
     ("no octets", (b"", PathFault::Empty)),
     ("a / alone", (b"/", PathFault::Empty)),
     ("two / alone", (b"//", PathFault::EmptyName)),
@@ -63,7 +63,7 @@ static FAULTS: [(&str, Fault); 24] = [
     ),
 ];
 
-impl Row for Fault {
+impl Row for FaultyPath {
     fn holds(&self, alloc: Global) -> Result<bool, Memory> {
         Ok(
             Path::parse(alloc, self.0).err() == Some(self.1)

@@ -289,9 +289,9 @@ fn numbers_as_the_slow_reader(rt: HostRuntime) -> Result<(), AllocError> {
 
 // What is no PDU, and its fault, where `cfdp show` has another result: it reads CRCs, and skips a line of no octets.
 // Others are in `.ci/cases/{show, pdus}.txt`.
-type Fault = (&'static str, PduFault);
+type FaultyPdu = (&'static str, PduFault);
 
-static FAULTS: [(&str, Fault); 3] = [
+static FAULTS: [(&str, FaultyPdu); 3] = [
     ("no octets", ("", PduFault::Truncated)),
     (
         "a PDU with the CRC flag",
@@ -311,7 +311,7 @@ fn fault_in(alloc: Global, octets: &[u8]) -> Option<PduFault> {
     read_pdu(alloc, octets).err()
 }
 
-impl Row for Fault {
+impl Row for FaultyPdu {
     fn holds(&self, alloc: Global) -> Result<bool, AllocError> {
         let octets = octets(alloc, self.0)?;
         Ok(fault_in(alloc, &octets) == Some(self.1))

@@ -199,7 +199,7 @@ fn size_len(large: bool) -> usize
 
 // What is before the TLV fields of a Metadata PDU, and these.
 #[derive(Drop)]
-struct Asked<'a> {
+struct MetadataParts<'a> {
     flags: u8,
     size: u64,
     source: &'a [u8],
@@ -207,12 +207,12 @@ struct Asked<'a> {
     fields: &'a [u8],
 }
 
-fn read_asked(field: &[u8], size_len: usize) -> Option<Asked<'_>>
+fn read_asked(field: &[u8], size_len: usize) -> Option<MetadataParts<'_>>
     requires { size_len ≤ 8 }
 {
     let (source, rest) = counted(field.get(2 + size_len..)?)?;
     let (destination, fields) = counted(rest)?;
-    Some(Asked {
+    Some(MetadataParts {
         flags: octet(field, 1),
         size: number(field, 2, size_len),
         source,
@@ -311,7 +311,7 @@ fn piece(field: &[u8], segment_metadata: bool, size_len: usize) -> Option<(u64, 
 }
 
 // A File Data PDU's data field.
-fn file_data(alloc: Global, start: &Start<'_>) -> Result<Pdu, PduFault> {
+fn file_data(alloc: Global, start: &HeaderParts<'_>) -> Result<Pdu, PduFault> {
     let size_len = size_len(start.header.large);
     let Some((offset, octets)) = piece(start.field, start.segment_metadata, size_len) else {
         return Err(PduFault::LengthMismatch);
@@ -322,7 +322,7 @@ fn file_data(alloc: Global, start: &Start<'_>) -> Result<Pdu, PduFault> {
 
 // The header, and what is after it.
 #[derive(Drop)]
-struct Start<'a> {
+struct HeaderParts<'a> {
     header: Header,
     file_data: bool,
     segment_metadata: bool,
@@ -330,7 +330,7 @@ struct Start<'a> {
     field: &'a [u8],
 }
 
-fn read_start(octets: &[u8]) -> Option<Start<'_>> {
+fn read_start(octets: &[u8]) -> Option<HeaderParts<'_>> {
     let first = octet(octets, 0);
     let lens = octet(octets, 3);
     let id_len = lens / 16 % 8 + 1;
@@ -348,7 +348,7 @@ fn read_start(octets: &[u8]) -> Option<Start<'_>> {
         number: number(octets, number_at, usize::from(number_len)),
         destination: number(octets, destination_at, usize::from(id_len)),
     };
-    Some(Start {
+    Some(HeaderParts {
         header,
         file_data: first & 0x10 != 0,
         segment_metadata: lens & 0x08 != 0,
