@@ -2,7 +2,7 @@
 //! these scripts.
 
 use super::calls::StoreCall;
-use super::steps::{Existing, Script, Shown, Step, performs, puts, shows_octets, takes};
+use super::steps::{Existing, NamedSteps, Shown, Step, performs, puts, shows_octets, takes};
 use cfdp_actions::Kind;
 
 /// Five directories with eight empty files in each.
@@ -118,12 +118,12 @@ const MOVE_OCTETS: &[Step<'static>] = &[
     Step::Shows(Shown::ExistingNode(b"d", EXISTING)),
 ];
 
-pub static SCRIPTS: [Script<'static>; 2] = [
-    Script {
+pub static SCRIPTS: [NamedSteps<'static>; 2] = [
+    NamedSteps {
         name: "changes",
         parts: &[FILL, CHANGE],
     },
-    Script {
+    NamedSteps {
         name: "moves octets",
         parts: &[FILL, MOVE_OCTETS],
     },

@@ -2,7 +2,7 @@
 
 use super::calls::StoreCall;
 use super::steps::{
-    BLOCKS, Script, Step, performs, puts, run_on_both, shows_octets, shows_staged, takes,
+    BLOCKS, NamedSteps, Step, performs, puts, run_on_both, shows_octets, shows_staged, takes,
 };
 use cfdp_actions::Protected;
 use cfdp_paths::Memory;
@@ -103,7 +103,7 @@ fn files_are_appended(rt: HostRuntime) -> Result<(), Memory> {
             )?;
         }
     }
-    let script = Script {
+    let script = NamedSteps {
         name: "appends",
         parts: &[&steps],
     };
@@ -148,7 +148,7 @@ fn files_are_appended_to_themselves(rt: HostRuntime) -> Result<(), Memory> {
     for twice in &doubles {
         push_double(&mut steps, twice)?;
     }
-    let script = Script {
+    let script = NamedSteps {
         name: "doubles",
         parts: &[&steps],
     };
@@ -205,7 +205,7 @@ fn what_is_staged_grows(rt: HostRuntime) -> Result<(), Memory> {
     for growth in &GROWTHS {
         push_growth(&mut steps, &octets, growth)?;
     }
-    let script = Script {
+    let script = NamedSteps {
         name: "grows",
         parts: &[&steps],
     };
