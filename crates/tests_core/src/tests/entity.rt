@@ -216,7 +216,7 @@ fn apply<S: Filestore>(
 
 /// What stays the same when out of memory: how far a transaction is, what it was granted and whether it holds
 /// leases, the free blocks and those to spare, and the first transaction that is performed.
-type Books = (
+type KeptState = (
     Option<Phase>,
     Option<(u32, u32)>,
     bool,
@@ -224,7 +224,7 @@ type Books = (
     Option<TransactionId>,
 );
 
-fn books<S: Filestore>(core: &Core<S>, id: TransactionId) -> Books {
+fn kept_state<S: Filestore>(core: &Core<S>, id: TransactionId) -> KeptState {
     (
         core.phase(id),
         core.grant(id),
@@ -249,13 +249,13 @@ fn hand_in<S: Filestore>(
     twice: bool,
 ) -> Result<Reply, Memory> {
     let before = (
-        books(core, event.transaction()),
+        kept_state(core, event.transaction()),
         core.store().listing(alloc)?,
     );
     let reply = apply(rt, case, core, event, twice);
     if let Reply::Memory = reply {
         let after = (
-            books(core, event.transaction()),
+            kept_state(core, event.transaction()),
             core.store().listing(alloc)?,
         );
         assert!(rt;

@@ -11,66 +11,105 @@ use std::alloc::{AllocError, Global};
 use std::process::Abort;
 use std::sync::Arc;
 
+/// A name, an event, and the reply to it.
+type NamedEvent = (&'static str, Given, Replied);
+
 /// Four transactions one after another: a file that is created, neither a file nor requests, a file in two pieces,
 /// denials.
-static FOUR: [(Given, Replied); 20] = [
+static FOUR: [NamedEvent; 20] = [
     (
+        "metadata of 5, which creates a file",
         Given::Pdu("24000d0001050207400000000000000003000161"),
         Replied::Admitted(1, 2),
     ),
     (
+        "EOF of 5",
         Given::Pdu("24000a0001050204000000000000000000"),
         Replied::Complete,
     ),
-    (Given::Step(5), Replied::Performed(0x00)),
+    ("step of 5", Given::Step(5), Replied::Performed(0x00)),
     (
+        "outcome of 5",
         Given::Take(5),
         Replied::Finished("2c0008000105020503010400016100"),
     ),
     (
+        "metadata of 6, neither a file nor requests",
         Given::Pdu("240008000106020740000000000000"),
         Replied::Admitted(0, 0),
     ),
     (
+        "EOF of 6",
         Given::Pdu("24000a0001060204000000000000000000"),
         Replied::Done,
     ),
-    (Given::Step(6), Replied::Idle),
-    (Given::Take(6), Replied::Finished("2c0002000106020503")),
     (
+        "step of 6, which has nothing to do",
+        Given::Step(6),
+        Replied::Idle,
+    ),
+    (
+        "outcome of 6",
+        Given::Take(6),
+        Replied::Finished("2c0002000106020503"),
+    ),
+    (
+        "metadata of 10, a file",
         Given::Pdu("24000a00010a0207400000000f01730166"),
         Replied::Admitted(2, 2),
     ),
     (
+        "second piece of 10",
         Given::Pdu("34000b00010a020000000808090a0b0c0d0e"),
         Replied::Stored,
     ),
     (
+        "first piece of 10",
         Given::Pdu("34000e00010a020000000000010203040506070809"),
         Replied::Stored,
     ),
     (
+        "EOF of 10",
         Given::Pdu("24000a00010a020400181c20150000000f"),
         Replied::Complete,
     ),
-    (Given::Step(10), Replied::Installed),
-    (Given::Take(10), Replied::Finished("2c000200010a020502")),
+    ("install of 10", Given::Step(10), Replied::Installed),
     (
+        "outcome of 10",
+        Given::Take(10),
+        Replied::Finished("2c000200010a020502"),
+    ),
+    (
+        "metadata of 14, denials",
         Given::Pdu("24001400010e020740000000000000000370017a00058003792f7a"),
         Replied::Admitted(0, 2),
     ),
     (
+        "EOF of 14",
         Given::Pdu("24000a00010e0204000000000000000000"),
         Replied::Complete,
     ),
-    (Given::Step(14), Replied::Performed(0x70)),
-    (Given::Step(14), Replied::Performed(0x80)),
     (
+        "first denial of 14",
+        Given::Step(14),
+        Replied::Performed(0x70),
+    ),
+    (
+        "second denial of 14",
+        Given::Step(14),
+        Replied::Performed(0x80),
+    ),
+    (
+        "outcome of 14",
         Given::Take(14),
         Replied::Finished("2c001000010e020503010470017a0001068003792f7a00"),
     ),
     // After all of them the journal is full.
-    (Given::Cancel(14), Replied::JournalFull),
+    (
+        "cancellation of 14, after the journal is full",
+        Given::Cancel(14),
+        Replied::JournalFull,
+    ),
 ];
 
 /// Sixteen Metadata PDUs, of neither a file nor requests, of transactions of entity 3.
@@ -183,17 +222,14 @@ fn go_on(
     count: usize,
 ) -> Result<(), Memory> {
     let mut before = count;
-    for (given, replied) in &FOUR {
+    for (name, given, replied) in &FOUR {
         let replied = if before < 16 {
             *replied
         } else {
             Replied::JournalFull
         };
         let well = replies(rt, alloc, journaled, *given, replied)?;
-        assert!(rt;
-            well,
-            "event {before} from 0, after {count} fillers: another reply"
-        );
+        assert!(rt; well, "{name}, after {count} fillers: another reply");
         before = before.saturating_add(1);
     }
     Ok(())

@@ -1,7 +1,7 @@
 //! Moves of a directory with many entries, on a view that has as many others.
 
 use super::scene::{Before, Scene, request};
-use super::views::{Item, requests};
+use super::views::{AppliedRequest, requests};
 use cfdp_actions::{Request, perform};
 use cfdp_leases::footprint;
 use cfdp_paths::Memory;
@@ -20,7 +20,7 @@ static BEFORE: [Before; 2] = [
 ];
 
 /// One moves there and back, and the other is leased too.
-static MOVES: [Item; 3] = [
+static MOVES: [AppliedRequest; 3] = [
     (Action::RenameFile, b"moves", b"moved", 0x20),
     (Action::RenameFile, b"moved", b"moves", 0x20),
     (Action::RemoveDirectory, b"stays", b"", 0x62),

@@ -1,7 +1,7 @@
 //! A view of a store that describes one tree alone.
 
 use super::scene::{Before, Scene, path_of};
-use super::views::{Item, Row, requests, run};
+use super::views::{AppliedRequest, Row, requests, run};
 use cfdp_actions::{Entry, ExistingNode, Filestore, Kind, ListStore, Protected};
 use cfdp_leases::footprint;
 use cfdp_paths::{Memory, Path};
@@ -150,7 +150,7 @@ static IN_TREE: Row = (
 );
 
 /// The store does not describe this one.
-static OUTSIDE: [Item; 1] = [(Action::DeleteFile, b"other", b"", 0x10)];
+static OUTSIDE: [AppliedRequest; 1] = [(Action::DeleteFile, b"other", b"", 0x10)];
 
 /// Whether the store gives no listing.
 fn has_no_listing(alloc: Global, store: &OneTree<ListStore>) -> bool {

@@ -1,7 +1,7 @@
 //! A view after a request or an install for which there was no memory.
 
 use super::scene::{Before, Scene, path_of};
-use super::views::{Item, requests};
+use super::views::{AppliedRequest, requests};
 use cfdp_actions::Request;
 use cfdp_leases::footprint;
 use cfdp_paths::{Memory, Path};
@@ -17,7 +17,7 @@ static BEFORE: [Before; 2] = [
 ];
 
 /// After the install of `x`, a file of one block.
-static ITEMS: [Item; 4] = [
+static ITEMS: [AppliedRequest; 4] = [
     (Action::CreateFile, b"d/b", b"", 0x00),
     (Action::RenameFile, b"d", b"e", 0x20),
     (Action::AppendFile, b"e/a", b"x", 0x30),

@@ -11,13 +11,13 @@ use std::alloc::Global;
 use std::process::Abort;
 
 /// A request by its action and names, the second one empty where there is none, and the octet of its status.
-pub type Item = (Action, &'static [u8], &'static [u8], u8);
+pub type AppliedRequest = (Action, &'static [u8], &'static [u8], u8);
 
 /// A name; the destination and the bound of a file, where there is one; the requests; the need and the steps.
 pub type Row = (
     &'static str,
     Option<(&'static [u8], u64)>,
-    &'static [Item],
+    &'static [AppliedRequest],
     u32,
     u32,
 );
@@ -26,7 +26,7 @@ pub type Row = (
 type Case = (&'static [Before], &'static [Row]);
 
 /// The requests of a row.
-pub fn requests(alloc: Global, items: &[Item]) -> Result<Vec<Request>, Memory> {
+pub fn requests(alloc: Global, items: &[AppliedRequest]) -> Result<Vec<Request>, Memory> {
     let mut requests = Vec::new(alloc);
     for (action, first, second, _) in items {
         requests.push(request(alloc, *action, first, second)?)?;
@@ -40,7 +40,7 @@ fn apply(
     view: &mut View<'_>,
     name: &str,
     requests: &[Request],
-    items: &[Item],
+    items: &[AppliedRequest],
 ) -> Result<(), Memory> {
     for (index, (request, (_, _, _, status))) in requests.iter().zip(items).enumerate() {
         let replied = view.apply(request)?;
@@ -115,13 +115,13 @@ pub fn run<S: Filestore>(
     Ok(())
 }
 
-const GONE: &[Item] = &[
+const GONE: &[AppliedRequest] = &[
     (Action::CreateFile, b"a", b"", 0x00),
     (Action::RenameFile, b"a", b"b", 0x20),
     (Action::DeleteFile, b"a", b"", 0x11),
 ];
 
-const DOUBLED: &[Item] = &[(Action::AppendFile, b"a", b"a", 0x30)];
+const DOUBLED: &[AppliedRequest] = &[(Action::AppendFile, b"a", b"a", 0x30)];
 
 const FAILED_AND_GREATEST: &[Row] = &[
     ("a name that a rename took away", None, GONE, 1, 5),
@@ -142,7 +142,7 @@ const PROTECTED: &[Before] = &[
 ];
 
 /// One step for each request, and one for the file that would be deleted.
-const KEPT: &[Item] = &[
+const KEPT: &[AppliedRequest] = &[
     (Action::DeleteFile, b"sys/a", b"", 0x12),
     (Action::DenyDirectory, b"sys/z", b"", 0x82),
     (Action::RenameFile, b"sys", b"s", 0x23),
@@ -213,7 +213,7 @@ static DIRECTORY: [Before; 2] = [
 ];
 
 /// Requests, and what a view of each says of the sizes of `d/x` and `d`.
-static BOUNDS: [(Item, Option<u64>, Option<u64>); 2] = [
+static BOUNDS: [(AppliedRequest, Option<u64>, Option<u64>); 2] = [
     ((Action::CreateFile, b"d/y", b"", 0x00), None, None),
     ((Action::RemoveDirectory, b"d", b"", 0x62), Some(0), None),
 ];
@@ -225,7 +225,11 @@ fn bound_at(alloc: Global, view: &View<'_>, name: &[u8]) -> Result<Option<u64>, 
 }
 
 /// What a view of one request says of the sizes of `d/x` and `d`.
-fn bounds(alloc: Global, scene: &Scene, item: Item) -> Result<(Option<u64>, Option<u64>), Memory> {
+fn bounds(
+    alloc: Global,
+    scene: &Scene,
+    item: AppliedRequest,
+) -> Result<(Option<u64>, Option<u64>), Memory> {
     let requests = requests(alloc, &[item])?;
     let view = view_of(alloc, &scene.store, &scene.protected, &requests, None)?;
     Ok((

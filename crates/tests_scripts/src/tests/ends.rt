@@ -1,7 +1,7 @@
 //! What the program ends with: its status, and its line on standard error.
 use super::fakes::{Stream, Writer};
 use super::links::{CREATED, run};
-use super::runs::{Run, ScriptKind};
+use super::runs::{ScriptKind, StreamRun};
 use super::{Row, all_hold};
 use cfdp_sim::{LinkFault, Open, ProgramEnd, RunFault};
 use std::alloc::{AllocError, Global};
@@ -166,7 +166,7 @@ static ENDINGS: [(&str, EndedRun); 2] = [
 
 /// What the program ends with where the run of a script comes to this.
 fn end_of<R: Abort + Print>(rt: &R, alloc: Global, ending: &EndedRun) -> ProgramEnd {
-    let run = Run {
+    let run = StreamRun {
         kind: ending.kind,
         script: ending.script.as_bytes(),
         report: ending.report,

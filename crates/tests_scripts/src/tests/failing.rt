@@ -1,7 +1,7 @@
 //! Reads and writes that fail in mid-stream, and std's streams that are interrupted.
 use super::fakes::{Call, Reader, Scripted, Stream, Writer};
 use super::links::link;
-use super::runs::{Ran, Run, ScriptKind, has_text};
+use super::runs::{Ran, ScriptKind, StreamRun, has_text};
 use super::{REPLAY_REPORT, REPLAY_SCRIPT, REPORT, Row, SCRIPT, all_hold};
 use cfdp_commands::{Requests, Transfers};
 use cfdp_lines::{LineFault, Script};
@@ -55,8 +55,8 @@ fn requests(octets: &[u8]) -> usize {
 
 impl Example {
     /// A run of it over these streams.
-    fn run(&self, reads: Stream, writes: Stream) -> Run<'static> {
-        Run {
+    fn run(&self, reads: Stream, writes: Stream) -> StreamRun<'static> {
+        StreamRun {
             kind: self.kind,
             script: self.script.as_bytes(),
             report: self.report,

@@ -61,7 +61,7 @@ fn run_replay(alloc: Global, reader: &mut Reader<'_>, writer: &mut Writer) -> En
 
 /// A script, what it writes where nothing fails, and the streams that it is run over.
 #[derive(Clone, Copy)]
-pub(super) struct Run<'a> {
+pub(super) struct StreamRun<'a> {
     pub(super) kind: ScriptKind,
     pub(super) script: &'a [u8],
     pub(super) report: &'a str,
@@ -69,7 +69,7 @@ pub(super) struct Run<'a> {
     pub(super) writes: Stream,
 }
 
-impl<'a> Run<'a> {
+impl<'a> StreamRun<'a> {
     fn end(&self, alloc: Global, reader: &mut Reader<'_>, writer: &mut Writer) -> End {
         match self.kind {
             ScriptKind::Plain => run_plain(alloc, reader, writer),

@@ -5,9 +5,9 @@ use cfdp_run::{CommandFault, FirstWord, HeadProgress, Wrong, default_mib, read_r
 use std::alloc::{AllocError, Global};
 
 /// A line, and what is wrong with it.
-type Line = (&'static [u8], Option<Wrong>);
+type CheckedLine = (&'static [u8], Option<Wrong>);
 
-const LINES: &[Line] = &[
+const LINES: &[CheckedLine] = &[
     (b"protect a/b", None),
     (b"put a/b/", None),
     (b"put a/b", None),
