@@ -1,12 +1,12 @@
 //! Octets of sizes around those of whole blocks: staged in pieces, appended to others and to themselves, and replaced.
 
 use super::calls::StoreCall;
-use super::steps::{
-    BLOCKS, NamedSteps, Step, performs, puts, run_on_both, shows_octets, shows_staged, takes,
-};
-use cfdp_actions::Protected;
+use super::steps::{BLOCKS, Step, performs, puts, shows_octets, shows_staged, take, takes};
+use cfdp_actions::{Filestore, ListStore, Protected};
 use cfdp_paths::Memory;
+use cfdp_tree::TreeStore;
 use std::alloc::Global;
+use std::process::Abort;
 
 /// How many octets the files have: none, and around one block and two of them.
 static SIZES: [usize; 6] = [0, 1, 119, 120, 121, 240];
@@ -90,24 +90,35 @@ fn push_join<'a>(steps: &mut Vec<Step<'a>>, both: &'a [u8], front: usize) -> Res
     Ok(())
 }
 
-#[test]
-fn files_are_appended(rt: HostRuntime) -> Result<(), Memory> {
+/// Appends a file of the second size to one of the first.
+fn join<S: Filestore>(
+    rt: &impl Abort,
+    alloc: Global,
+    store: &mut S,
+    octets: &[u8],
+    front: usize,
+    back: usize,
+) -> Result<(), Memory> {
+    let mut steps = Vec::new(alloc);
+    push_join(&mut steps, part(octets, 0, front.wrapping_add(back)), front)?;
+    let name = format!(in alloc; "{back} octets are appended to {front}")?;
+    take(rt, alloc, store, &Protected::new(), &name, &steps)
+}
+
+fn join_all<S: Filestore>(rt: &impl Abort, alloc: Global, store: &mut S) -> Result<(), Memory> {
     let octets = octets();
-    let mut steps = Vec::new(rt.alloc());
     for front in &SIZES {
         for back in &SIZES {
-            push_join(
-                &mut steps,
-                part(&octets, 0, front.wrapping_add(*back)),
-                *front,
-            )?;
+            join(rt, alloc, store, &octets, *front, *back)?;
         }
     }
-    let script = NamedSteps {
-        name: "appends",
-        parts: &[&steps],
-    };
-    run_on_both(&rt, rt.alloc(), &Protected::new(), &script)
+    Ok(())
+}
+
+#[test]
+fn files_are_appended(rt: HostRuntime) -> Result<(), Memory> {
+    join_all(&rt, rt.alloc(), &mut ListStore::new(rt.alloc(), BLOCKS)?)?;
+    join_all(&rt, rt.alloc(), &mut TreeStore::new(rt.alloc(), BLOCKS)?)
 }
 
 /// A file is appended to itself, which is the first half of these octets.
@@ -131,39 +142,42 @@ fn doubled(alloc: Global, octets: &[u8], count: usize) -> Result<Vec<u8>, Memory
     Ok(twice)
 }
 
-/// The octets of each size, twice.
-fn doubles(alloc: Global) -> Result<Vec<Vec<u8>>, Memory> {
-    let octets = octets();
-    let mut doubles = Vec::new(alloc);
+/// Appends a file of this size to itself.
+fn double<S: Filestore>(
+    rt: &impl Abort,
+    alloc: Global,
+    store: &mut S,
+    size: usize,
+) -> Result<(), Memory> {
+    let twice = doubled(alloc, &octets(), size)?;
+    let mut steps = Vec::new(alloc);
+    push_double(&mut steps, &twice)?;
+    let name = format!(in alloc; "{size} octets are appended to themselves")?;
+    take(rt, alloc, store, &Protected::new(), &name, &steps)
+}
+
+fn double_all<S: Filestore>(rt: &impl Abort, alloc: Global, store: &mut S) -> Result<(), Memory> {
     for size in &SIZES {
-        doubles.push(doubled(alloc, &octets, *size)?)?;
+        double(rt, alloc, store, *size)?;
     }
-    Ok(doubles)
+    Ok(())
 }
 
 #[test]
 fn files_are_appended_to_themselves(rt: HostRuntime) -> Result<(), Memory> {
-    let doubles = doubles(rt.alloc())?;
-    let mut steps = Vec::new(rt.alloc());
-    for twice in &doubles {
-        push_double(&mut steps, twice)?;
-    }
-    let script = NamedSteps {
-        name: "doubles",
-        parts: &[&steps],
-    };
-    run_on_both(&rt, rt.alloc(), &Protected::new(), &script)
+    double_all(&rt, rt.alloc(), &mut ListStore::new(rt.alloc(), BLOCKS)?)?;
+    double_all(&rt, rt.alloc(), &mut TreeStore::new(rt.alloc(), BLOCKS)?)
 }
 
-/// With how many octets a list begins, how many it has after the first piece, and how many after the second.
-type Growth = (usize, usize, usize);
+/// A name; with how many octets a list begins, how many it has after the first piece, and how many after the second.
+type StagedSizes = (&'static str, usize, usize, usize);
 
-static GROWTHS: [Growth; 5] = [
-    (0, 1, 2),
-    (1, 119, 120),
-    (119, 120, 121),
-    (120, 240, 240),
-    (100, 300, 480),
+static GROWTHS: [StagedSizes; 5] = [
+    ("two octets from nothing", 0, 1, 2),
+    ("up to a whole block", 1, 119, 120),
+    ("to a second block", 119, 120, 121),
+    ("by a whole block at once", 120, 240, 240),
+    ("from a part of a block to four whole ones", 100, 300, 480),
 ];
 
 /// What an extension adds.
@@ -178,9 +192,9 @@ fn is_staged<'a>(size: usize, from: usize, octets: &'a [u8]) -> Step<'a> {
 fn push_growth<'a>(
     steps: &mut Vec<Step<'a>>,
     octets: &'a [u8],
-    growth: &Growth,
+    growth: &StagedSizes,
 ) -> Result<(), Memory> {
-    let (begun, middle, size) = *growth;
+    let (_, begun, middle, size) = *growth;
     let (first, last) = (blocks(begun), blocks(size));
     let whole = part(octets, 0, size);
     let beginning = part(whole, 0, begun);
@@ -198,16 +212,27 @@ fn push_growth<'a>(
     Ok(())
 }
 
+fn grow<S: Filestore>(
+    rt: &impl Abort,
+    alloc: Global,
+    store: &mut S,
+    growth: &StagedSizes,
+) -> Result<(), Memory> {
+    let octets = octets();
+    let mut steps = Vec::new(alloc);
+    push_growth(&mut steps, &octets, growth)?;
+    take(rt, alloc, store, &Protected::new(), growth.0, &steps)
+}
+
+fn grow_all<S: Filestore>(rt: &impl Abort, alloc: Global, store: &mut S) -> Result<(), Memory> {
+    for growth in &GROWTHS {
+        grow(rt, alloc, store, growth)?;
+    }
+    Ok(())
+}
+
 #[test]
 fn what_is_staged_grows(rt: HostRuntime) -> Result<(), Memory> {
-    let octets = octets();
-    let mut steps = Vec::new(rt.alloc());
-    for growth in &GROWTHS {
-        push_growth(&mut steps, &octets, growth)?;
-    }
-    let script = NamedSteps {
-        name: "grows",
-        parts: &[&steps],
-    };
-    run_on_both(&rt, rt.alloc(), &Protected::new(), &script)
+    grow_all(&rt, rt.alloc(), &mut ListStore::new(rt.alloc(), BLOCKS)?)?;
+    grow_all(&rt, rt.alloc(), &mut TreeStore::new(rt.alloc(), BLOCKS)?)
 }
