@@ -114,7 +114,7 @@ fn first_of_16(octets: &[u8], index: usize) -> Option<usize>
     Some(index + marks.trailing_zeros() as usize)
 }
 
-/// The index of the last one of them, if there is one.
+/// The index of the last separator of the sixteen octets from the index on, if there is one.
 #[inline(always)]
 fn last_of_16(octets: &[u8], index: usize) -> Option<usize>
     requires { index + 16 ≤ length octets.now }
@@ -127,7 +127,7 @@ fn last_of_16(octets: &[u8], index: usize) -> Option<usize>
     Some(index + marks.ilog2() as usize)
 }
 
-/// A bit for each of them, the first one the lowest: set where it is a separator.
+/// A bit for each of the sixteen octets from the index on, the first one the lowest: set where it is a separator.
 #[inline(always)]
 fn marks_of_16(octets: &[u8], index: usize) -> u64
     requires { index + 16 ≤ length octets.now }
@@ -150,7 +150,7 @@ fn first_of_8(octets: &[u8], index: usize) -> Option<usize>
     Some(index + marks.trailing_zeros() as usize)
 }
 
-/// The index of the last one of them, if there is one.
+/// The index of the last separator of the eight octets from the index on, if there is one.
 #[inline(always)]
 fn last_of_8(octets: &[u8], index: usize) -> Option<usize>
     requires { index + 8 ≤ length octets.now }
@@ -163,7 +163,7 @@ fn last_of_8(octets: &[u8], index: usize) -> Option<usize>
     Some(index + marks.ilog2() as usize)
 }
 
-/// A bit for each of them, the first one the lowest: set where it is a separator.
+/// A bit for each of the eight octets from the index on, the first one the lowest: set where it is a separator.
 #[inline(always)]
 fn marks_of_8(octets: &[u8], index: usize) -> u64
     requires { index + 8 ≤ length octets.now }
@@ -186,7 +186,7 @@ fn first_of_4(octets: &[u8], index: usize) -> Option<usize>
     Some(index + marks.trailing_zeros() as usize)
 }
 
-/// The index of the last one of them, if there is one.
+/// The index of the last separator of the four octets from the index on, if there is one.
 #[inline(always)]
 fn last_of_4(octets: &[u8], index: usize) -> Option<usize>
     requires { index + 4 ≤ length octets.now }
@@ -199,7 +199,7 @@ fn last_of_4(octets: &[u8], index: usize) -> Option<usize>
     Some(index + marks.ilog2() as usize)
 }
 
-/// A bit for each of them, the first one the lowest: set where it is a separator.
+/// A bit for each of the four octets from the index on, the first one the lowest: set where it is a separator.
 #[inline(always)]
 fn marks_of_4(octets: &[u8], index: usize) -> u64
     requires { index + 4 ≤ length octets.now }

@@ -119,7 +119,7 @@ impl Extents {
         weigh(self.get(path))
     }
 
-    /// The blocks of all together. Cost: it is kept.
+    /// The blocks of all extents together. The sum is kept, so the call costs the same for any number of them.
     pub fn blocks(&self) -> u128
         ensures value { result ≡ total_blocks self.now }
         ensures within { result < 2 ^ 122 }
