@@ -1,5 +1,6 @@
 //! A journal of sixteen entries that some Metadata PDUs filled in part: worked transactions go on until it is full, and
-//! nothing goes in from then on. An event that was out of memory is handed in once more.
+//! nothing goes in from then on. A journal of nineteen entries has one for each of their events. An event that was out
+//! of memory is handed in once more.
 
 use super::entity::{Given, Replied, id, is_replied};
 use cfdp_actions::{Entry, Filestore, Protected};
@@ -104,9 +105,9 @@ static FOUR: [NamedEvent; 20] = [
         Given::Take(14),
         Replied::Finished("2c001000010e020503010470017a0001068003792f7a00"),
     ),
-    // After all of them the journal is full.
+    // The twentieth event: no journal of these tests has an entry for it.
     (
-        "cancellation of 14, after the journal is full",
+        "cancellation of 14, whose outcome was taken",
         Given::Cancel(14),
         Replied::JournalFull,
     ),
@@ -213,17 +214,18 @@ fn fill(
     Ok(())
 }
 
-/// Hands in the events of the transactions after `count` others: the first sixteen of all get their own replies, and
-/// all others JournalFull.
+/// Hands in the events of the transactions after `count` others. The journal may have this many entries: as many events
+/// of all get their own replies, and all others JournalFull.
 fn go_on(
     rt: &impl Abort,
     alloc: Global,
     journaled: &mut JournaledTree,
     count: usize,
+    entries: usize,
 ) -> Result<(), Memory> {
     let mut before = count;
     for (name, given, replied) in &FOUR {
-        let replied = if before < 16 {
+        let replied = if before < entries {
             *replied
         } else {
             Replied::JournalFull
@@ -240,12 +242,24 @@ fn fills_after_any_number_of_entries(rt: HostRuntime) -> Result<(), Memory> {
     for count in 0..=16usize {
         let mut journaled = journaled_tree(rt.alloc(), 16)?;
         fill(&rt, rt.alloc(), &mut journaled, count)?;
-        go_on(&rt, rt.alloc(), &mut journaled, count)?;
+        go_on(&rt, rt.alloc(), &mut journaled, count, 16)?;
         assert!(&rt;
             journaled.journal().len() == 16,
             "{} entries, of which {count} are fillers",
             journaled.journal().len()
         );
     }
+    Ok(())
+}
+
+#[test]
+fn has_an_entry_for_each_event_of_four_transactions(rt: HostRuntime) -> Result<(), Memory> {
+    let mut journaled = journaled_tree(rt.alloc(), 19)?;
+    go_on(&rt, rt.alloc(), &mut journaled, 0, 19)?;
+    assert!(&rt;
+        journaled.journal().len() == 19,
+        "{} entries",
+        journaled.journal().len()
+    );
     Ok(())
 }

@@ -17,7 +17,7 @@ static BEFORE: [Before; 2] = [
 ];
 
 /// After the install of `x`, a file of one block.
-static ITEMS: [AppliedRequest; 4] = [
+static APPLIED: [AppliedRequest; 4] = [
     (Action::CreateFile, b"d/b", b"", 0x00),
     (Action::RenameFile, b"d", b"e", 0x20),
     (Action::AppendFile, b"e/a", b"x", 0x30),
@@ -27,7 +27,7 @@ static ITEMS: [AppliedRequest; 4] = [
 /// The need, the steps, and the bounds of three paths.
 type Answers = (u32, u32, [Option<u64>; 3]);
 
-/// Before the first item, and after the last.
+/// Before the install, and after the last request.
 const AT_FIRST: Answers = (0, 0, [None, Some(0), None]);
 
 const AT_LAST: Answers = (4, 10, [Some(120), None, Some(120)]);
@@ -86,10 +86,15 @@ fn asked(alloc: Global) -> Result<[Path; 3], Memory> {
 }
 
 /// Installs `x` and applies the requests.
-fn try_items(rt: &impl Abort, view: &mut View<'_>, paths: &[Path; 3], requests: &[Request]) {
+fn install_and_apply(
+    rt: &impl Abort,
+    view: &mut View<'_>,
+    paths: &[Path; 3],
+    requests: &[Request],
+) {
     assert!(rt; answers(view, paths) == AT_FIRST, "before the install");
     assert!(rt; install(rt, view, paths) == Ok(true), "the install");
-    for (index, (request, (_, first, _, status))) in requests.iter().zip(&ITEMS).enumerate() {
+    for (index, (request, (_, first, _, status))) in requests.iter().zip(&APPLIED).enumerate() {
         let replied = apply(rt, view, paths, request);
         assert!(rt;
             replied.map(Status::octet) == Ok(*status),
@@ -102,11 +107,11 @@ fn try_items(rt: &impl Abort, view: &mut View<'_>, paths: &[Path; 3], requests: 
 
 /// Tries them on a view of the store.
 fn try_in(rt: &impl Abort, alloc: Global, scene: &Scene) -> Result<(), Memory> {
-    let requests = requests(alloc, &ITEMS)?;
+    let requests = requests(alloc, &APPLIED)?;
     let paths = asked(alloc)?;
     let leased = footprint(alloc, &requests, Some(&paths[0]))?;
     let mut view = View::of(alloc, &scene.store, &scene.protected, &leased)?;
-    try_items(rt, &mut view, &paths, &requests);
+    install_and_apply(rt, &mut view, &paths, &requests);
     Ok(())
 }
 

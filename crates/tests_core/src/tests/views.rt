@@ -26,9 +26,9 @@ pub type Row = (
 type Case = (&'static [Before], &'static [Row]);
 
 /// The requests of a row.
-pub fn requests(alloc: Global, items: &[AppliedRequest]) -> Result<Vec<Request>, Memory> {
+pub fn requests(alloc: Global, applied: &[AppliedRequest]) -> Result<Vec<Request>, Memory> {
     let mut requests = Vec::new(alloc);
-    for (action, first, second, _) in items {
+    for (action, first, second, _) in applied {
         requests.push(request(alloc, *action, first, second)?)?;
     }
     Ok(requests)
@@ -40,9 +40,9 @@ fn apply(
     view: &mut View<'_>,
     name: &str,
     requests: &[Request],
-    items: &[AppliedRequest],
+    applied: &[AppliedRequest],
 ) -> Result<(), Memory> {
-    for (index, (request, (_, _, _, status))) in requests.iter().zip(items).enumerate() {
+    for (index, (request, (_, _, _, status))) in requests.iter().zip(applied).enumerate() {
         let replied = view.apply(request)?;
         assert!(rt; replied.octet() == *status, "{name}: request {index}");
     }
@@ -97,12 +97,12 @@ pub fn run<S: Filestore>(
     protected: &Protected,
     row: &Row,
 ) -> Result<(), Memory> {
-    let (name, file, items, need, steps) = *row;
-    let requests = requests(alloc, items)?;
+    let (name, file, applied, need, steps) = *row;
+    let requests = requests(alloc, applied)?;
     let mut view = begun(alloc, store, protected, &requests, file)?;
     match &mut view {
         Some(view) => {
-            apply(rt, view, name, &requests, items)?;
+            apply(rt, view, name, &requests, applied)?;
             assert!(rt;
                 has_taken(view, need, steps),
                 "{name}: need {}, steps {}",
@@ -228,9 +228,9 @@ fn bound_at(alloc: Global, view: &View<'_>, name: &[u8]) -> Result<Option<u64>, 
 fn bounds(
     alloc: Global,
     scene: &Scene,
-    item: AppliedRequest,
+    applied: AppliedRequest,
 ) -> Result<(Option<u64>, Option<u64>), Memory> {
-    let requests = requests(alloc, &[item])?;
+    let requests = requests(alloc, &[applied])?;
     let view = view_of(alloc, &scene.store, &scene.protected, &requests, None)?;
     Ok((
         bound_at(alloc, &view, b"d/x")?,
@@ -241,9 +241,13 @@ fn bounds(
 #[test]
 fn a_view_sees_what_is_leased_alone(rt: HostRuntime) -> Result<(), Memory> {
     let scene = Scene::new(&rt, rt.alloc(), 64, &DIRECTORY)?;
-    for (item, file, directory) in &BOUNDS {
-        let replied = bounds(rt.alloc(), &scene, *item)?;
-        assert!(&rt; replied == (*file, *directory), "{}", item.1.escape_ascii());
+    for (applied, file, directory) in &BOUNDS {
+        let replied = bounds(rt.alloc(), &scene, *applied)?;
+        assert!(&rt;
+            replied == (*file, *directory),
+            "{}",
+            applied.1.escape_ascii()
+        );
     }
     Ok(())
 }

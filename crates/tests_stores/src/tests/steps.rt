@@ -10,7 +10,7 @@ use cfdp_tree::TreeStore;
 use std::alloc::Global;
 use std::process::Abort;
 
-/// How many blocks the stores of [`run_on_both`] have.
+/// How many blocks the stores of most tests have, those of [`run_on_both`] among them.
 pub const BLOCKS: u32 = 64;
 
 /// A step of a script. The macros after this enum write the rows of a table.
