@@ -3,6 +3,9 @@
 use clap::{Arg, ArgAction, Command, value_parser};
 use std::alloc::{AllocError, Global};
 
+/// Whether the program is built without a proof: then it says so. `./build` sets this in a copy of the crate.
+const UNPROVED: bool = false;
+
 /// What `judge` does.
 const JUDGE: &str =
     "Prints the verdict on each transaction of a plan: each is judged on the filestore after those before it";
@@ -150,11 +153,29 @@ fn receive<'a>(alloc: Global) -> Result<Command<'a>, AllocError> {
         .arg(mib)
 }
 
+/// What the program is.
+fn about() -> &'static str {
+    if UNPROVED {
+        "File transfers by CFDP (CCSDS 727.0-B-5). This program is not proved"
+    } else {
+        "File transfers by CFDP (CCSDS 727.0-B-5)"
+    }
+}
+
+/// What `--version` says after the program's name.
+fn version() -> &'static str {
+    if UNPROVED {
+        "0.1.0, not proved"
+    } else {
+        "0.1.0"
+    }
+}
+
 /// The words that the program knows.
 pub fn program<'a>(alloc: Global) -> Result<Command<'a>, AllocError> {
     Command::new(alloc, "cfdp")
-        .about("File transfers by CFDP (CCSDS 727.0-B-5)")
-        .version("0.1.0")
+        .about(about())
+        .version(version())
         .subcommand_required(true)
         .subcommand(show(alloc)?)?
         .subcommand(compose(alloc)?)?

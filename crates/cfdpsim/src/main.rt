@@ -16,6 +16,10 @@ use std::rt::{Env, Files};
 use std::sync::Wait;
 use std::thread::Threads;
 
+/// Whether the program is built without a proof: then it says so where words are unknown, as `--help` and `--version`
+/// are. `./build` sets this in a copy of the crate.
+const UNPROVED: bool = false;
+
 /// How many files `links` takes at most.
 const MOST_FILES: usize = 4;
 
@@ -24,6 +28,9 @@ fn main(rt: HostRuntime) -> ExitCode {
     if end != ProgramEnd::Fine {
         // Where standard error cannot be written either, the status has to do.
         let _ = eprintln!(rt; "{end}");
+    }
+    if UNPROVED && end == ProgramEnd::Usage {
+        let _ = eprintln!(rt; "this program is not proved");
     }
     ExitCode::from(end.status())
 }
