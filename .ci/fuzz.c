@@ -2,16 +2,15 @@
  * or put in, and out of memory now and then. Each buffer is as long as the call says. The sanitizers see
  * all that this file does, and of the library, which is compiled without them, its calls of memcpy, memmove, memset and
  * the functions for memory. That no octet after what a call writes changes is tested here (is_filled).
- *   fuzz SECONDS SEED FILE..
+ *   fuzz ROUNDS SEED FILE..
  * The corpus is the lines `pdu HEX` and `at T pdu HEX` of the files. A round is a few hundred calls of one engine, or
- * one receiver; its calls are the same for the same seed and number of the round. It ends after SECONDS, or at the
+ * one receiver; its calls are the same for the same seed and number of the round. It ends after ROUNDS, or at the
  * first call that does not keep its word: with 1, after a line that names the round. */
 #define _POSIX_C_SOURCE 200809L
 #include "../include/cfdp_receiver.h"
 #include <inttypes.h>
 #include <stdio.h>
 #include <stdlib.h>
-#include <time.h>
 
 enum { CORPUS = 4096, LONGEST = 70000, CALLS = 400 };
 
@@ -308,7 +307,8 @@ static struct cfdp_mib some_mib(void) {
         .keep_alive_interval = below(2) * 7,
         .nak_mode = (enum cfdp_nak_mode)(1 + below(2)),
         .has_crc = below(2),
-        .longest_nak = 72 + below(300)};
+        .longest_nak = 72 + below(300),
+        .most_ahead = below(2) * 50};
     uint32_t *numbers = (uint32_t *)(void *)&mib;
     if (below(12) == 0) numbers[below(sizeof mib / sizeof *numbers)] = below(70000);
     return mib;
@@ -354,7 +354,7 @@ static void call_receiver(struct cfdp_receiver *receiver, uint8_t *pdu, uint64_t
     struct cfdp_transaction id = some_name();
     enum cfdp_answer answer = DONE;
     *now += below(4);
-    uint32_t what = below(12);
+    uint32_t what = below(13);
     if (what < 5) {
         size_t length = some_pdu(pdu);
         uint8_t *octets = buffer(length, 0);
@@ -374,10 +374,13 @@ static void call_receiver(struct cfdp_receiver *receiver, uint8_t *pdu, uint64_t
         ANSWERS(cfdp_receiver_cancel(receiver, *now, id.source, id.number, report), DONE, DONE, DONE, DONE);
     } else if (what == 10) {
         ANSWERS(cfdp_receiver_forget_closed(receiver, report), DONE, DONE, DONE, DONE);
+    } else if (what == 11) {
+        *now = below(4) ? *now + below(1000) : below(1000);
+        ANSWERS(cfdp_receiver_move_clock(receiver, *now, report), DONE, DONE, DONE, DONE);
     } else {
         read_receiver(receiver);
     }
-    if (answer == DONE && what < 11) write_pdus(receiver, report);
+    if (answer == DONE && what < 12) write_pdus(receiver, report);
 }
 
 /* ---- rounds */
@@ -446,7 +449,7 @@ static void read_corpus(const char *name) {
 
 int main(int count, char **words) {
     if (count < 4) {
-        fprintf(stderr, "usage: fuzz SECONDS SEED FILE..\n");
+        fprintf(stderr, "usage: fuzz ROUNDS SEED FILE..\n");
         return 2;
     }
     for (int index = 3; index < count; index++) read_corpus(words[index]);
@@ -454,8 +457,8 @@ int main(int count, char **words) {
     uint8_t *pdu = calloc(4, LONGEST);
     if (pdu == NULL) return 2;
     seed = strtoull(words[2], NULL, 10);
-    const time_t end = time(NULL) + atol(words[1]);
-    for (rounds = 0; time(NULL) < end; rounds++) {
+    const uint64_t end = strtoull(words[1], NULL, 10);
+    for (rounds = 0; rounds < end; rounds++) {
         random_state = (seed + 1) * 0x9e3779b97f4a7c15u + rounds * 0xbf58476d1ce4e5b9u + 1;
         for (int warm = 0; warm < 8; warm++) below(2);
         play(pdu);

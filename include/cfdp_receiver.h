@@ -10,8 +10,8 @@
  * the numbers 0 to report.pdus - 1. examples/c/udp_receiver.c is such a program.
  *
  * Everything that `cfdp.h` says of what the caller promises, of NULL, memory and names holds here too, for a
- * receiver as for an engine. A moment is a number of ticks of a clock of the caller's, such as milliseconds, that
- * never goes back: an earlier moment than the latest one counts as the latest. Memory is asked for by
+ * receiver as for an engine. A moment is a number of ticks of a clock of the caller's, such as milliseconds: an
+ * earlier one than the latest counts as the latest, until cfdp_receiver_move_clock sets it. Memory is asked for by
  * cfdp_receiver_new, by cfdp_receiver_receive for a Metadata PDU alone, and by cfdp_receiver_finish where a
  * transaction is over; by nothing else. docs/C.md has how much.
  *
@@ -39,7 +39,7 @@ struct cfdp_receiver {
 #define CFDP_RECEIVER_EMPTY {0, NULL}
 
 /* The octets that cfdp_receiver_new asks for, whatever the configuration. */
-#define CFDP_RECEIVER_NEW_OCTETS ((size_t)12264)
+#define CFDP_RECEIVER_NEW_OCTETS ((size_t)76528)
 
 /* What is done at a fault (fault handling procedures). */
 enum cfdp_handler {
@@ -75,6 +75,8 @@ struct cfdp_mib {
     uint32_t has_crc;                           /* PDUs that are sent have a CRC, unless it is 0 */
     uint32_t longest_nak;                       /* how many octets a NAK PDU has at most, its CRC included: 72 to
                                                  * 65535 */
+    uint32_t most_ahead;                        /* how far ahead of the latest moment another one may be; 0: there is
+                                                 * no limit */
 };
 
 /* What became of an input. */
@@ -97,7 +99,13 @@ enum cfdp_became {
     CFDP_BECAME_KEPT_ALIVE = 14,    /* a Keep Alive PDU was due */
     CFDP_BECAME_IGNORED = 15,       /* a timer expired at its limit, which is ignored */
     CFDP_BECAME_FINISHED = 16,      /* the Finished PDU is to be sent, and waits for its acknowledgement */
-    CFDP_BECAME_CLOSED = 17         /* the transaction is closed */
+    CFDP_BECAME_CLOSED = 17,        /* the transaction is closed */
+    CFDP_BECAME_LIST_BEGUN = 18,    /* the transaction is not cancelled: items of its list were performed, so the list
+                                     * goes on to its end */
+    CFDP_BECAME_SOURCES_FULL = 19,  /* 16 source entities have a place, and that of the transaction has none: see
+                                     * cfdp_receiver_forget_closed */
+    CFDP_BECAME_TOO_FAR_AHEAD = 20  /* the moment is further ahead of the latest one than `most_ahead`: the input was
+                                     * not taken, and nothing changed */
 };
 
 /* What the user of the receiving entity is notified of (3.4), and the numbers that it brings beside the transaction. */
@@ -141,7 +149,7 @@ struct cfdp_report {
  * (CFDP_ANSWER_BAD_LIMIT), and a `longest_nak` below 72; CFDP_ANSWER_HAS_TRANSACTIONS if the engine knows a
  * transaction; or CFDP_ANSWER_NO_MEMORY. At CFDP_ANSWER_NO_MEMORY the engine is freed with what was put into it:
  * begin again with cfdp_new. At any other answer than these two nothing has changed. Cost: the memory of 64 sessions
- * and 256 names is set. */
+ * and of the names of 16 sources, 256 of each, is asked for. */
 enum cfdp_answer cfdp_receiver_new(struct cfdp_receiver *receiver, struct cfdp_engine *engine,
                                    const struct cfdp_mib *mib);
 
@@ -175,15 +183,25 @@ enum cfdp_answer cfdp_receiver_work(struct cfdp_receiver *receiver, uint64_t now
  * requests, and the octets of the Finished PDU twice. */
 enum cfdp_answer cfdp_receiver_finish(struct cfdp_receiver *receiver, uint64_t now, struct cfdp_report *report);
 
-/* The user cancels a transaction (cancel procedures), with condition code 15. Returns CFDP_ANSWER_DONE with the
- * report, or CFDP_ANSWER_NO_ENGINE. Cost: a pass over the 64 transactions, and that of cfdp_cancel. */
+/* The user cancels a transaction (cancel procedures), with condition code 15. A list that has begun goes on to its end
+ * (CFDP_BECAME_LIST_BEGUN), and a transaction that waits for the acknowledgement of its Finished PDU is closed. With
+ * `most_ahead`, loops over cfdp_receiver_expire, _work and _finish end at CFDP_BECAME_TOO_FAR_AHEAD too. Returns
+ * CFDP_ANSWER_DONE with the report, or CFDP_ANSWER_NO_ENGINE. Cost: a pass over the 64 transactions, and that of
+ * cfdp_cancel. */
 enum cfdp_answer cfdp_receiver_cancel(struct cfdp_receiver *receiver, uint64_t now, uint64_t source, uint64_t number,
     struct cfdp_report *report);
 
-/* The names of the 256 transactions that were closed last are forgotten, for a sender whose transaction sequence
- * numbers begin anew. A Metadata PDU of one of them that comes once more begins it anew then. Returns
- * CFDP_ANSWER_DONE with the report, or CFDP_ANSWER_NO_ENGINE. Cost: constant. */
+/* The names of all transactions that were closed are forgotten, for a sender whose transaction sequence numbers begin
+ * anew, or for one more source after CFDP_BECAME_SOURCES_FULL: only sources with a transaction keep their place. A
+ * Metadata PDU of one of them that comes once more begins it anew then. Returns CFDP_ANSWER_DONE with the report, or
+ * CFDP_ANSWER_NO_ENGINE. Cost: for each of 16 sources a pass over the 64 transactions. */
 enum cfdp_answer cfdp_receiver_forget_closed(struct cfdp_receiver *receiver, struct cfdp_report *report);
+
+/* The caller's clock was set, back or ahead: its moment is `now` by now, and what is left of each timer stays. Without
+ * this call an earlier moment counts as the latest, so that after one wrong reading, far ahead, no timer would be due
+ * until the clock comes to it. A moment is never too far ahead for this call: with `most_ahead`, begin with it. Returns
+ * CFDP_ANSWER_DONE with the report, or CFDP_ANSWER_NO_ENGINE. Cost: constant. */
+enum cfdp_answer cfdp_receiver_move_clock(struct cfdp_receiver *receiver, uint64_t now, struct cfdp_report *report);
 
 /* The moment from which on a timer is due, to `*moment`. Returns CFDP_ANSWER_DONE; CFDP_ANSWER_NOTHING where none
  * runs; or CFDP_ANSWER_NO_ENGINE. Cost: one pass over the 64 transactions. */

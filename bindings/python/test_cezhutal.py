@@ -4,6 +4,7 @@ what is answered to them are those of the C examples and of examples/update.repl
 
 from __future__ import annotations
 
+import dataclasses
 import pathlib
 import re
 import sys
@@ -233,12 +234,33 @@ class ReceiverTest(unittest.TestCase):
                 ("work", receiver.work),
                 ("finish", receiver.finish),
                 ("cancel", lambda now: receiver.cancel(now, Transaction(1, 5))),
+                ("move_clock", receiver.move_clock),
             ):
                 for now in (-1, 2**64):
                     with self.subTest(name, now=now), self.assertRaisesRegex(ValueError, f"^now is {now}, which is"):
                         call(now)
             receiver.receive(100, EOF)
             self.assertEqual(receiver.deadline(), 140)
+
+    def test_a_clock_that_is_set(self) -> None:
+        """After one wrong reading, far ahead, the timer runs on; with a limit the reading changes nothing."""
+        with Receiver(Engine(Config(entity=2, blocks=64)), self.MIB) as receiver:
+            receiver.receive(100, EOF)
+            self.assertEqual(receiver.expire(2**64 - 1).became, Became.EXPIRED)
+            self.assertEqual(receiver.move_clock(110).became, Became.NOTHING)
+            self.assertEqual(receiver.deadline(), 150)
+            self.assertEqual(receiver.move_clock(5).became, Became.NOTHING)
+            self.assertEqual(receiver.deadline(), 45)
+            self.assertEqual(receiver.expire(44).became, Became.NOTHING)
+            self.assertEqual(receiver.expire(45).became, Became.EXPIRED)
+        limited = dataclasses.replace(self.MIB, most_ahead=1000)
+        with Receiver(Engine(Config(entity=2, blocks=64)), limited) as receiver:
+            self.assertEqual(receiver.receive(1001, EOF).became, Became.TOO_FAR_AHEAD)
+            receiver.move_clock(2**40)
+            self.assertEqual(receiver.receive(2**40 + 1000, EOF).became, Became.HELD)
+            self.assertEqual(receiver.expire(2**64 - 1).became, Became.TOO_FAR_AHEAD)
+            self.assertEqual(list(receiver.work_off(2**64 - 1)), [])
+            self.assertEqual(receiver.deadline(), 2**40 + 1040)
 
     def test_a_pdu_with_a_crc(self) -> None:
         """One that is wrong has its exception."""

@@ -50,6 +50,9 @@ static const char *word_of(enum cfdp_became became) {
     case CFDP_BECAME_IGNORED: return "ignored";
     case CFDP_BECAME_FINISHED: return "finished";
     case CFDP_BECAME_CLOSED: return "closed";
+    case CFDP_BECAME_LIST_BEGUN: return "list begun";
+    case CFDP_BECAME_SOURCES_FULL: return "sources full";
+    case CFDP_BECAME_TOO_FAR_AHEAD: return "too far ahead";
     }
     return "?";
 }

@@ -151,7 +151,7 @@ class MibStruct(ctypes.Structure):
         for name in (
             "ack_interval ack_limit ack_handler nak_interval nak_limit nak_handler "
             "check_interval check_handler inactivity_interval "
-            "inactivity_handler keep_alive_interval nak_mode has_crc longest_nak"
+            "inactivity_handler keep_alive_interval nak_mode has_crc longest_nak most_ahead"
         ).split()
     ]
 
@@ -225,6 +225,7 @@ _CALLS = {
     "cfdp_receiver_finish": [_HANDLE, c_uint64, _REPORT],
     "cfdp_receiver_cancel": [_HANDLE, c_uint64, *_ID, _REPORT],
     "cfdp_receiver_forget_closed": [_HANDLE, _REPORT],
+    "cfdp_receiver_move_clock": [_HANDLE, c_uint64, _REPORT],
     "cfdp_receiver_deadline": [_HANDLE, POINTER(c_uint64)],
     "cfdp_receiver_write": [_HANDLE, c_size_t, _OCTETS, c_size_t, _SIZE],
     "cfdp_receiver_look_up": [_HANDLE, _PATH, _ENTRY],

@@ -51,6 +51,9 @@ class Became(IntEnum):
     IGNORED = 15
     FINISHED = 16
     CLOSED = 17
+    LIST_BEGUN = 18
+    SOURCES_FULL = 19
+    TOO_FAR_AHEAD = 20
 
 
 class IndicationKind(IntEnum):
@@ -87,7 +90,8 @@ class Mib:
     """What the management information base (section 8) says of the receiver. Times are in ticks of the caller's clock.
 
     keep_alive: the time between Keep Alive PDUs; 0: none is sent. has_crc: PDUs that are sent have a CRC.
-    longest_nak: how many octets a NAK PDU has at most, 72 to 65535.
+    longest_nak: how many octets a NAK PDU has at most, 72 to 65535. most_ahead: how far ahead of the latest moment
+    another one may be; 0: there is no limit.
     """
 
     ack: Retries = Retries(1000, 10)
@@ -98,6 +102,7 @@ class Mib:
     nak_mode: NakMode = NakMode.DEFERRED
     has_crc: bool = False
     longest_nak: int = 1000
+    most_ahead: int = 0
 
     def struct(self) -> MibStruct:
         """As the library takes it. Raises ValueError where a number has no room there."""
@@ -117,6 +122,7 @@ class Mib:
             nak_mode=self.nak_mode,
             has_crc=self.has_crc,
             longest_nak=self.longest_nak,
+            most_ahead=self.most_ahead,
         )
 
 
@@ -204,12 +210,16 @@ class Receiver:
         """The names of the transactions that were closed last are forgotten."""
         return self._call(LIBRARY.cfdp_receiver_forget_closed)
 
+    def move_clock(self, now: int) -> Report:
+        """The caller's clock was set, back or ahead: it is `now` by now. What is left of each timer stays."""
+        return self._call_at(LIBRARY.cfdp_receiver_move_clock, now)
+
     def work_off(self, now: int) -> Iterator[Report]:
-        """Performs all items and takes all outcomes: the report of each."""
+        """Performs all items and takes all outcomes: the report of each. There is none at a moment too far ahead."""
         for call in (self.work, self.finish):
             while True:
                 report = call(now)
-                if report.became == Became.NOTHING:
+                if report.became in (Became.NOTHING, Became.TOO_FAR_AHEAD):
                     break
                 yield report
 

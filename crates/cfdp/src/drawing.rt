@@ -40,7 +40,13 @@ const ENDING: TextWidth = TextWidth {
 const SERVED: [&[u8]; 4] = [b"expired", b"kept-alive", b"ignored", b"faulted"];
 
 /// The words of a PDU that was dropped.
-const DROPPED: [&[u8]; 4] = [b"dropped", b"not-for-us", b"table-full", b"unknown"];
+const DROPPED: [&[u8]; 5] = [
+    b"dropped",
+    b"not-for-us",
+    b"table-full",
+    b"sources-full",
+    b"unknown",
+];
 
 /// The replies to a Metadata PDU after which the transaction's file is the one that it names.
 const NAMED: [&[u8]; 3] = [b"admitted", b"refused", b"faulted"];

@@ -14,7 +14,7 @@ use std::alloc::{AllocError, Global};
 const WOULD_FAIL: &[u8] = b"refused would-fail ";
 
 /// What the words mean that are noted: of a refusal, the second word.
-const MEANINGS: [(&[u8], &[u8]); 13] = [
+const MEANINGS: [(&[u8], &[u8]); 15] = [
     (b"too-many-requests", b"more than 64 requests"),
     (b"bad-path", b"a name is no path of the filestore"),
     (b"conflict", b"that transaction uses a path of it"),
@@ -29,23 +29,30 @@ const MEANINGS: [(&[u8], &[u8]); 13] = [
     (b"too-long", b"the steps that it may take, above 65,536"),
     (b"no-room", b"the blocks that it needs, and those to spare"),
     (b"table-full", b"there are 64 transactions"),
+    (b"sources-full", b"there are 16 other sources"),
     (b"not-for-us", b"it is for another entity"),
     (b"unknown", b"there is no such transaction"),
     (b"ignored", b"the limit of a timer was reached"),
+    (
+        b"list-begun",
+        b"items of its list were performed, so the list goes on to its end",
+    ),
     (b"not-ours", b"no receiver takes such a PDU"),
     (b"performed", b"the request was not successful"),
 ];
 
 /// The first words that are noted.
-const NOTED: [&[u8]; 8] = [
+const NOTED: [&[u8]; 10] = [
     b"refused",
     b"table-full",
+    b"sources-full",
     b"not-for-us",
     b"not-ours",
     b"dropped",
     b"unknown",
     b"ignored",
     b"cancelled",
+    b"list-begun",
 ];
 
 /// What a word means, if there is more to say than the word.

@@ -51,7 +51,7 @@ fn live_of<R: AllocGlobal + Clone + Drop + Files + Input>(
     folder::put(rt, folder, FolderNames::Printed, &mut entity)?;
     match Receiver::new(alloc, setup.mib, entity) {
         Ok(receiver) => Ok(Live::new(alloc, receiver)?),
-        Err(NotMade::Memory) => Err(End::Memory),
+        Err(unmade) if unmade.why == NotMade::Memory => Err(End::Memory),
         Err(_) => Err(End::Plan(String::from_str(alloc, "the setup is out of range")?)),
     }
 }

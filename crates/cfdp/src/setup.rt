@@ -120,6 +120,7 @@ fn read_mib(section: &Section<'_>) -> Result<Mib, PlanFault> {
         nak_mode: read_nak_mode(section)?,
         has_crc: section.flag("crc")?,
         longest_nak: read_longest(section, without.longest_nak)?,
+        most_ahead: None,
     })
 }
 

@@ -41,6 +41,7 @@ mib_of_fields fields ack nak check inactivity nak_mode = record {
   nak_mode = nak_mode;
   has_crc = not (fields.has_crc == 0);
   longest_nak = fields.longest_nak;
+  most_ahead = interval_in fields.most_ahead;
 }
 
 -- the number of octets fits the standard's longest PDU

@@ -16,6 +16,7 @@ use Rattle.cfdp_crc.specs.declared.sealing.CrcFault.TheVariants as crc
 use Rattle.cfdp_receiver.specs.declared.reading.Dropped.{Dropped}
 use Rattle.cfdp_receiver.specs.declared.reading.Dropped.TheVariants as dropped
 use Rattle.cfdp_receiver.specs.Due.{first_due, first_over}
+use Rattle.cfdp_receiver.specs.Handing.{own_time}
 use Rattle.cfdp_receiver.specs.Heard.{IsDropped}
 use Rattle.cfdp_receiver.specs.StateMachine.{has_come, is_any_due}
 use Rattle.cfdp_receiver.specs.Sent.{as_sent, crc_len, longest_sealed}
@@ -78,7 +79,7 @@ TakesFinished now (Some S) after old new answer =
 -- from this moment on a timer is due, and not before; or none ever is
 abbrev pub IsDeadline : State → Option ℕ → Type 0
 IsDeadline R moment = (now : ℕ) → now < 2 ^ 64 → has_come moment now
-    ≡ is_any_due (first_due (record R { now = now }) R.sessions)
+    ≡ is_any_due (first_due (record R { now = own_time R now }) R.sessions)
 
 abbrev pub TellsDeadline : Option ReceptionFields → ℕ → ℕ → ℕ → Type 0
 TellsDeadline None old new answer = (new ≡ old) × (answer ≡ answer_code NoEngine)

@@ -8,7 +8,7 @@
 use Rattle.std.specs.Prelude.{ℕ, if◌then◌else◌, List, [], ◌∷◌, length, Option, Some, None}
 use Rattle.cfdp_status.specs.declared.transaction.TransactionId.{TransactionId}
 use Rattle.cfdp_receiver.specs.declared.indication.Became.{Became}
-use Rattle.cfdp_receiver.specs.declared.indication.Became.TheVariants.{Nothing, NotOurs, Said, Replied}
+use Rattle.cfdp_receiver.specs.declared.indication.Became.TheVariants.{Nothing, NotOurs, TooFarAhead, Said, Replied}
 use Rattle.cfdp_receiver.specs.declared.indication.Indication.{Indication}
 use Rattle.cfdp_receiver.specs.declared.indication.Indication.TheVariants.{MetadataRecv, FileSegmentRecv, EofRecv, TransactionFinished, Fault, Abandoned}
 use Rattle.cfdp_receiver.specs.declared.indication.Word.{Word}
@@ -42,22 +42,27 @@ word_number words.KeptAlive = 14
 word_number words.Ignored = 15
 word_number words.Finished = 16
 word_number words.Closed = 17
+word_number words.ListBegun = 18
+word_number words.SourcesFull = 19
 
 abbrev pub became_number : Became → ℕ
 became_number Nothing = 0
 became_number NotOurs = 1
+became_number TooFarAhead = 20
 became_number (Replied id reply) = 2
 became_number (Said id word) = word_number word
 
 abbrev pub transaction_by : Became → TransactionId
 transaction_by Nothing = no_one
 transaction_by NotOurs = no_one
+transaction_by TooFarAhead = no_one
 transaction_by (Replied id reply) = id
 transaction_by (Said id word) = id
 
 abbrev pub reply_by : Became → ReplyFields
 reply_by Nothing = bare no_one reply_none
 reply_by NotOurs = bare no_one reply_none
+reply_by TooFarAhead = bare no_one reply_none
 reply_by (Replied id reply) = reported id reply
 reply_by (Said id word) = bare id reply_none
 

@@ -45,8 +45,8 @@ pub use receiver_reads::{
 };
 pub use receiving::{
     cfdp_receiver_cancel, cfdp_receiver_deadline, cfdp_receiver_expire, cfdp_receiver_finish,
-    cfdp_receiver_forget_closed, cfdp_receiver_free, cfdp_receiver_new, cfdp_receiver_octets,
-    cfdp_receiver_receive, cfdp_receiver_work, cfdp_receiver_write,
+    cfdp_receiver_forget_closed, cfdp_receiver_free, cfdp_receiver_move_clock, cfdp_receiver_new,
+    cfdp_receiver_octets, cfdp_receiver_receive, cfdp_receiver_work, cfdp_receiver_write,
 };
 pub use store::{cfdp_look_up, cfdp_read};
 pub use texts::{cfdp_answer_text, cfdp_reply_text};

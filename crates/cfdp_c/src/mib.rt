@@ -38,6 +38,8 @@ pub struct MibFields {
     pub has_crc: u32,
     /// How many octets a NAK PDU has at most, 72 to 65,535.
     pub longest_nak: u32,
+    /// How far ahead of the latest moment another one may be; 0 where there is no limit.
+    pub most_ahead: u32,
 }
 
 /// The fault handler of a number.
@@ -105,6 +107,7 @@ pub(crate) fn mib_of(fields: &MibFields) -> Result<Mib, CallAnswer>
         nak_mode,
         has_crc: fields.has_crc != 0,
         longest_nak,
+        most_ahead: interval_of(fields.most_ahead),
     })
 }
 

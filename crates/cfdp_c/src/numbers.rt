@@ -191,6 +191,12 @@ pub(crate) const BECAME_FINISHED: u32 = 16;
 
 pub(crate) const BECAME_CLOSED: u32 = 17;
 
+pub(crate) const BECAME_LIST_BEGUN: u32 = 18;
+
+pub(crate) const BECAME_SOURCES_FULL: u32 = 19;
+
+pub(crate) const BECAME_TOO_FAR_AHEAD: u32 = 20;
+
 // ---- enum cfdp_indication_kind
 
 pub(crate) const INDICATION_NONE: u32 = 0;

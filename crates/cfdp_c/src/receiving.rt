@@ -1,7 +1,7 @@
 //! A receiver in acknowledged and unacknowledged mode: `include/cfdp_receiver.h` declares these functions, and says the
 //! meaning of each.
 ghost use Rattle.std.specs.Prelude.{◌≡◌, None, Some, IfOk, slice_get};
-ghost use Rattle.cfdp_receiver.specs.State.{CancelAsked, Expire, ForgetAsked, Work, begin};
+ghost use Rattle.cfdp_receiver.specs.State.{CancelAsked, ClockMoved, Expire, ForgetAsked, Work, begin};
 ghost use Rattle.cfdp_reception.specs.Reception.{pdus_in};
 ghost use Rattle.cfdp_c.specs.Answers.{answer_code};
 ghost use Rattle.cfdp_c.specs.Calls.{Frees, transaction_named};
@@ -234,6 +234,26 @@ pub extern "C" fn cfdp_receiver_forget_closed(
         return CallAnswer::NoEngine.code();
     };
     reception.forget_closed();
+    *report = ReportFields::of(&reception);
+    receiver.put(reception);
+    CallAnswer::Done.code()
+}
+
+/// The driver's clock was set, back or ahead: its moment is this one by now.
+#[unsafe(no_mangle)]
+pub extern "C" fn cfdp_receiver_move_clock(
+    alloc: Global,
+    receiver: &mut ReceiverHandle,
+    now: u64,
+    report: &mut ReportFields,
+) -> u32
+    ensures { ReceiverDoes (ClockMoved now) receiver.old.slot.receiver receiver.new.slot.receiver report.old report.new
+        result }
+{
+    let Some(mut reception) = receiver.take(alloc) else {
+        return CallAnswer::NoEngine.code();
+    };
+    reception.move_clock(now);
     *report = ReportFields::of(&reception);
     receiver.put(reception);
     CallAnswer::Done.code()

@@ -82,11 +82,13 @@ fn word_number(word: Word) -> u32
         Word::Acknowledged => numbers::BECAME_ACKNOWLEDGED,
         Word::Answered => numbers::BECAME_ANSWERED,
         Word::Cancelled => numbers::BECAME_CANCELLED,
+        Word::ListBegun => numbers::BECAME_LIST_BEGUN,
         Word::Expired => numbers::BECAME_EXPIRED,
         Word::KeptAlive => numbers::BECAME_KEPT_ALIVE,
         Word::Ignored => numbers::BECAME_IGNORED,
         Word::Finished => numbers::BECAME_FINISHED,
         Word::Closed => numbers::BECAME_CLOSED,
+        Word::SourcesFull => numbers::BECAME_SOURCES_FULL,
     }
 }
 
@@ -97,6 +99,7 @@ fn became_number(became: &Became) -> u32
     match became {
         Became::Nothing => numbers::BECAME_NOTHING,
         Became::NotOurs => numbers::BECAME_NOT_OURS,
+        Became::TooFarAhead => numbers::BECAME_TOO_FAR_AHEAD,
         Became::Replied(_, _) => numbers::BECAME_REPLIED,
         Became::Said(_, word) => word_number(*word),
     }
@@ -107,7 +110,7 @@ fn transaction_by(became: &Became) -> TransactionId
     ensures { result ≡ transaction_by became.now }
 {
     match became {
-        Became::Nothing | Became::NotOurs => NO_ONE,
+        Became::Nothing | Became::NotOurs | Became::TooFarAhead => NO_ONE,
         Became::Said(id, _) | Became::Replied(id, _) => *id,
     }
 }
@@ -117,7 +120,7 @@ fn reply_by(became: &Became) -> ReplyFields
     ensures { result ≡ reply_by became.now }
 {
     match became {
-        Became::Nothing | Became::NotOurs => ReplyFields::none(NO_ONE),
+        Became::Nothing | Became::NotOurs | Became::TooFarAhead => ReplyFields::none(NO_ONE),
         Became::Said(id, _) => ReplyFields::none(*id),
         Became::Replied(id, reply) => ReplyFields::of(*id, reply),
     }

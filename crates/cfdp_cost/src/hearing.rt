@@ -122,10 +122,11 @@ pub fn receiver(alloc: Global, entity: Entity, nak_mode: NakMode) -> Result<Rece
         nak_mode,
         has_crc: false,
         longest_nak: 480,
+        most_ahead: None,
     };
     match Receiver::new(alloc, mib, entity) {
         Ok(receiver) => Ok(receiver),
-        Err(NotMade::Memory) => Err(CostFault::Memory),
+        Err(unmade) if unmade.why == NotMade::Memory => Err(CostFault::Memory),
         Err(_) => Err(CostFault::NotMade),
     }
 }

@@ -8,10 +8,10 @@ use Rattle.std.proofs.lemmas.List.{append-nil}
 use Rattle.cfdp_receiver.specs.declared.mib.Mib.{Mib}
 use Rattle.cfdp_receiver.specs.State.{State, Input, Expire}
 use Rattle.cfdp_receiver.specs.Sent.{as_sent}
-use Rattle.cfdp_receiver.specs.Turning.{after_input, after_all, parts}
-use Rattle.cfdp_receiver.proofs.AfterInputs.{after_both}
+use Rattle.cfdp_receiver.specs.Turning.{turn}
 use Rattle.cfdp_receiver.proofs.DueTimers.{drop_next}
-use Rattle.cfdp_run.specs.Playing.{is_nothing, next_settled, passing, settled_after, settling}
+use Rattle.cfdp_run.specs.Playing.{after_turn, after_turns, is_nothing, next_settled, passing, settled_after, settling}
+use Rattle.cfdp_run.proofs.Follows.{after_both}
 use Rattle.cfdp_run.proofs.Loops.{passing_last, passing_next, passing_none, settling_next, settling_none}
 use Rattle.cfdp_live.specs.Living.{Out, nothing, with_more, made_of, made, MakesOut}
 use Rattle.cfdp_live.specs.code.Living.{with_sent}
@@ -33,23 +33,23 @@ more-assoc a b c =
 
 -- ---- several inputs, and others after them
 
-made_both : (R : State) (is js : List Input) → made R (is ++ js) ≡ with_more (made R is) (made (after_all R is) js)
+made_both : (R : State) (is js : List Input) → made R (is ++ js) ≡ with_more (made R is) (made (after_turns R is) js)
 made_both R [] js = refl
 made_both R (i ∷ is) js =
-    ap (λ (o : Out). with_more (made_of R i) o) (made_both (after_input R i) is js)
-    ∙ sym (more-assoc (made_of R i) (made (after_input R i) is) (made (after_all (after_input R i) is) js))
+    ap (λ (o : Out). with_more (made_of R i) o) (made_both (after_turn R i) is js)
+    ∙ sym (more-assoc (made_of R i) (made (after_turn R i) is) (made (after_turns (after_turn R i) is) js))
 
 -- ---- some inputs are left
 
 pub record LeftToMake (R : State) (inputs : List Input) (start : State) (all : List Input) (before now : Out) : Type 0 where
-  pub ends : after_all R inputs ≡ after_all start all
+  pub ends : after_turns R inputs ≡ after_turns start all
   pub makes : with_more now (made R inputs) ≡ with_more before (made start all)
 
 -- some of them come
 left_next : (R : State) (some more : List Input) (start : State) (all : List Input) (before now : Out) (N : State) (later : Out) →
     LeftToMake R (some ++ more) start all before now → MakesOut R some N now later → LeftToMake N more start all before later
 left_next R some more start all before now N later h p = record {
-  ends = ap (λ (Q : State). after_all Q more) p.ends ∙ sym (after_both R some more) ∙ h.ends;
+  ends = ap (λ (Q : State). after_turns Q more) p.ends ∙ sym (after_both R some more) ∙ h.ends;
   makes =
       ap (λ (o : Out). with_more o (made N more)) p.makes
       ∙ more-assoc now (made R some) (made N more)
@@ -67,10 +67,10 @@ pub settles_next : (left more now : ℕ) (R : State) (i : Input) (start : State)
     left ≡ suc more → next_settled now R ≡ Some i → LeftToMake R (settling left now R) start all before made_so → MakesOut R (i ∷ []) N made_so later →
     LeftToMake N (settling more now N) start all before later
 settles_next left more now R i start all before made_so N later one some h p =
-    let first : settling left now R ≡ (i ∷ []) ++ settling more now (after_input R i) = ap (λ (k : ℕ). settling k now R) one
+    let first : settling left now R ≡ (i ∷ []) ++ settling more now (after_turn R i) = ap (λ (k : ℕ). settling k now R) one
     ∙ settling_next more now R i some in
     let next =
-    left_next R (i ∷ []) (settling more now (after_input R i)) start all before made_so N later
+    left_next R (i ∷ []) (settling more now (after_turn R i)) start all before made_so N later
     (subst (λ (is : List Input). LeftToMake R is start all before made_so) first h) p in
     subst (λ (Q : State). LeftToMake N (settling more now Q) start all before later) (sym p.ends) next
 
@@ -80,18 +80,18 @@ settles_end left now R start all before made_so none h =
     left_none R start all before made_so (subst (λ (is : List Input). LeftToMake R is start all before made_so) (settling_none left now R none) h)
 
 pub passes_next : (left more now : ℕ) (R start : State) (all : List Input) (before made_so : Out) (N : State) (later : Out) →
-    left ≡ suc more → is_nothing (parts R (Expire now)).answer.became ≡ false → LeftToMake R (passing left now R) start all before made_so →
+    left ≡ suc more → is_nothing (turn R (Expire now)).1.became ≡ false → LeftToMake R (passing left now R) start all before made_so →
     MakesOut R (settled_after now R (Expire now)) N made_so later → LeftToMake N (passing more now N) start all before later
 passes_next left more now R start all before made_so N later one some h p =
     let inputs = settled_after now R (Expire now) in
-    let first : passing left now R ≡ inputs ++ passing more now (after_all R inputs) = ap (λ (k : ℕ). passing k now R) one ∙ passing_next more now R some in
+    let first : passing left now R ≡ inputs ++ passing more now (after_turns R inputs) = ap (λ (k : ℕ). passing k now R) one ∙ passing_next more now R some in
     let next =
-    left_next R inputs (passing more now (after_all R inputs)) start all before made_so N later
+    left_next R inputs (passing more now (after_turns R inputs)) start all before made_so N later
     (subst (λ (is : List Input). LeftToMake R is start all before made_so) first h) p in
     subst (λ (Q : State). LeftToMake N (passing more now Q) start all before later) (sym p.ends) next
 
 pub passes_last : (left more now : ℕ) (R start : State) (all : List Input) (before made_so : Out) (N : State) (later : Out) →
-    left ≡ suc more → is_nothing (parts R (Expire now)).answer.became ≡ true → LeftToMake R (passing left now R) start all before made_so →
+    left ≡ suc more → is_nothing (turn R (Expire now)).1.became ≡ true → LeftToMake R (passing left now R) start all before made_so →
     MakesOut R (Expire now ∷ []) N made_so later → MakesOut start all N before later
 passes_last left more now R start all before made_so N later one none h p =
     let first : passing left now R ≡ (Expire now ∷ []) ++ [] = ap (λ (k : ℕ). passing k now R) one ∙ passing_last more now R none in

@@ -17,7 +17,8 @@ use Rattle.cfdp_receiver.specs.declared.indication.Indication.TheVariants.{Trans
 use Rattle.cfdp_receiver.specs.declared.mib.Mib.{Mib}
 use Rattle.cfdp_receiver.specs.State.{AnswerFields, Input, State}
 use Rattle.cfdp_receiver.specs.Sent.{as_sent}
-use Rattle.cfdp_receiver.specs.Turning.{after_input, after_all, parts}
+use Rattle.cfdp_receiver.specs.Turning.{turn}
+use Rattle.cfdp_run.specs.Playing.{after_turn, after_turns}
 use Rattle.cfdp_reports.specs.Reports.{answer_pdus, indication_lines}
 use Rattle.cfdp_texts.specs.Replies.{reply_line}
 use Rattle.cfdp_transactions.specs.declared.reply.Reply.TheVariants.{Refused}
@@ -50,12 +51,12 @@ made_of_answer mib a = record {
 }
 
 abbrev pub made_of : State → Input → Out
-made_of R i = made_of_answer R.mib (parts R i).answer
+made_of R i = made_of_answer R.mib (turn R i).1
 
 abbrev pub made : State → List Input → Out
 made R [] = nothing
-made R (i ∷ is) = with_more (made_of R i) (made (after_input R i) is)
+made R (i ∷ is) = with_more (made_of R i) (made (after_turn R i) is)
 
 pub record MakesOut (R : State) (inputs : List Input) (N : State) (before after : Out) : Type 0 where
-  pub ends : N ≡ after_all R inputs
+  pub ends : N ≡ after_turns R inputs
   pub makes : after ≡ with_more before (made R inputs)

@@ -5,7 +5,7 @@ ghost use Rattle.cfdp_receiver.specs.Heard.{heard};
 ghost use Rattle.cfdp_receiver.specs.StateMachine.{answer_in};
 ghost use Rattle.cfdp_receiver.specs.Sent.{longest_sealed};
 ghost use Rattle.cfdp_receiver.specs.State.{Expire, Finish, Work};
-ghost use Rattle.cfdp_receiver.specs.Turning.{parts};
+ghost use Rattle.cfdp_receiver.specs.Turning.{turn};
 ghost use Rattle.cfdp_transactions.specs.MostSettled.{most_settled};
 ghost use Rattle.cfdp_run.specs.Playing.{heard_inputs, is_nothing, most_timers, passing, settled_after, settling};
 ghost use Rattle.cfdp_live.specs.Living.{MakesOut, made_of_answer, with_more};
@@ -117,14 +117,14 @@ impl Live {
     /// A timer that is due is served, and all is settled. Returns whether none was due.
     fn expire(&mut self, alloc: Global, now: u64, output: &mut Output) -> Result<bool, AllocError>
         ensures idle { IfOk result (λ idle. idle ≡ is_nothing
-            (parts self.old.receiver.state (Expire now)).answer.became) }
+            (turn self.old.receiver.state (Expire now)).1.became) }
         ensures none { result ≡ Ok true → MakesOut self.old.receiver.state
             (Expire now ∷ []) self.new.receiver.state output.old output.new }
         ensures some { result ≡ Ok false → MakesOut self.old.receiver.state
             (settled_after now self.old.receiver.state (Expire now)) self.new.receiver.state output.old output.new }
     {
         let answer = self.receiver.expire(now);
-        if let Became::Nothing = answer.became() {
+        if let Became::Nothing | Became::TooFarAhead = answer.became() {
             self.push(alloc, &answer, output)?;
             return Ok(true);
         }

@@ -62,7 +62,7 @@ fn push_refusal(alloc: Global, became: &Became, text: &mut Vec<u8>) -> Result<()
 {
     match became {
         Became::Replied(id, reply) => push_if_refused(alloc, *id, reply, text),
-        Became::Nothing | Became::NotOurs | Became::Said(_, _) => Ok(()),
+        Became::Nothing | Became::NotOurs | Became::TooFarAhead | Became::Said(_, _) => Ok(()),
     }
 }
 

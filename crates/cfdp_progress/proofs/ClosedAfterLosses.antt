@@ -14,10 +14,11 @@ use Rattle.cfdp_directives.specs.declared.ack.Ack.{Ack}
 use Rattle.cfdp_directives.specs.declared.prompt.Prompt.{Prompt}
 use Rattle.cfdp_retransmission.specs.Timers.{passed}
 use Rattle.cfdp_retransmission.specs.declared.timer.Expiry.TheVariants.{Again, Limit}
-use Rattle.cfdp_sessions.specs.Closed.{ClosedFields, with_name, remembers}
+use Rattle.cfdp_sessions.specs.Closed.{ClosedFields, most_closed, with_closed, remembers}
 use Rattle.cfdp_sessions.specs.Sessions.{SessionFields, session_id, found, without_session, AreDistinct}
 use Rattle.cfdp_sessions.specs.declared.session.Stage.{Stage}
 use Rattle.cfdp_sessions.specs.declared.session.Stage.TheVariants.{Held, Known, Over as OverStage, Waiting}
+use Rattle.cfdp_sessions.proofs.ClosedNames.{name_remembered}
 use Rattle.cfdp_sessions.proofs.Names.{found_name, replaced_self, gone}
 use Rattle.cfdp_transactions.specs.Entry.{id_of}
 use Rattle.cfdp_transactions.specs.World.{World}
@@ -26,7 +27,7 @@ use Rattle.cfdp_transactions.specs.Next.{run, replies}
 use Rattle.cfdp_receiver.specs.declared.indication.Became.TheVariants as became
 use Rattle.cfdp_receiver.specs.declared.indication.Word.TheVariants as words
 use Rattle.cfdp_receiver.specs.declared.mib.Mib.{Mib}
-use Rattle.cfdp_receiver.specs.State.{State, Input, MetadataPdu, DataPdu, EofPdu, AckPdu, PromptPdu, OtherPdu, Expire, Work, Finish, CancelAsked, ForgetAsked, session_of, is_closed, at_of}
+use Rattle.cfdp_receiver.specs.State.{State, Input, MetadataPdu, DataPdu, EofPdu, AckPdu, PromptPdu, OtherPdu, Expire, Work, Finish, CancelAsked, ForgetAsked, ClockMoved, NotTaken, session_of, is_closed, at_of}
 use Rattle.cfdp_receiver.specs.Due as Dues
 use Rattle.cfdp_receiver.specs.Handing as Handing
 use Rattle.cfdp_receiver.specs.Turning as Turning
@@ -93,17 +94,10 @@ kept_prompt R L h prompt s same here w =
     (Turning.keeps L (Turning.said_of_header h words.Idle)) (and_right s.header.acknowledged takes (ap Turning.takes_prompts (at_waiting L.world s w)))))
     (ap (λ (ss : List SessionFields). found ss (id_of h)) same ∙ here)
 
-kept_cancel : (R L : State) (rs : List Reply) (id : TransactionId) (s : SessionFields) (stage : Stage) → L.sessions ≡ R.sessions →
-    session_of R id ≡ Some s → stage ≡ Waiting → KeepsWaiting id s (Turning.cancel_stage L rs s stage)
-kept_cancel R L rs id s (Held eof) same here w = absurd cc
-kept_cancel R L rs id s Known same here w = absurd cc
-kept_cancel R L rs id s (OverStage ending) same here w = absurd cc
-kept_cancel R L rs id s Waiting same here w = ap (λ (ss : List SessionFields). found ss id) same ∙ here
-
 -- ---- its acknowledgement
 
-pub remembers_it : (c : ClosedFields) (id : TransactionId) → remembers (with_name c id) id ≡ true
-remembers_it c id = or_left (is_same id id) (list_any (λ (name : TransactionId). is_same name id) (take 255 c.names)) (same_itself id)
+pub remembers_it : (c : ClosedFields) (s : SessionFields) → remembers (with_closed c s) (session_id s) ≡ true
+remembers_it c s = name_remembered c (most_closed s.header) s.has_changed (session_id s) (session_id s) (same_itself (session_id s))
 
 own_ack : (R : State) (now : ℕ) (h : Header) (ack : Ack) (s : SessionFields) → AreDistinct R.sessions → session_of R (id_of h) ≡ Some s →
     s.stage ≡ Waiting → TurnsWaiting R (AckPdu now h ack) (id_of h) s
@@ -115,7 +109,7 @@ own_ack R now h ack s d here w =
     let five = ack.directive == 5 in
     let quiet = Turning.keeps L (Turning.quiet (Turning.foreign h)) in
     let idle = Turning.keeps L (Turning.said_of_header h words.Idle) in
-    let closing = Turning.closes L (session_id s) (Turning.said_of_header h words.Acknowledged) in
+    let closing = Turning.closes L s (Turning.said_of_header h words.Acknowledged) in
     let own = Turning.ack_parts L h ack (session_of L id) in
     let staged : own ≡ (if five then closing else idle) = ap (Turning.ack_parts L h ack) here ∙ ap (Turning.ack_stage L h ack s) w in
     elim (cases_Bool ours) [
@@ -130,10 +124,24 @@ own_ack R now h ack s d here w =
             let name = found_name R.sessions id s here in
             Closes (ap (λ (p : Turning.Parts). found p.sessions id) parts ∙ ap (λ (n : TransactionId). found (without_session R.sessions n) id) name
             ∙ gone R.sessions id d)
-            (ap (λ (p : Turning.Parts). remembers p.closed id) parts ∙ ap (λ (n : TransactionId). remembers (with_name R.closed n) id) name
-            ∙ remembers_it R.closed id)
+            (ap (λ (p : Turning.Parts). remembers p.closed id) parts ∙ ap (remembers (with_closed R.closed s)) (sym name)
+            ∙ remembers_it R.closed s)
       ]
     ]
+
+-- the user's request to cancel closes it
+own_cancel : (R : State) (now : ℕ) (id : TransactionId) (s : SessionFields) → AreDistinct R.sessions → session_of R id ≡ Some s →
+    s.stage ≡ Waiting → TurnsWaiting R (CancelAsked now id) id s
+own_cancel R now id s d here w =
+    let i = CancelAsked now id in
+    let L = Handing.later now R in
+    let rs = replies R.world (Handing.handed R i) in
+    let closing = Turning.closes L s (Turning.said_word s words.Closed) in
+    let parts : Turning.parts R i ≡ closing = ap (Turning.cancel_parts L rs id) here ∙ ap (Turning.cancel_stage L rs s) w in
+    let name = found_name R.sessions id s here in
+    Closes (ap (λ (p : Turning.Parts). found p.sessions id) parts ∙ ap (λ (n : TransactionId). found (without_session R.sessions n) id) name
+    ∙ gone R.sessions id d)
+    (ap (λ (p : Turning.Parts). remembers p.closed id) parts ∙ ap (remembers (with_closed R.closed s)) (sym name) ∙ remembers_it R.closed s)
 
 -- ---- each input
 
@@ -233,18 +241,12 @@ turn_of R (Finish now) id s d here w none =
       | inr other ↦ other_turned R (Finish now) id s here other refl
     ]
 turn_of R (CancelAsked now n) id s d here w none = elim (cases_Bool (is_same n id)) [
-  | inl same ↦
-      let i = CancelAsked now n in
-      let L = Handing.later now R in
-      let it = same_is n id same in
-      let rs = replies R.world (Handing.handed R i) in
-      let own : session_of R n ≡ Some s = ap (found R.sessions) it ∙ here in
-      let kept : KeepsWaiting n s (Turning.cancel_parts L rs n (session_of L n)) =
-      subst (λ (o : Option SessionFields). KeepsWaiting n s (Turning.cancel_parts L rs n o)) (sym own) (kept_cancel R L rs n s s.stage refl own w) in
-      Stays (subst (λ (x : TransactionId). session_of (Turning.after_input R i) x ≡ Some s) it kept) refl
+  | inl same ↦ subst (λ (m : TransactionId). TurnsWaiting R (CancelAsked now m) id s) (sym (same_is n id same)) (own_cancel R now id s d here w)
   | inr other ↦ other_turned R (CancelAsked now n) id s here other refl
 ]
 turn_of R ForgetAsked id s d here w none = Stays here refl
+turn_of R (ClockMoved moment) id s d here w none = Stays here refl
+turn_of R NotTaken id s d here w none = Stays here refl
 
 -- ---- several inputs
 

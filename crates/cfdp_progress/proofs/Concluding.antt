@@ -1,6 +1,6 @@
 -- A transaction that takes no file data any more: its items are performed, and its outcome is handed out.
 use Rattle.std.specs.Prelude.{not, ◌==◌, if◌then◌else◌, is_some, slice_get, slice_set}
-use Rattle.std.proofs.Common.{◌≡◌, ◌⊎◌, inl, inr, ℕ, zero, suc, Bool, true, false, ◌&&◌, ◌||◌, List, [], ◌∷◌, drop, Option, Some, None, refl, sym, ap, subst, ◌∙◌}
+use Rattle.std.proofs.Common.{◌≡◌, ◌⊎◌, inl, inr, ℕ, zero, suc, Bool, true, false, not, ◌&&◌, ◌||◌, ◌==◌, if◌then◌else◌, List, [], ◌∷◌, drop, Option, Some, None, refl, sym, ap, subst, ◌∙◌}
 use Rattle.std.proofs.lemmas.Bool.{cond_both, cond-true, cond-false, cases_Bool, and_parts, not-true, both_ways}
 use Rattle.std.proofs.lemmas.Option.{same_Some}
 use Rattle.cfdp_status.proofs.Choices.{either_way}
@@ -37,11 +37,12 @@ use Rattle.cfdp_transactions.proofs.Finding.{found_name as entry_name}
 use Rattle.cfdp_transactions.proofs.Lookups.{set_own}
 use Rattle.cfdp_transactions.proofs.Options.{chosen_some}
 use Rattle.cfdp_receiver.specs.declared.indication.Became.TheVariants as became
+use Rattle.cfdp_directives.specs.declared.ack.TransactionStatus.TheVariants.{Active}
 use Rattle.cfdp_receiver.specs.declared.indication.Word.TheVariants as words
 use Rattle.cfdp_receiver.specs.declared.joint_phase.JointPhase.{JointPhase}
 use Rattle.cfdp_receiver.specs.declared.joint_phase.JointPhase.TheVariants.{Executing as At_executing, Over as At_over}
 use Rattle.cfdp_receiver.specs.declared.mib.Mib.{Mib}
-use Rattle.cfdp_receiver.specs.State.{State, Input, MetadataPdu, DataPdu, EofPdu, AckPdu, PromptPdu, OtherPdu, Expire, Work, Finish, CancelAsked, ForgetAsked, session_of, at_of, at_stage, at_entry, at_phase}
+use Rattle.cfdp_receiver.specs.State.{State, Input, MetadataPdu, DataPdu, EofPdu, AckPdu, PromptPdu, OtherPdu, Expire, Work, Finish, CancelAsked, ForgetAsked, ClockMoved, NotTaken, session_of, at_of, at_stage, at_entry, at_phase}
 use Rattle.cfdp_receiver.specs.Due as Dues
 use Rattle.cfdp_receiver.specs.Handing as Handing
 use Rattle.cfdp_receiver.specs.Turning as Turning
@@ -51,7 +52,7 @@ use Rattle.cfdp_receiver.proofs.FinishedSentAtMost.{stage_due, alive_due, first_
 use Rattle.cfdp_receiver.proofs.TurnShapes.{others_stay}
 use Rattle.cfdp_progress.specs.Concluding.{has_nothing_left, WasConcluded, ConcludedWhenDone, IsSentAndWaits, FinishedIsSent, FinishedIsSentAlone}
 use Rattle.cfdp_receiver.proofs.OthersStay.{other_than, others_keep_entries, run_sound}
-use Rattle.cfdp_progress.proofs.Turns.{heard_is, roused_is}
+use Rattle.cfdp_progress.proofs.Turns.{heard_is, roused_is, unless_both}
 use Rattle.cfdp_leases.proofs.Admitted.{same_is}
 
 -- ---- the entry, at events of its own
@@ -251,11 +252,16 @@ own_data R now h piece s here known p =
 
 eof_stage : (R L : State) (U : World) (rs : List Reply) (h : Header) (eof : Eof) (s : SessionFields) (stage : Stage) → L.sessions ≡ R.sessions →
     session_of R (id_of h) ≡ Some s → s.stage ≡ Known → Past R.world (id_of h) →
-    stage ≡ Known → KnownStill (run R.world (Handing.where_known stage (EofCame h eof ∷ []))) (Turning.eof_stage L U rs h eof s stage).sessions (id_of h)
+    stage ≡ Known →
+    KnownStill (run R.world (Handing.where_known stage (Handing.eof_events L h eof))) (Turning.eof_stage L U rs h eof s stage).sessions (id_of h)
 eof_stage R L U rs h eof s (Held held) same here known p k = absurd cc
 eof_stage R L U rs h eof s Known same here known p k =
-    subst (λ (ss : List SessionFields). KnownStill (next R.world (EofCame h eof)).0 (replaced ss (Turning.heard_session L U s)) (id_of h)) (sym same)
-    (heard_still R L U (next R.world (EofCame h eof)).0 (id_of h) s here known (eof_next R.world h eof p))
+    unless_both (λ (es : List Event) (parts : Turning.Parts). KnownStill (run R.world es) parts.sessions (id_of h))
+    (not (eof.condition == 0) && Handing.is_list_begun L (id_of h)) (EofCame h eof ∷ []) (Turning.keeps L (Turning.acks_only h eof Active words.ListBegun))
+    (Turning.takes_eof L U rs h eof s)
+    (subst (λ (ss : List SessionFields). KnownStill R.world ss (id_of h)) (sym same) (kept_still R R.world (id_of h) s here known p))
+    (subst (λ (ss : List SessionFields). KnownStill (next R.world (EofCame h eof)).0 (replaced ss (Turning.heard_session L U s)) (id_of h)) (sym same)
+    (heard_still R L U (next R.world (EofCame h eof)).0 (id_of h) s here known (eof_next R.world h eof p)))
 eof_stage R L U rs h eof s (OverStage ending) same here known p k = absurd cc
 eof_stage R L U rs h eof s Waiting same here known p k = absurd cc
 
@@ -266,10 +272,10 @@ own_eof R now h eof s here known p =
     let L = Handing.later now R in
     let U = run R.world (Handing.handed R i) in
     let rs = replies R.world (Handing.handed R i) in
-    still_if R.world (id_of h) (Handing.is_ours L h) (Handing.of_session (session_of L (id_of h)) (EofCame h eof ∷ []))
+    still_if R.world (id_of h) (Handing.is_ours L h) (Handing.of_session (session_of L (id_of h)) (Handing.eof_events L h eof))
     (Turning.eof_parts L U rs h eof (session_of L (id_of h))) (Turning.keeps L (Turning.quiet (Turning.foreign h)))
-    (subst (λ (o : Option SessionFields). KnownStill (run R.world (Handing.of_session o (EofCame h eof ∷ []))) (Turning.eof_parts L U rs h eof o).sessions
-    (id_of h)) (sym here)
+    (subst (λ (o : Option SessionFields). KnownStill (run R.world (Handing.of_session o (Handing.eof_events L h eof)))
+    (Turning.eof_parts L U rs h eof o).sessions (id_of h)) (sym here)
     (eof_stage R L U rs h eof s s.stage refl here known p known))
     (kept_still R R.world (id_of h) s here known p)
 
@@ -318,11 +324,18 @@ own_other R now h s here known p =
 
 cancel_stage : (R L : State) (rs : List Reply) (id : TransactionId) (s : SessionFields) (stage : Stage) → L.sessions ≡ R.sessions →
     session_of R id ≡ Some s → s.stage ≡ Known → Past R.world id → stage ≡ Known →
-    KnownStill (run R.world (Handing.where_known stage (Cancel id ∷ []))) (Turning.cancel_stage L rs s stage).sessions id
+    KnownStill (run R.world (Handing.where_known stage (Handing.cancel_events L id))) (Turning.cancel_stage L rs s stage).sessions id
 cancel_stage R L rs id s (Held eof) same here known p k = absurd cc
 cancel_stage R L rs id s Known same here known p k =
-    subst (λ (ss : List SessionFields). KnownStill (next R.world (Cancel id)).0 ss id) (sym same)
-    (kept_still R (next R.world (Cancel id)).0 id s here known (cancel_next R.world id p))
+    let begun = Turning.keeps L (Turning.said_word s words.ListBegun) in
+    let handed = Turning.keeps L (Turning.quiet (Turning.became_reply (session_id s) rs)) in
+    subst (λ (n : TransactionId). KnownStill (run R.world (Handing.cancel_events L id)) (if Handing.is_list_begun L n then begun else handed).sessions id)
+    (sym (found_name R.sessions id s here))
+    (unless_both (λ (es : List Event) (parts : Turning.Parts). KnownStill (run R.world es) parts.sessions id) (Handing.is_list_begun L id)
+    (Cancel id ∷ []) begun handed
+    (subst (λ (ss : List SessionFields). KnownStill R.world ss id) (sym same) (kept_still R R.world id s here known p))
+    (subst (λ (ss : List SessionFields). KnownStill (next R.world (Cancel id)).0 ss id) (sym same)
+    (kept_still R (next R.world (Cancel id)).0 id s here known (cancel_next R.world id p))))
 cancel_stage R L rs id s (OverStage ending) same here known p k = absurd cc
 cancel_stage R L rs id s Waiting same here known p k = absurd cc
 
@@ -332,7 +345,8 @@ own_cancel R now id s here known p =
     let i = CancelAsked now id in
     let L = Handing.later now R in
     let rs = replies R.world (Handing.handed R i) in
-    subst (λ (o : Option SessionFields). KnownStill (run R.world (Handing.of_session o (Cancel id ∷ []))) (Turning.cancel_parts L rs id o).sessions id)
+    subst (λ (o : Option SessionFields). KnownStill (run R.world (Handing.of_session o (Handing.cancel_events L id)))
+    (Turning.cancel_parts L rs id o).sessions id)
     (sym here)
     (cancel_stage R L rs id s s.stage refl here known p known)
 
@@ -475,6 +489,8 @@ turn_of next_sound promised R (CancelAsked now n) id s sound d here known p = el
   | inr other ↦ Goes_on (other_still next_sound promised R (CancelAsked now n) id s sound here known p refl other)
 ]
 turn_of next_sound promised R ForgetAsked id s sound d here known p = Goes_on (kept_still R R.world id s here known p)
+turn_of next_sound promised R (ClockMoved moment) id s sound d here known p = Goes_on (kept_still R R.world id s here known p)
+turn_of next_sound promised R NotTaken id s sound d here known p = Goes_on (kept_still R R.world id s here known p)
 
 -- ---- nothing is left
 
@@ -568,9 +584,9 @@ sent_and_waits R moment s x d over kept mode there sends =
     let i = Finish moment in
     let L = Handing.later moment R in
     let o = Turning.outcome_for s x in
-    let closed = Turning.closes L (session_id s) (Turning.said_word s words.Closed) in
-    let quietly = Turning.closes L (session_id s) (Turning.concluded s o words.Closed) in
-    let unacknowledged = Turning.closes L (session_id s) (Turning.sends_it s o words.Closed) in
+    let closed = Turning.closes L (Turning.settled s o) (Turning.said_word s words.Closed) in
+    let quietly = Turning.closes L (Turning.settled s o) (Turning.concluded s o words.Closed) in
+    let unacknowledged = Turning.closes L (Turning.settled s o) (Turning.sends_it s o words.Closed) in
     let waiting = Turning.replaces_one L (Turning.waits_for_ack L s o) (Turning.sends_it s o words.Finished) in
     let third = if not s.header.acknowledged then unacknowledged else waiting in
     let second = if not o.send then quietly else third in

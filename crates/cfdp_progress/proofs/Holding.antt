@@ -27,7 +27,7 @@ use Rattle.cfdp_receiver.specs.declared.joint_phase.JointPhase.TheVariants.{Held
 use Rattle.cfdp_receiver.specs.declared.mib.Handler.{Handler}
 use Rattle.cfdp_receiver.specs.declared.mib.Handler.TheVariants as handlers
 use Rattle.cfdp_receiver.specs.declared.mib.Mib.{Mib}
-use Rattle.cfdp_receiver.specs.State.{State, AnswerFields, Input, MetadataPdu, DataPdu, EofPdu, AckPdu, PromptPdu, OtherPdu, Expire, Work, Finish, CancelAsked, ForgetAsked, session_of, is_full, at_of, at_stage}
+use Rattle.cfdp_receiver.specs.State.{State, AnswerFields, Input, MetadataPdu, DataPdu, EofPdu, AckPdu, PromptPdu, OtherPdu, Expire, Work, Finish, CancelAsked, ForgetAsked, ClockMoved, NotTaken, session_of, lacks_room, at_of, at_stage, is_full}
 use Rattle.cfdp_receiver.specs.Due as Dues
 use Rattle.cfdp_receiver.specs.Handing as Handing
 use Rattle.cfdp_receiver.specs.Turning as Turning
@@ -254,6 +254,8 @@ held_step R (Finish now) id s d here held on none =
     ]
 held_step R (CancelAsked now n) id s d here held on none = stays_other R (CancelAsked now n) id s false here on
 held_step R ForgetAsked id s d here held on none = kept_quiet R id s false here
+held_step R (ClockMoved moment) id s d here held on none = kept_quiet R id s false here
+held_step R NotTaken id s d here held on none = kept_quiet R id s false here
 
 -- ---- several inputs
 
@@ -326,7 +328,8 @@ open_eof R id moment h eof some e =
     ∙ ap (Turning.eof_parts L V rs h eof) own
     ∙ cond-false (closed || not (eof.condition == 0) || not h.acknowledged) _ _
     (or_from (closed || not (eof.condition == 0)) (not h.acknowledged) (or_from closed (not (eof.condition == 0)) fresh right) mode)
-    ∙ cond-false (is_full L) (Turning.keeps L (Turning.said_of_header h words.TableFull)) (Turning.held_first L h eof) e.not_full in
+    ∙ cond-false (lacks_room L (id_of h)) (Turning.keeps L (Turning.said_of_header h (Turning.no_room_word L))) (Turning.held_first L h eof)
+    (ap (lacks_room R) e.named ∙ e.has_room) in
     record {
       still = record {
         session = new;
@@ -402,6 +405,8 @@ opened_again R id (Work moment) limit count some d h room begins = elim begins [
 opened_again R id (Finish moment) limit count some d h room begins = elim begins [ ]
 opened_again R id (CancelAsked moment n) limit count some d h room begins = elim begins [ ]
 opened_again R id ForgetAsked limit count some d h room begins = elim begins [ ]
+opened_again R id (ClockMoved moment) limit count some d h room begins = elim begins [ ]
+opened_again R id NotTaken limit count some d h room begins = elim begins [ ]
 
 -- where there is no session, no timer of it is served
 not_served : (R : State) (id : TransactionId) (moment : ℕ) (limit : Bool) → AreDistinct R.sessions → session_of R id ≡ None → IsServed R id moment limit → ⊥
@@ -425,3 +430,5 @@ opened_first R id (Work moment) limit some d none begins = elim begins [ ]
 opened_first R id (Finish moment) limit some d none begins = elim begins [ ]
 opened_first R id (CancelAsked moment n) limit some d none begins = elim begins [ ]
 opened_first R id ForgetAsked limit some d none begins = elim begins [ ]
+opened_first R id (ClockMoved moment) limit some d none begins = elim begins [ ]
+opened_first R id NotTaken limit some d none begins = elim begins [ ]

@@ -33,14 +33,14 @@ use Rattle.cfdp_receiver.proofs.Distinct.{distinct_after}
 use Rattle.cfdp_receiver.proofs.SessionsAreKnown.{Laws, known_after, known_all}
 use Rattle.cfdp_receiver.proofs.FinishedSentAtMost.{first_over_is}
 use Rattle.cfdp_progress.specs.Awaiting.{WasDelivered}
-use Rattle.cfdp_progress.specs.NakRounds.{requests_of_each, IsServed, FirstRound}
+use Rattle.cfdp_progress.specs.NakRounds.{requests_of_each, naks_of_opening, IsServed, FirstRound}
 use Rattle.cfdp_progress.specs.Closing.{is_acknowledged, IsSentOnce, FinishedRound, finished_inputs, AreFinishedRounds, rounds_lost, WasClosed}
 use Rattle.cfdp_progress.specs.Concluding.{has_nothing_left, WasConcluded}
 use Rattle.cfdp_progress.specs.InAll.{EitherRound, as_finished, inputs_of, is_session_of, concludes, IsAcknowledgedAfter, IsWatched, AreEitherRounds, total_lost, lost_in_all, ClosedInAll}
-use Rattle.cfdp_receiver.proofs.OthersStay.{run_sound}
+use Rattle.cfdp_receiver.proofs.OthersStay.{run_sound, sound_all}
 use Rattle.cfdp_progress.proofs.PieceOfAwaiting.{fits_of, few_of}
 use Rattle.cfdp_progress.proofs.Turns.{Before}
-use Rattle.cfdp_progress.proofs.Runs.{still_awaits, sound_all, distinct_all, mib_all}
+use Rattle.cfdp_progress.proofs.Runs.{still_awaits, distinct_all, mib_all}
 use Rattle.cfdp_progress.proofs.Openings.{open_expire, open_first}
 use Rattle.cfdp_progress.proofs.Rounds.{SoFar, Room, is_below, not_enough, round_goes, one_more, lost_more}
 use Rattle.cfdp_progress.proofs.ClosedAfterLosses.{AreLow, IsSafeToSend, over, rounds_close, remembers_it, closed_later, closed_after, closed_before, is_lost_by}
@@ -77,14 +77,14 @@ finish_hands : (R : State) (s : SessionFields) (o : Outcome) → AreDistinct R.s
     Handed (session_id s) (Turning.finish_session R s o)
 finish_hands R s o d here =
     let H = Handed (session_id s) in
-    let closed = Turning.closes R (session_id s) (Turning.said_word s words.Closed) in
-    let quietly = Turning.closes R (session_id s) (Turning.concluded s o words.Closed) in
-    let unacknowledged = Turning.closes R (session_id s) (Turning.sends_it s o words.Closed) in
+    let closed = Turning.closes R (Turning.settled s o) (Turning.said_word s words.Closed) in
+    let quietly = Turning.closes R (Turning.settled s o) (Turning.concluded s o words.Closed) in
+    let unacknowledged = Turning.closes R (Turning.settled s o) (Turning.sends_it s o words.Closed) in
     let waiting = Turning.replaces_one R (Turning.waits_for_ack R s o) (Turning.sends_it s o words.Finished) in
     let third = if not s.header.acknowledged then unacknowledged else waiting in
     let second = if not o.send then quietly else third in
     let none = gone R.sessions (session_id s) d in
-    let named = remembers_it R.closed (session_id s) in
+    let named = remembers_it R.closed (Turning.settled s o) in
     cond_both s.is_abandoned closed second H (λ q. inl (none, named))
     (λ q. cond_both (not o.send) quietly third H (λ z. inl (none, named))
     (λ z. cond_both (not s.header.acknowledged) unacknowledged waiting H (λ x. inl (none, named))
@@ -293,7 +293,7 @@ closed_in_all only_take takes next_sound promised whole R id first is_lost round
     let N = after_input R i in
     let M = after_all N first.rest in
     let exchange = first.exchange in
-    let naks = (parts R i).answer.naks in
+    let naks = naks_of_opening R i e in
     let opened = open_first R id i e eof r.opens r.awaits in
     let sound_now = run_sound next_sound R.world (Handing.handed R i) sound in
     let apart = distinct_after R i d in

@@ -15,7 +15,7 @@ use Rattle.cfdp_transactions.specs.Entry.{id_of}
 use Rattle.cfdp_transactions.specs.Headline.{NextIsSound, NextIsPromised}
 use Rattle.cfdp_transactions.specs.World.{entry_of}
 use Rattle.cfdp_receiver.specs.declared.mib.Mib.{Mib}
-use Rattle.cfdp_receiver.specs.State.{State, Input, MetadataPdu, DataPdu, EofPdu, AckPdu, PromptPdu, OtherPdu, Expire, Work, Finish, CancelAsked, ForgetAsked, session_of}
+use Rattle.cfdp_receiver.specs.State.{State, Input, MetadataPdu, DataPdu, EofPdu, AckPdu, PromptPdu, OtherPdu, Expire, Work, Finish, CancelAsked, ForgetAsked, ClockMoved, NotTaken, session_of}
 use Rattle.cfdp_receiver.specs.Handing.{is_ours}
 use Rattle.cfdp_receiver.specs.Turning.{most_nak_requests, after_input, after_all}
 use Rattle.cfdp_receiver.proofs.Distinct.{distinct_after}
@@ -26,7 +26,8 @@ use Rattle.cfdp_progress.specs.NakRounds.{MetadataOpens, Opens, FirstRound}
 use Rattle.cfdp_progress.proofs.ClosedAfterLosses.{closed_after}
 use Rattle.cfdp_progress.proofs.Holding.{StillHeld, stays_held, Opened, opened_again, opened_first}
 use Rattle.cfdp_progress.proofs.InAll.{AreBelowAll, closed_in_all}
-use Rattle.cfdp_progress.proofs.Runs.{sound_all, distinct_all, mib_all}
+use Rattle.cfdp_receiver.proofs.OthersStay.{sound_all}
+use Rattle.cfdp_progress.proofs.Runs.{distinct_all, mib_all}
 use Rattle.cfdp_progress.proofs.NothingOfFile.{nothing_kept}
 use Rattle.cfdp_leases.proofs.Admitted.{same_is}
 
@@ -170,6 +171,8 @@ came_here R (Work now) is id it = absurd cc
 came_here R (Finish now) is id it = absurd cc
 came_here R (CancelAsked now n) is id it = absurd cc
 came_here R ForgetAsked is id it = absurd cc
+came_here R (ClockMoved moment) is id it = absurd cc
+came_here R NotTaken is id it = absurd cc
 
 came_in : (R : State) (inputs : List Input) (id : TransactionId) → comes R id inputs ≡ true → MetadataCame R inputs id
 came_in R [] id it = absurd cc

@@ -1,7 +1,7 @@
 -- What begins a round: the NAK PDUs of the answer ask for what the transaction lacks.
 use Rattle.std.specs.Prelude.{◌==◌}
 use Rattle.std.proofs.Common.{◌≡◌, ℕ, ◌+◌, ◌≤◌, Bool, true, false, not, ◌&&◌, ◌||◌, List, [], ◌∷◌, map, Option, Some, refl, sym, ap, subst, ◌∙◌, arith}
-use Rattle.std.proofs.lemmas.Bool.{cond-true, and_from, eq-eqb}
+use Rattle.std.proofs.lemmas.Bool.{cond-true, cond-false, and_from, eq-eqb}
 use Rattle.std.proofs.lemmas.Option.{same_Some}
 use Rattle.cfdp_status.specs.declared.transaction.TransactionId.{TransactionId}
 use Rattle.cfdp_leases.specs.Leases.{is_same}
@@ -23,19 +23,21 @@ use Rattle.cfdp_transactions.specs.declared.phase.Phase.{Phase}
 use Rattle.cfdp_transactions.specs.declared.phase.Phase.TheVariants.{Awaiting}
 use Rattle.cfdp_transactions.specs.Next.{run, replies}
 use Rattle.cfdp_transactions.specs.World.{World, entry_of}
+use Rattle.cfdp_directives.specs.declared.ack.TransactionStatus.TheVariants.{Active}
 use Rattle.cfdp_receiver.specs.declared.indication.Word.TheVariants as words
 use Rattle.cfdp_receiver.specs.declared.mib.Mib.{Mib}
 use Rattle.cfdp_receiver.specs.declared.joint_phase.JointPhase.{JointPhase}
 use Rattle.cfdp_receiver.specs.declared.joint_phase.JointPhase.TheVariants.{Awaiting as At_awaiting}
-use Rattle.cfdp_receiver.specs.State.{State, AnswerFields, Input, MetadataPdu, DataPdu, EofPdu, AckPdu, PromptPdu, OtherPdu, Expire, Work, Finish, CancelAsked, ForgetAsked, session_of, at_of}
+use Rattle.cfdp_receiver.specs.State.{State, AnswerFields, Input, MetadataPdu, DataPdu, EofPdu, AckPdu, PromptPdu, OtherPdu, Expire, Work, Finish, CancelAsked, ForgetAsked, ClockMoved, NotTaken, session_of, at_of}
 use Rattle.cfdp_receiver.specs.Due as Dues
 use Rattle.cfdp_receiver.specs.Handing as Handing
 use Rattle.cfdp_receiver.specs.Turning as Turning
 use Rattle.cfdp_receiver.proofs.FinishedSentAtMost.{stage_due, is_it}
 use Rattle.cfdp_receiver.proofs.AnswerParts.{heard_name}
 use Rattle.cfdp_progress.specs.Awaiting.{EntryAwaits, TransactionAwaits}
-use Rattle.cfdp_progress.specs.NakRounds.{requests_of_each, IsServed, EofOpens, MetadataOpens, Opens}
-use Rattle.cfdp_progress.proofs.Turns.{Before, at_is, at_in, asks_none, heard_is}
+use Rattle.cfdp_directives.specs.Reading.{NakFields}
+use Rattle.cfdp_progress.specs.NakRounds.{requests_of_each, IsServed, EofOpens, MetadataOpens, Opens, naks_of_opening}
+use Rattle.cfdp_progress.proofs.Turns.{no_cancel, Before, at_is, at_in, asks_none, heard_is}
 use Rattle.cfdp_progress.proofs.Runs.{before_of}
 use Rattle.cfdp_receiver.proofs.NaksAsk.{from_zero, with_header}
 use Rattle.cfdp_receiver.proofs.Serving.{full_of}
@@ -68,10 +70,10 @@ asks_is mib V s id e known name here =
 
 -- ---- after what begins a round
 
-pub record Opened (R : State) (i : Input) (id : TransactionId) (e : Entry) (eof : Eof) (count : ℕ) : Type 0 where
+pub record Opened (R : State) (i : Input) (id : TransactionId) (e : Entry) (eof : Eof) (sent : List NakFields) (count : ℕ) : Type 0 where
   pub session : SessionFields
   pub before : Before (Turning.after_input R i) id e eof session
-  pub asks : requests_of_each (Turning.parts R i).answer.naks ≡ asked_for (Turning.most_nak_requests R.mib) eof.size e.received
+  pub asks : requests_of_each sent ≡ asked_for (Turning.most_nak_requests R.mib) eof.size e.received
   pub few : session.timer.count ≤ count
 
 -- ---- the NAK timer
@@ -85,7 +87,7 @@ served_is R id e eof s moment limit d b served =
 
 pub open_expire : (R : State) (id : TransactionId) (e : Entry) (eof : Eof) (s : SessionFields) (moment : ℕ) → AreDistinct R.sessions → Before R id e eof s →
     IsServed R id moment false →
-    Opened R (Expire moment) id e eof (s.timer.count + 1)
+    Opened R (Expire moment) id e eof (Turning.parts R (Expire moment)).answer.naks (s.timer.count + 1)
 open_expire R id e eof s moment d b served =
     let i = Expire moment in
     let L = Handing.later moment R in
@@ -130,7 +132,7 @@ limit_is_full R id e eof s moment d b served =
 
 open_eof : (R : State) (id : TransactionId) (moment : ℕ) (h : Header) (came : Eof) (e : Entry) (eof : Eof) → EofOpens R id h came →
     TransactionAwaits (Turning.after_input R (EofPdu moment h came)) id e eof →
-    Opened R (EofPdu moment h came) id e eof 0
+    Opened R (EofPdu moment h came) id e eof (Turning.parts R (EofPdu moment h came)).answer.naks 0
 open_eof R id moment h came e eof r awaits =
     let i = EofPdu moment h came in
     let L = Handing.later moment R in
@@ -142,10 +144,12 @@ open_eof R id moment h came e eof r awaits =
     let core = awaits.core in
     let name = found_name R.sessions id s r.here in
     let own : session_of L (id_of h) ≡ Some s = ap (found R.sessions) r.named ∙ r.here in
-    let parts : Turning.parts R i ≡ Turning.eof_stage L U rs h came s Known =
+    let parts : Turning.parts R i ≡ Turning.takes_eof L U rs h came s =
     cond-true (Handing.is_ours L h) (Turning.eof_parts L U rs h came (session_of L (id_of h))) (Turning.keeps L (Turning.quiet (Turning.foreign h))) r.ours
     ∙ ap (Turning.eof_parts L U rs h came) own
-    ∙ ap (Turning.eof_stage L U rs h came s) r.known in
+    ∙ ap (Turning.eof_stage L U rs h came s) r.known
+    ∙ cond-false (not (came.condition == 0) && Handing.is_list_begun L (id_of h)) (Turning.keeps L (Turning.acks_only h came Active words.ListBegun))
+    (Turning.takes_eof L U rs h came s) (no_cancel L h came r.no_error) in
     let here : found (Turning.after_input R i).sessions id ≡ Some t =
     ap (λ (p : Turning.Parts). found p.sessions id) parts ∙ replaced_self R.sessions t id (s, r.here) (heard_name L U s ∙ name) in
     let it : awaits.session ≡ t = same_Some awaits.session t (sym awaits.here ∙ here) in
@@ -178,7 +182,7 @@ open_eof R id moment h came e eof r awaits =
 
 open_metadata : (R : State) (id : TransactionId) (moment : ℕ) (h : Header) (m : MetadataFields) (e : Entry) (eof : Eof) → MetadataOpens R id h →
     TransactionAwaits (Turning.after_input R (MetadataPdu moment h m)) id e eof →
-    Opened R (MetadataPdu moment h m) id e eof 0
+    Opened R (MetadataPdu moment h m) id e eof (naks_of_opening R (MetadataPdu moment h m) e) 0
 open_metadata R id moment h m e eof r awaits =
     let i = MetadataPdu moment h m in
     let L = Handing.later moment R in
@@ -196,23 +200,16 @@ open_metadata R id moment h m e eof r awaits =
     let here : found (Turning.after_input R i).sessions id ≡ Some t =
     ap (λ (p : Turning.Parts). found p.sessions id) parts ∙ replaced_self R.sessions t id (s, r.here) r.named in
     let it : awaits.session ≡ t = same_Some awaits.session t (sym awaits.here ∙ here) in
-    let known : t.stage ≡ Known = ap (λ (y : SessionFields). y.stage) (sym it) ∙ awaits.known in
-    let waits : at_of U t ≡ At_awaiting core.checks = at_in U t id e core.checks known r.named core.here core.phase in
-    let sent : (Turning.parts R i).answer.naks ≡ Turning.sequence R.mib h 0 (reach e) (Turning.gaps_after 0 e) =
-    ap (λ (p : Turning.Parts). p.answer.naks) parts
-    ∙ cond-true (h.acknowledged && Turning.is_awaiting_at (at_of U t)) (Turning.asks R.mib U t) []
-    (and_from h.acknowledged (Turning.is_awaiting_at (at_of U t)) r.mode (ap Turning.is_awaiting_at waits))
-    ∙ asks_is R.mib U t id e known r.named core.here in
     let count : awaits.session.timer.count ≡ 0 = ap (λ (y : SessionFields). y.timer.count) it in
     record {
       session = awaits.session;
       before = before_of (Turning.after_input R i) id e eof awaits;
-      asks = ap requests_of_each sent ∙ sequence_asks R.mib h e eof core.checks core.phase core.came;
+      asks = sequence_asks R.mib h e eof core.checks core.phase core.came;
       few = omega (arith, count);
     }
 
 pub open_first : (R : State) (id : TransactionId) (i : Input) (e : Entry) (eof : Eof) → Opens R id i → TransactionAwaits (Turning.after_input R i) id e eof →
-    Opened R i id e eof 0
+    Opened R i id e eof (naks_of_opening R i e) 0
 open_first R id (EofPdu moment h came) e eof opens awaits = open_eof R id moment h came e eof opens awaits
 open_first R id (MetadataPdu moment h m) e eof opens awaits = open_metadata R id moment h m e eof opens awaits
 open_first R id (DataPdu moment h piece) e eof opens awaits = elim opens [ ]
@@ -224,3 +221,5 @@ open_first R id (Work moment) e eof opens awaits = elim opens [ ]
 open_first R id (Finish moment) e eof opens awaits = elim opens [ ]
 open_first R id (CancelAsked moment n) e eof opens awaits = elim opens [ ]
 open_first R id ForgetAsked e eof opens awaits = elim opens [ ]
+open_first R id (ClockMoved moment) e eof opens awaits = elim opens [ ]
+open_first R id NotTaken e eof opens awaits = elim opens [ ]

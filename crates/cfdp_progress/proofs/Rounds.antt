@@ -20,10 +20,10 @@ use Rattle.cfdp_receiver.specs.Handing.{handed}
 use Rattle.cfdp_receiver.specs.Turning.{most_nak_requests, parts, after_input, after_all}
 use Rattle.cfdp_receiver.proofs.Distinct.{distinct_after}
 use Rattle.cfdp_progress.specs.Awaiting.{WasDelivered}
-use Rattle.cfdp_progress.specs.NakRounds.{requests_of_each, AreAnswered, IsServed, NakRound, round_inputs, AreNakRounds, all_lost, AreBelow, all_inputs, DeliveredAfterRounds, DeliveredAfterLosses}
-use Rattle.cfdp_receiver.proofs.OthersStay.{run_sound}
+use Rattle.cfdp_progress.specs.NakRounds.{requests_of_each, naks_of_opening, AreAnswered, IsServed, NakRound, round_inputs, AreNakRounds, all_lost, AreBelow, all_inputs, DeliveredAfterRounds, DeliveredAfterLosses}
+use Rattle.cfdp_receiver.proofs.OthersStay.{run_sound, sound_all}
 use Rattle.cfdp_progress.proofs.PieceOfAwaiting.{fits_of, few_of}
-use Rattle.cfdp_progress.proofs.Runs.{Left, keep_both, over_inputs, still_awaits, before_of, sound_all, distinct_all, mib_all, was_later, was_after, was_before, never_waits}
+use Rattle.cfdp_progress.proofs.Runs.{Left, keep_both, over_inputs, still_awaits, before_of, distinct_all, mib_all, was_later, was_after, was_before, never_waits}
 use Rattle.cfdp_progress.proofs.Turns.{Before}
 use Rattle.cfdp_progress.proofs.Openings.{open_expire, open_first, limit_is_full}
 
@@ -182,7 +182,7 @@ delivered_after_losses next_sound promised whole R id first rounds e eof sound d
     let M = after_all N first.rest in
     let most = most_nak_requests R.mib in
     let exchange = first.exchange in
-    let naks = (parts R i).answer.naks in
+    let naks = naks_of_opening R i e in
     let opened = open_first R id i e eof r.opens r.awaits in
     let sound_now = run_sound next_sound R.world (handed R i) sound in
     let apart = distinct_after R i d in

@@ -24,14 +24,14 @@ use Rattle.cfdp_transactions.specs.Next.{next, run}
 use Rattle.cfdp_transactions.specs.Sound.{Sound}
 use Rattle.cfdp_transactions.specs.World.{World, entry_of, index_of, next_runnable}
 use Rattle.cfdp_transactions.proofs.Received.OctetsAndGaps.{gaps_are_missing}
-use Rattle.cfdp_receiver.specs.State.{State, Input, MetadataPdu, DataPdu, EofPdu, AckPdu, PromptPdu, OtherPdu, Expire, Work, Finish, CancelAsked, ForgetAsked, session_of}
+use Rattle.cfdp_receiver.specs.State.{State, Input, MetadataPdu, DataPdu, EofPdu, AckPdu, PromptPdu, OtherPdu, Expire, Work, Finish, CancelAsked, ForgetAsked, ClockMoved, NotTaken, session_of}
 use Rattle.cfdp_receiver.specs.Handing as Handing
 use Rattle.cfdp_receiver.specs.Turning.{after_input, after_all}
 use Rattle.cfdp_receiver.specs.Laws.{touched, is_work}
 use Rattle.cfdp_receiver.proofs.Distinct.{distinct_after}
 use Rattle.cfdp_progress.specs.Awaiting.{EntryAwaits, TransactionAwaits, is_awaiting_entry, awaits_octets, GoesOn, piece_in, pieces_in, IsDelivered, WasDelivered, AnsweredTurns, is_named, is_kept_apart, AreKeptApart, StaysDelivered}
 use Rattle.cfdp_progress.specs.NakRounds.{IsAskedOnce}
-use Rattle.cfdp_receiver.proofs.OthersStay.{others_keep_entries, work_keeps_others, run_sound}
+use Rattle.cfdp_receiver.proofs.OthersStay.{others_keep_entries, work_keeps_others, run_sound, sound_all}
 use Rattle.cfdp_progress.proofs.PieceOfAwaiting.{fits_of}
 use Rattle.cfdp_progress.proofs.Turns.{Before, Still, Is_done, step}
 use Rattle.cfdp_retransmission.proofs.Losing.{there_or_not}
@@ -41,10 +41,6 @@ use Rattle.cfdp_leases.proofs.Held.{same_itself}
 use Rattle.cfdp_leases.proofs.Admitted.{same_is}
 
 -- ---- after several inputs
-
-pub sound_all : NextIsSound → (R : State) (inputs : List Input) → Sound R.world → Sound (after_all R inputs).world
-sound_all next_sound R [] s = s
-sound_all next_sound R (i ∷ is) s = sound_all next_sound (after_input R i) is (run_sound next_sound R.world (Handing.handed R i) s)
 
 pub distinct_all : (R : State) (inputs : List Input) → AreDistinct R.sessions → AreDistinct (after_all R inputs).sessions
 distinct_all R [] d = d
@@ -208,6 +204,8 @@ stays_step next_sound promised R (Finish now) id sound d apart =
 stays_step next_sound promised R (CancelAsked now n) id sound d apart =
     stays_one next_sound promised R (CancelAsked now n) id sound d refl (not-true (is_same (touched R (CancelAsked now n)) id) apart)
 stays_step next_sound promised R ForgetAsked id sound d apart = d
+stays_step next_sound promised R (ClockMoved moment) id sound d apart = d
+stays_step next_sound promised R NotTaken id sound d apart = d
 
 stays_all : NextIsSound → NextIsPromised → (R : State) (inputs : List Input) (id : TransactionId) → Sound R.world → IsDelivered R.world id →
     AreKeptApart R id inputs → IsDelivered (after_all R inputs).world id

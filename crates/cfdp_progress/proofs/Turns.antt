@@ -1,6 +1,6 @@
 -- One turn of a receiver in which a transaction waits for octets.
 use Rattle.std.specs.Prelude.{if◌then◌else◌, ◌==◌}
-use Rattle.std.proofs.Common.{◌≡◌, inl, inr, ℕ, ◌+◌, ◌≤◌, Bool, true, false, not, ◌&&◌, List, [], ◌∷◌, length, Option, Some, None, refl, sym, ap, subst, ◌∙◌, arith}
+use Rattle.std.proofs.Common.{◌≡◌, inl, inr, ℕ, ◌+◌, ◌≤◌, Bool, true, false, not, ◌&&◌, ◌==◌, if◌then◌else◌, List, [], ◌∷◌, length, Option, Some, None, refl, sym, ap, subst, ◌∙◌, arith}
 use Rattle.std.proofs.lemmas.Bool.{cond_both, cond-true, cond-false, cases_Bool, and_parts, and_from, and_left, and_right, eq-eqb, eqb-true, both_ways}
 use Rattle.cfdp_status.proofs.Choices.{either_way}
 use Rattle.cfdp_status.specs.declared.transaction.TransactionId.{TransactionId}
@@ -33,12 +33,13 @@ use Rattle.cfdp_transactions.specs.Next.{next, run, replies}
 use Rattle.cfdp_transactions.specs.Sound.{Sound}
 use Rattle.cfdp_transactions.specs.World.{World, bound, entry_of, index_of, next_runnable}
 use Rattle.cfdp_receiver.specs.declared.indication.Became.TheVariants as became
+use Rattle.cfdp_directives.specs.declared.ack.TransactionStatus.TheVariants.{Active}
 use Rattle.cfdp_receiver.specs.declared.indication.Word.TheVariants as words
 use Rattle.cfdp_receiver.specs.declared.mib.Handler.{Handler}
 use Rattle.cfdp_receiver.specs.declared.mib.Handler.TheVariants as handlers
 use Rattle.cfdp_receiver.specs.declared.joint_phase.JointPhase.{JointPhase}
 use Rattle.cfdp_receiver.specs.declared.joint_phase.JointPhase.TheVariants.{Awaiting as At_awaiting}
-use Rattle.cfdp_receiver.specs.State.{State, Input, MetadataPdu, DataPdu, EofPdu, AckPdu, PromptPdu, OtherPdu, Expire, Work, Finish, CancelAsked, ForgetAsked, session_of, at_of, at_stage, at_entry, at_phase}
+use Rattle.cfdp_receiver.specs.State.{State, Input, MetadataPdu, DataPdu, EofPdu, AckPdu, PromptPdu, OtherPdu, Expire, Work, Finish, CancelAsked, ForgetAsked, ClockMoved, NotTaken, session_of, at_of, at_stage, at_entry, at_phase}
 use Rattle.cfdp_receiver.specs.Due as Dues
 use Rattle.cfdp_receiver.specs.Handing as Handing
 use Rattle.cfdp_receiver.specs.Turning as Turning
@@ -167,15 +168,29 @@ quiet_metadata R now h m e eof s b =
     (quiet_metadata_stage R L U rs h m e s s.stage b.here b.core.here refl b.known))
     (kept_quiet R (id_of h) s false b.here)
 
+-- of two events and what becomes of the sessions, by one test
+pub unless_both : (P : List Event → Turning.Parts → Type 0) (b : Bool) (es : List Event) (p q : Turning.Parts) → P [] p → P es q →
+    P (if b then [] else es) (if b then p else q)
+unless_both P true es p q hp hq = hp
+unless_both P false es p q hp hq = hq
+
+-- an EOF PDU without a fault is handed on
+pub no_cancel : (L : State) (h : Header) (eof : Eof) → eof.condition ≡ 0 → (not (eof.condition == 0) && Handing.is_list_begun L (id_of h)) ≡ false
+no_cancel L h eof none = and_left (not (eof.condition == 0)) (Handing.is_list_begun L (id_of h)) (ap not (eq-eqb eof.condition 0 none))
+
 quiet_eof_stage : (R L : State) (U : World) (rs : List Reply) (h : Header) (other eof : Eof) (e : Entry) (s : SessionFields) (stage : Stage) →
     session_of R (id_of h) ≡ Some s → EntryAwaits R.world (id_of h) e eof →
     other.condition ≡ 0 → L.sessions ≡ R.sessions → stage ≡ Known →
-    Quiet R.world (id_of h) s false (run R.world (Handing.where_known stage (EofCame h other ∷ []))) (Turning.eof_stage L U rs h other s stage).sessions
+    Quiet R.world (id_of h) s false (run R.world (Handing.where_known stage (Handing.eof_events L h other))) (Turning.eof_stage L U rs h other s stage).sessions
 quiet_eof_stage R L U rs h other eof e s (Held held) here a none same k = absurd cc
 quiet_eof_stage R L U rs h other eof e s Known here a none same k =
-    subst (λ (ss : List SessionFields). Quiet R.world (id_of h) s false (next R.world (EofCame h other)).0 (replaced ss (Turning.heard_session L U s)))
+    let begun = Turning.keeps L (Turning.acks_only h other Active words.ListBegun) in
+    let taken = Turning.takes_eof L U rs h other s in
+    subst (λ (b : Bool). Quiet R.world (id_of h) s false (run R.world (if b then [] else EofCame h other ∷ [])) (if b then begun else taken).sessions)
+    (sym (no_cancel L h other none))
+    (subst (λ (ss : List SessionFields). Quiet R.world (id_of h) s false (next R.world (EofCame h other)).0 (replaced ss (Turning.heard_session L U s)))
     (sym same)
-    (heard_quiet R L U (next R.world (EofCame h other)).0 (id_of h) s false here (unmoved_eof R.world h eof other e a none))
+    (heard_quiet R L U (next R.world (EofCame h other)).0 (id_of h) s false here (unmoved_eof R.world h eof other e a none)))
 quiet_eof_stage R L U rs h other eof e s (OverStage ending) here a none same k = absurd cc
 quiet_eof_stage R L U rs h other eof e s Waiting here a none same k = absurd cc
 
@@ -187,9 +202,9 @@ quiet_eof R now h other e eof s b none =
     let L = Handing.later now R in
     let U = run R.world (Handing.handed R i) in
     let rs = replies R.world (Handing.handed R i) in
-    quiet_if R (id_of h) s false (Handing.is_ours L h) (Handing.of_session (session_of L (id_of h)) (EofCame h other ∷ []))
+    quiet_if R (id_of h) s false (Handing.is_ours L h) (Handing.of_session (session_of L (id_of h)) (Handing.eof_events L h other))
     (Turning.eof_parts L U rs h other (session_of L (id_of h))) (Turning.keeps L (Turning.quiet (Turning.foreign h)))
-    (subst (λ (o : Option SessionFields). Quiet R.world (id_of h) s false (run R.world (Handing.of_session o (EofCame h other ∷ [])))
+    (subst (λ (o : Option SessionFields). Quiet R.world (id_of h) s false (run R.world (Handing.of_session o (Handing.eof_events L h other)))
     (Turning.eof_parts L U rs h other o).sessions) (sym b.here)
     (quiet_eof_stage R L U rs h other eof e s s.stage b.here b.core none refl b.known))
     (kept_quiet R (id_of h) s false b.here)
@@ -537,3 +552,6 @@ step next_sound promised R (Finish now) id e eof s sound d b on within = finish_
 step next_sound promised R (CancelAsked now n) id e eof s sound d b on within =
     other_goes next_sound promised R (CancelAsked now n) id e eof s false sound b refl on
 step next_sound promised R ForgetAsked id e eof s sound d b on within = quiet_goes R id e eof s false R.world R.sessions b (kept_quiet R id s false b.here)
+step next_sound promised R (ClockMoved moment) id e eof s sound d b on within =
+    quiet_goes R id e eof s false R.world R.sessions b (kept_quiet R id s false b.here)
+step next_sound promised R NotTaken id e eof s sound d b on within = quiet_goes R id e eof s false R.world R.sessions b (kept_quiet R id s false b.here)

@@ -1,7 +1,6 @@
 -- A worked run, which the check computes: an EOF PDU comes first, with a wrong checksum. The NAK PDU of the first round is lost, and file data that comes
 -- then is not kept. In the second round the Metadata PDU is lost. In the third it comes, and then the whole file, since the same NAK PDU asked for both;
--- the outcome is handed out. The file comes once more, since it was asked for when the Metadata PDU came, and then the acknowledgement of the Finished
--- PDU. So 2 PDUs are lost, and the session is closed in the third round.
+-- the outcome is handed out, and then the acknowledgement of the Finished PDU comes. So 2 PDUs are lost, and the session is closed in the third round.
 use Rattle.std.specs.Prelude.{max}
 use Rattle.std.specs.List.{flat_map}
 use Rattle.std.proofs.Common.{inr, true, false, List, [], ◌∷◌, ◌++◌, refl, sym, subst, arith}
@@ -17,16 +16,16 @@ use Rattle.cfdp_transactions.specs.declared.reply.Reply.{Reply as ReplyOf}
 use Rattle.cfdp_transactions.specs.declared.reply.Reply.TheVariants as Reply
 use Rattle.cfdp_transactions.proofs.Examples.ExampleWords.{id}
 use Rattle.cfdp_receiver.specs.State.{State, Input, MetadataPdu, EofPdu, AckPdu, Expire, Finish, now_of, session_of}
-use Rattle.cfdp_receiver.specs.Handing.{later}
+use Rattle.cfdp_receiver.specs.Handing.{own_time, later}
 use Rattle.cfdp_receiver.specs.Laws.{AreKnown}
-use Rattle.cfdp_receiver.specs.Turning.{Parts, parts_of, after_all}
+use Rattle.cfdp_receiver.specs.Turning.{seen_after, Parts, parts_of, after_all}
 use Rattle.cfdp_receiver.proofs.WorkedWords.{fresh, header, M, data_at, finished_ack}
 use Rattle.cfdp_receiver.proofs.WorkedInputs.{with_entry, admitted}
 use Rattle.cfdp_progress.specs.Awaiting.{TransactionAwaits}
 use Rattle.cfdp_progress.specs.Closing.{WasClosed}
 use Rattle.cfdp_progress.specs.HeldRounds.{HeldRound, held_inputs, IsHeldRound, AreHeldRounds, MetadataCame, MetadataComes, until_metadata, at_metadata, ClosedFromHeld}
 use Rattle.cfdp_progress.specs.InAll.{IsWatched}
-use Rattle.cfdp_progress.specs.NakRounds.{AreAnswered, FirstRound, IsFirstRound}
+use Rattle.cfdp_progress.specs.NakRounds.{AreAnswered, FirstRound, IsFirstRound, naks_of_opening}
 use Rattle.cfdp_progress.proofs.WorkedRun.{patient, sending, asking, wrong, entry_in, session_in}
 
 abbrev begun : State
@@ -49,7 +48,7 @@ third = after_all second (held_inputs metadata_is_lost)
 
 first_is : IsHeldRound begun (id 5) nak_is_lost
 first_is = record {
-  begins = record { ours = refl; named = refl; mode = refl; no_error = refl; none = refl; not_closed = refl; not_full = refl };
+  begins = record { ours = refl; named = refl; mode = refl; no_error = refl; none = refl; not_closed = refl; has_room = refl };
   goes_on = ((λ q. (refl, refl)), tt);
   answered = λ asked kept. absurd cc;
 }
@@ -92,7 +91,8 @@ abbrev joined : State → Input → World × ReplyOf → State
 joined R i x = record {
   world = run x.0 (EofCame (header 5) wrong ∷ []);
   mib = R.mib;
-  now = max R.now (now_of i);
+  now = max R.now (own_time R (now_of i));
+  seen = seen_after R i;
   sessions = (joined_parts R i x).sessions;
   closed = (joined_parts R i x).closed;
 }
@@ -111,10 +111,10 @@ last = record {
   exchange = record {
     asking = asking ((0, 15) ∷ []) false ∷ [];
     sent = sending 0 15 false ∷ [];
-    asking_again = asking ((0, 15) ∷ []) false ∷ [];
-    sent_again = sending 0 15 false ∷ [];
+    asking_again = asking ((0, 15) ∷ []) true ∷ [];
+    sent_again = [];
   };
-  rest = data_at 23 0 15 ∷ Finish 23 ∷ data_at 24 0 15 ∷ AckPdu 25 (header 5) finished_ack ∷ [];
+  rest = data_at 23 0 15 ∷ Finish 23 ∷ AckPdu 25 (header 5) finished_ack ∷ [];
 }
 
 abbrev known : State
@@ -133,25 +133,25 @@ awaits = record {
   core = record { checks = 0; here = refl; phase = refl; came = refl; within = omega arith; short = refl };
 }
 
-answered : AreAnswered known (id 5) (joined_parts there last.opening granted).answer.naks last.exchange last.rest
+answered : AreAnswered known (id 5) (naks_of_opening there last.opening entry) last.exchange last.rest
 unfolding blocks_of weighed_from finished_field
 answered = record {
   exchanged = record {
     asks = refl;
     in_order = (sending 0 15 false ∷ [], [], refl, (refl, refl), refl);
     asks_again = refl;
-    in_order_again = (sending 0 15 false ∷ [], [], refl, (refl, refl), refl);
+    in_order_again = refl;
   };
   come = refl;
-  goes_on = ((λ q. refl), ((λ q. refl), ((λ q. refl), ((λ q. refl), tt))));
-  once = ((λ q. refl), ((λ q. refl), ((λ q. refl), ((λ q. refl), tt))));
+  goes_on = ((λ q. refl), ((λ q. refl), ((λ q. refl), tt)));
+  once = ((λ q. refl), ((λ q. refl), ((λ q. refl), tt)));
 }
 
 watched : IsWatched false known (id 5) last.rest
 unfolding blocks_of weighed_from finished_field
 watched = record {
-  acknowledged = ((λ c. absurd cc), ((λ c kept. refl), ((λ c. absurd cc), ((λ c. absurd cc), tt))));
-  once = ((λ q. refl), ((λ q. refl), ((λ q. refl), ((λ q. refl), tt))));
+  acknowledged = ((λ c. absurd cc), ((λ c kept. refl), ((λ c. absurd cc), tt)));
+  once = ((λ q. refl), ((λ q. refl), ((λ q. refl), tt)));
   done = refl;
 }
 
@@ -168,7 +168,7 @@ last_is = record {
   };
   awaits = subst (λ (x : World × ReplyOf). TransactionAwaits (joined there last.opening x) (id 5) entry wrong) (sym admitted) awaits;
   answered =
-      subst (λ (x : World × ReplyOf). AreAnswered (joined there last.opening x) (id 5) (joined_parts there last.opening x).answer.naks last.exchange last.rest)
+      subst (λ (x : World × ReplyOf). AreAnswered (joined there last.opening x) (id 5) (naks_of_opening there last.opening entry) last.exchange last.rest)
       (sym admitted) answered;
 }
 

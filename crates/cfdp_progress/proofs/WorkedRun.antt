@@ -13,6 +13,7 @@ use Rattle.cfdp_pdus.specs.declared.eof.Eof.{Eof}
 use Rattle.cfdp_retransmission.specs.Naks.{SegmentRequest}
 use Rattle.cfdp_retransmission.specs.Rounds.{Asking, Sending}
 use Rattle.cfdp_retransmission.specs.Timers.{restarted}
+use Rattle.cfdp_sessions.specs.Closed.{no_names}
 use Rattle.cfdp_sessions.specs.Sessions.{SessionFields}
 use Rattle.cfdp_sessions.specs.declared.session.Stage.TheVariants.{Known, Waiting}
 use Rattle.cfdp_transactions.specs.Admission.{new_entry}
@@ -36,7 +37,7 @@ abbrev admitted : Entry
 admitted = new_entry (header 5) M Receiving 0 (Install (codes "f" ∷ []) ∷ []) 2 2
 
 abbrev known : SessionFields
-known = record { header = header 5; stage = Known; timer = restarted 0; alive_at = 0; cause = None; is_abandoned = false; finished = [] }
+known = record { header = header 5; stage = Known; timer = restarted 0; alive_at = 0; cause = None; is_abandoned = false; has_changed = false; finished = [] }
 
 -- both limits are 4
 abbrev pub patient : Mib
@@ -51,8 +52,9 @@ described = record {
   world = record { config = config; filestore = empty_filestore; table = admitted ∷ [] };
   mib = patient;
   now = 0;
+  seen = 0;
   sessions = known ∷ [];
-  closed = record { names = []; forgot = false };
+  closed = record { sources = no_names (header 5).source ∷ []; forgot = false };
 }
 
 abbrev pub sending : ℕ → ℕ → Bool → Sending
@@ -193,6 +195,7 @@ failed = record {
   alive_at = 0;
   cause = None;
   is_abandoned = false;
+  has_changed = false;
   finished = pdu_of 5 (0x54 ∷ 6 ∷ 1 ∷ 2 ∷ []);
 }
 

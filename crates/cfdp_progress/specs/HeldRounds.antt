@@ -32,7 +32,7 @@ use Rattle.cfdp_sessions.specs.declared.session.Stage.{Stage}
 use Rattle.cfdp_sessions.specs.declared.session.Stage.TheVariants.{Held}
 use Rattle.cfdp_transactions.specs.Entry.{Entry, id_of}
 use Rattle.cfdp_transactions.specs.Sound.{Sound}
-use Rattle.cfdp_receiver.specs.State.{State, Input, MetadataPdu, EofPdu, Expire, session_of, is_closed, is_full}
+use Rattle.cfdp_receiver.specs.State.{State, Input, MetadataPdu, EofPdu, Expire, session_of, is_closed, lacks_room}
 use Rattle.cfdp_receiver.specs.Handing.{is_ours}
 use Rattle.cfdp_receiver.specs.Turning.{most_nak_requests, parts, after_input, after_all}
 use Rattle.cfdp_receiver.specs.Laws.{asks_metadata, AreKnown}
@@ -61,7 +61,7 @@ pub record EofHolds (R : State) (id : TransactionId) (header : Header) (eof : Eo
   pub no_error : eof.condition ≡ no_error
   pub none : session_of R id ≡ None
   pub not_closed : is_closed R id ≡ false
-  pub not_full : is_full R ≡ false
+  pub has_room : lacks_room R id ≡ false
 
 abbrev pub BeginsHeldRound : State → TransactionId → Bool → Input → Type 0
 BeginsHeldRound R id is_at_limit (EofPdu now header eof) = EofHolds R id header eof

@@ -13,6 +13,7 @@
 --     all_lost rounds           how much is lost in several: pieces, and 1 more in each in which NAK PDUs are lost
 --     DeliveredAfterRounds      after one round more than was lost, and the spare one, the file was delivered
 --     Opens R id i              the EOF PDU comes, or the Metadata PDU where the EOF PDU came before it
+--     naks_of_opening R i entry     the NAK PDUs that the sender answers then
 --     FirstRound, IsFirstRound  the round that begins so, where octets are missing
 --     lost_from first rounds    how much is lost in this one and later ones
 --     DeliveredAfterLosses      the same, with this round
@@ -28,13 +29,13 @@ use Rattle.cfdp_retransmission.specs.Naks.{SegmentRequest}
 use Rattle.cfdp_retransmission.specs.Rounds.{Exchange, IsExchange, arrived, lost_of, spare_round}
 use Rattle.cfdp_sessions.specs.Sessions.{SessionFields, session_id, AreDistinct}
 use Rattle.cfdp_sessions.specs.declared.session.Stage.TheVariants.{Held, Known}
-use Rattle.cfdp_transactions.specs.Entry.{Entry, id_of}
+use Rattle.cfdp_transactions.specs.Entry.{Entry, id_of, reach}
 use Rattle.cfdp_transactions.specs.Sound.{Sound}
 use Rattle.cfdp_receiver.specs.declared.joint_phase.JointPhase.TheVariants.{Receiving as At_receiving}
 use Rattle.cfdp_receiver.specs.State.{State, Input, MetadataPdu, EofPdu, Expire, session_of, at_of}
 use Rattle.cfdp_receiver.specs.Due.{Due, Stage_due, first_due}
 use Rattle.cfdp_receiver.specs.Handing.{is_ours, later}
-use Rattle.cfdp_receiver.specs.Turning.{most_nak_requests, parts, after_input, after_all}
+use Rattle.cfdp_receiver.specs.Turning.{most_nak_requests, sequence, gaps_after, parts, after_input, after_all}
 use Rattle.cfdp_progress.specs.Awaiting.{awaits_octets, TransactionAwaits, GoesOn, pieces_in, WasDelivered}
 
 abbrev pub is_asking : TransactionId → Due → Bool
@@ -139,12 +140,20 @@ pub record FirstRound : Type 0 where
   pub exchange : Exchange
   pub rest : List Input
 
+-- the NAK PDUs that the sender answers in it: those of the answer to the EOF PDU. The Metadata PDU asks for nothing,
+-- since the NAK PDUs that asked for it asked for the whole file, too: then what these asked for besides it, which is
+-- all that is missing
+abbrev pub naks_of_opening : State → Input → Entry → List NakFields
+naks_of_opening R (MetadataPdu now header metadata) entry =
+    sequence R.mib header 0 (reach entry) (gaps_after 0 entry)
+naks_of_opening R i entry = (parts R i).answer.naks
+
 -- `entry` and `eof` are those after the input that opens it
 pub record IsFirstRound (R : State) (id : TransactionId) (round : FirstRound) (entry : Entry) (eof : Eof) : Type 0 where
   pub opens : Opens R id round.opening
   pub awaits : TransactionAwaits (after_input R round.opening) id entry eof
   pub answered : AreAnswered (after_input R round.opening) id
-      (parts R round.opening).answer.naks round.exchange round.rest
+      (naks_of_opening R round.opening entry) round.exchange round.rest
 
 -- in all rounds
 abbrev pub lost_from : FirstRound → List NakRound → ℕ

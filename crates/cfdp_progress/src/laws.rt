@@ -54,8 +54,8 @@ pub fn delivered_after_rounds()
 }
 
 /// Like [`delivered_after_rounds`], from the first NAK PDUs on. They are sent when the EOF PDU comes and octets are
-/// missing, or when the Metadata PDU comes after it. If the NAK limit is above what is lost in all, and the round more
-/// where it is needed, then it is not reached before.
+/// missing; or, where the Metadata PDU comes after it, they are those that asked for the Metadata PDU. If the NAK limit
+/// is above what is lost in all, and the round more where it is needed, then it is not reached before.
 pub fn delivered_after_losses()
     ensures { DeliveredAfterLosses }
 {
@@ -120,11 +120,12 @@ pub fn metadata_comes()
 {}
 
 /// From such an EOF PDU until the session is closed. A round in which the first NAK PDU or the Metadata PDU is lost
-/// counts as 1. Once the Metadata PDU comes, and octets are missing, what is lost counts as in [`closed_in_all`]. These
-/// octets may come twice, since the NAK PDUs that ask for the Metadata PDU ask for the whole file, too. The session is
-/// closed, at the latest, after one round more than is lost in all. This needs a NAK limit above what is lost before
-/// the Metadata PDU comes, and above what is lost after it. It also needs an ACK limit above the latter. No second
-/// round more is needed, since nothing of the file is there when its Metadata PDU comes.
+/// counts as 1. Once the Metadata PDU comes, and octets are missing, what is lost counts as in [`closed_in_all`]. No
+/// NAK PDU is sent then: the sender goes on with its answer to the NAK PDUs that asked for the Metadata PDU, which
+/// asked for the whole file, too. The session is closed, at the latest, after one round more than is lost in all. This
+/// needs a NAK limit above what is lost before the Metadata PDU comes, and above what is lost after it. It also needs
+/// an ACK limit above the latter. No second round more is needed, since nothing of the file is there when its Metadata
+/// PDU comes.
 pub fn closed_from_held()
     ensures { ClosedFromHeld }
 {

@@ -1,9 +1,7 @@
 -- What an answer has.
 use Rattle.std.proofs.Common.{◌≡◌, ◌⊎◌, inl, inr, ℕ, ◌+◌, ◌≤◌, true, false, not, ◌&&◌, ◌||◌, ◌==◌, if◌then◌else◌, List, [], length, Option, Some, None, refl, sym, ap, subst, ◌∙◌, arith}
 use Rattle.std.proofs.lemmas.Bool.{cond_both, cond-true, or_parts, eqb-true, not-false}
-use Rattle.std.specs.List.{list_any}
 use Rattle.cfdp_status.specs.declared.transaction.TransactionId.{TransactionId}
-use Rattle.cfdp_leases.specs.Leases.{is_same}
 use Rattle.cfdp_pdus.specs.Values.{MetadataFields, FileDataFields}
 use Rattle.cfdp_pdus.specs.declared.header.Header.{Header}
 use Rattle.cfdp_pdus.specs.declared.eof.Eof.{Eof}
@@ -12,6 +10,7 @@ use Rattle.cfdp_directives.specs.declared.ack.TransactionStatus.{TransactionStat
 use Rattle.cfdp_directives.specs.declared.ack.TransactionStatus.TheVariants.{Active}
 use Rattle.cfdp_directives.specs.declared.prompt.Prompt.{Prompt}
 use Rattle.cfdp_directives.specs.declared.prompt.Prompt.TheVariants as prompts
+use Rattle.cfdp_sessions.specs.Closed.{remembers}
 use Rattle.cfdp_sessions.specs.Sessions.{SessionFields, session_id, found}
 use Rattle.cfdp_sessions.specs.code.Sessions.{IsFound}
 use Rattle.cfdp_sessions.specs.declared.session.Stage.{Stage}
@@ -27,7 +26,7 @@ use Rattle.cfdp_receiver.specs.declared.indication.Word.{Word}
 use Rattle.cfdp_receiver.specs.declared.indication.Word.TheVariants as words
 use Rattle.cfdp_receiver.specs.declared.mib.Handler.{Handler}
 use Rattle.cfdp_receiver.specs.declared.mib.Handler.TheVariants as handlers
-use Rattle.cfdp_receiver.specs.State.{State, AnswerFields, Input, MetadataPdu, DataPdu, EofPdu, AckPdu, PromptPdu, OtherPdu, Expire, Work, Finish, CancelAsked, ForgetAsked, now_of, session_of, is_closed, is_full, JointPhase, At_held, At_receiving, At_awaiting, At_executing, At_over, At_waiting, at_of, session_status, status_of}
+use Rattle.cfdp_receiver.specs.State.{State, AnswerFields, Input, MetadataPdu, DataPdu, EofPdu, AckPdu, PromptPdu, OtherPdu, Expire, Work, Finish, CancelAsked, ForgetAsked, ClockMoved, NotTaken, now_of, session_of, is_closed, is_full, JointPhase, At_held, At_receiving, At_awaiting, At_executing, At_over, At_waiting, at_of, session_status, status_of, lacks_room}
 use Rattle.cfdp_receiver.specs.Due as Due
 use Rattle.cfdp_receiver.specs.Handing as Handing
 use Rattle.cfdp_receiver.specs.Turning as Turning
@@ -59,7 +58,7 @@ few_metadata_stage R V rs h m s Waiting = none
 
 few_metadata : (R : State) (V : World) (rs : List Reply) (h : Header) (m : MetadataFields) (s : Option SessionFields) →
     FewIn (Turning.metadata_parts R V rs h m s)
-few_metadata R V rs h m None = cond_both (is_closed R (id_of h) || is_full R) _ _ FewIn (λ _. none) (λ _. none)
+few_metadata R V rs h m None = cond_both (is_closed R (id_of h) || lacks_room R (id_of h)) _ _ FewIn (λ _. none) (λ _. none)
 few_metadata R V rs h m (Some s) = few_metadata_stage R V rs h m s s.stage
 
 few_data : (R : State) (V : World) (rs : List Reply) (h : Header) (piece : FileDataFields) (s : Option SessionFields) →
@@ -71,7 +70,9 @@ few_eof_stage : (R : State) (V : World) (rs : List Reply) (h : Header) (eof : Eo
     FewIn (Turning.eof_stage R V rs h eof s stage)
 few_eof_stage R V rs h eof s (Held kept) =
     cond_both (eof.condition == 0) _ _ FewIn (λ _. (one_ack h eof.condition Active, omega arith)) (λ _. (one_ack h eof.condition Active, omega arith))
-few_eof_stage R V rs h eof s Known = (one_ack h eof.condition Active, omega arith)
+few_eof_stage R V rs h eof s Known =
+    cond_both (not (eof.condition == 0) && Handing.is_list_begun R (id_of h)) _ _ FewIn (λ _. (one_ack h eof.condition Active, omega arith))
+    (λ _. (one_ack h eof.condition Active, omega arith))
 few_eof_stage R V rs h eof s (Over ending) = (one_ack h eof.condition Active, omega arith)
 few_eof_stage R V rs h eof s Waiting = (one_ack h eof.condition Active, omega arith)
 
@@ -79,7 +80,7 @@ few_eof : (R : State) (V : World) (rs : List Reply) (h : Header) (eof : Eof) (s 
 few_eof R V rs h eof None =
     cond_both (is_closed R (id_of h) || not (eof.condition == 0) || not h.acknowledged) _ _ FewIn
     (λ _. (one_ack h eof.condition (status_of R (id_of h)), omega arith))
-    (λ _. cond_both (is_full R) _ _ FewIn (λ _. none) (λ _. (one_ack h eof.condition Active, omega arith)))
+    (λ _. cond_both (lacks_room R (id_of h)) _ _ FewIn (λ _. none) (λ _. (one_ack h eof.condition Active, omega arith)))
 few_eof R V rs h eof (Some s) = few_eof_stage R V rs h eof s s.stage
 
 few_ack_stage : (R : State) (h : Header) (ack : Ack) (s : SessionFields) (stage : Stage) → FewIn (Turning.ack_stage R h ack s stage)
@@ -142,7 +143,7 @@ few_finish R (Some s) = few_session R s (Turning.outcome_for s (entry_of R.world
 
 few_cancel_stage : (R : State) (rs : List Reply) (s : SessionFields) (stage : Stage) → FewIn (Turning.cancel_stage R rs s stage)
 few_cancel_stage R rs s (Held eof) = none
-few_cancel_stage R rs s Known = none
+few_cancel_stage R rs s Known = cond_both (Handing.is_list_begun R (session_id s)) _ _ FewIn (λ _. none) (λ _. none)
 few_cancel_stage R rs s (Over ending) = none
 few_cancel_stage R rs s Waiting = none
 
@@ -162,6 +163,8 @@ few_of R V rs (Work now) = none
 few_of R V rs (Finish now) = few_finish R (Due.first_over R.world R.sessions)
 few_of R V rs (CancelAsked now id) = few_cancel R rs id (session_of R id)
 few_of R V rs ForgetAsked = none
+few_of R V rs (ClockMoved now) = none
+few_of R V rs NotTaken = none
 
 pub few_pdus : FewPdus
 few_pdus R i = few_of (Handing.later (now_of i) R) (run R.world (Handing.handed R i)) (replies R.world (Handing.handed R i)) i
@@ -170,7 +173,7 @@ few_pdus R i = few_of (Handing.later (now_of i) R) (run R.world (Handing.handed 
 
 -- the status that the parts lead to
 abbrev status_in : Turning.Parts → TransactionId → TransactionStatus
-status_in p id = session_status (found p.sessions id) (list_any (λ name. is_same name id) p.closed.names) p.closed.forgot
+status_in p id = session_status (found p.sessions id) (remembers p.closed id) p.closed.forgot
 
 abbrev Acked : State → Header → Eof → Turning.Parts → Type 0
 Acked R h eof p = (p.answer.acks ≡ Turning.acked h eof.condition (status_in p (id_of h))) ⊎ ((p.answer.acks ≡ []) × FindsNoRoom R h eof)
@@ -180,7 +183,7 @@ acked_active : (R : State) (h : Header) (eof : Eof) (p : Turning.Parts) → p.an
     Acked R h eof p
 acked_active R h eof p acks f =
     inl (acks ∙ ap (λ (o : Option SessionFields). Turning.acked h eof.condition
-    (session_status o (list_any (λ name. is_same name (id_of h)) p.closed.names) p.closed.forgot)) (sym f.1))
+    (session_status o (remembers p.closed (id_of h)) p.closed.forgot)) (sym f.1))
 
 pub heard_name : (R : State) (V : World) (s : SessionFields) → session_id (Turning.heard_session R V s) ≡ session_id s
 heard_name R V s = cond_both (Turning.is_news R.world V s) _ s (λ (t : SessionFields). session_id t ≡ session_id s) (λ e. refl) (λ e. refl)
@@ -198,7 +201,10 @@ acked_stage R V rs h eof s (Held kept) e =
     (λ _. acked_keeps R h eof s words.Duplicate e)
     (λ _. acked_active R h eof (Turning.replaces_one R over said) refl (found_put R.sessions over s (id_of h) e refl))
 acked_stage R V rs h eof s Known e =
-    acked_active R h eof (Turning.eof_stage R V rs h eof s Known) refl (found_put R.sessions (Turning.heard_session R V s) s (id_of h) e (heard_name R V s))
+    cond_both (not (eof.condition == 0) && Handing.is_list_begun R (id_of h)) (Turning.keeps R (Turning.acks_only h eof Active words.ListBegun))
+    (Turning.takes_eof R V rs h eof s) (Acked R h eof) (λ _. acked_keeps R h eof s words.ListBegun e)
+    (λ _. acked_active R h eof (Turning.takes_eof R V rs h eof s) refl
+    (found_put R.sessions (Turning.heard_session R V s) s (id_of h) e (heard_name R V s)))
 acked_stage R V rs h eof s (Over ending) e = acked_keeps R h eof s words.Idle e
 acked_stage R V rs h eof s Waiting e = acked_keeps R h eof s words.Idle e
 
@@ -215,19 +221,21 @@ is_first R h eof e =
 
 acked_full : (R : State) (h : Header) (eof : Eof) (p q : Turning.Parts) → session_of R (id_of h) ≡ None → IsFirst R h eof → p.answer.acks ≡ [] →
     Acked R h eof q →
-    Acked R h eof (if is_full R then p else q)
+    Acked R h eof (if lacks_room R (id_of h) then p else q)
 acked_full R h eof p q none new quiet hq =
-    cond_both (is_full R) p q (Acked R h eof) (λ full. inr (quiet, record { none = none; unclosed = new.unclosed; faultless = new.faultless; full = full }))
+    cond_both (lacks_room R (id_of h)) p q (Acked R h eof)
+    (λ full. inr (quiet, record { none = none; unclosed = new.unclosed; faultless = new.faultless; full = full }))
     (λ free. hq)
 
 acked_eof : (R : State) (V : World) (rs : List Reply) (h : Header) (eof : Eof) (s : Option SessionFields) → session_of R (id_of h) ≡ s →
     Acked R h eof (Turning.eof_parts R V rs h eof s)
 acked_eof R V rs h eof None e =
     let new = Turning.begun_session R h (Held eof) in
-    let full = Turning.keeps R (Turning.said_of_header h words.TableFull) in
+    let full = Turning.keeps R (Turning.said_of_header h (Turning.no_room_word R)) in
     let holds = Turning.held_first R h eof in
     let kept = Turning.keeps R (Turning.acks_only h eof (status_of R (id_of h)) (Turning.word_without_session R (id_of h))) in
-    cond_both (is_closed R (id_of h) || not (eof.condition == 0) || not h.acknowledged) kept (if is_full R then full else holds) (Acked R h eof) (λ b. inl refl)
+    cond_both (is_closed R (id_of h) || not (eof.condition == 0) || not h.acknowledged) kept (if lacks_room R (id_of h) then full else holds) (Acked R h eof)
+    (λ b. inl refl)
     (λ b.
     acked_full R h eof full holds e (is_first R h eof b) refl (acked_active R h eof holds refl (found_added R.sessions new (id_of h) (same_itself (id_of h)))))
 acked_eof R V rs h eof (Some s) e = acked_stage R V rs h eof s s.stage e

@@ -1,17 +1,22 @@
 -- What the calls of a receiver do.
-use Rattle.std.specs.Prelude.{slice_get, max, map, is_some, IfSome, IfNone, IfOk, OnErr, Result, Ok, Err}
+use Rattle.std.specs.Prelude.{slice_get, map, is_some, IfSome, IfNone, IfOk, OnErr, Result, Ok, Err}
 use Rattle.std.proofs.Common.{◌≡◌, ℕ, zero, suc, ◌<◌, List, [], ◌∷◌, length, true, false, Option, Some, None, refl, sym, ap, subst, ◌∙◌, arith}
 use Rattle.cfdp_sessions.specs.Sessions.{SessionFields}
 use Rattle.cfdp_transactions.specs.Entry.{Entry, name_of}
 use Rattle.cfdp_transactions.specs.World.{World}
 use Rattle.cfdp_transactions.specs.declared.reply.Reply.{Reply}
-use Rattle.cfdp_receiver.specs.State.{State, Input, now_of}
+use Rattle.cfdp_receiver.specs.State.{State, Input, ClockMoved, now_of}
 use Rattle.cfdp_receiver.specs.Handing.{events_of}
 use Rattle.cfdp_receiver.specs.declared.reading.Dropped.{Dropped}
 use Rattle.cfdp_receiver.specs.StateMachine.{StateMachineFields, AnswerParts, answer_in}
-use Rattle.cfdp_receiver.specs.code.StateMachine.{IsWholeReceiver, Turns, at_moment}
+use Rattle.cfdp_receiver.specs.code.Heard.{input_of}
+use Rattle.cfdp_receiver.specs.code.StateMachine.{IsWholeReceiver, Turns, at_moment, silent}
+use Rattle.cfdp_receiver.specs.declared.indication.Became.TheVariants.{Nothing, TooFarAhead}
+use Rattle.cfdp_receiver.specs.declared.reading.Directed.{Directed}
+use Rattle.cfdp_receiver.specs.declared.reading.Directed.TheVariants as directed
 use Rattle.cfdp_receiver.specs.Turning as Turning
-use Rattle.cfdp_receiver.proofs.LateTurns.{turned, turns_by}
+use Rattle.cfdp_receiver.proofs.LateTurns.{IsAtMoment, turned, turns_by}
+use Rattle.cfdp_receiver.proofs.OwnTime.{clock_moved, near_zero, no_moment, not_taken_stays, taken_else}
 use Rattle.cfdp_receiver.proofs.StaysWhole.{whole_turn}
 
 -- ---- the moment
@@ -26,26 +31,53 @@ moved M L N a now i events parts later t =
     turns_by K N a (i now) (events_of K.state (i K.state.now)) (λ (V : World) (rs : List Reply). Turning.parts_of K.state V rs (i K.state.now))
     (events K.state now K.state.now) (λ (V : World) (rs : List Reply). parts K.state V rs now K.state.now) s.world s.mib s.now s.sessions s.closed s.answer
 
-max_zero : (n : ℕ) → max n 0 ≡ n
-max_zero n = omega arith
-
 -- an input without a moment
 pub at_no_moment : (M : StateMachineFields) → at_moment 0 M ≡ M
-at_no_moment M = ap (λ (n : ℕ). record M { state = record M.state { now = n } }) (max_zero M.state.now)
+at_no_moment M = ap (λ (S : State). record M { state = S }) (no_moment M.state)
+
+-- ---- the clock is moved
+
+abbrev pub clocked : StateMachineFields → ℕ → StateMachineFields
+clocked M now = record M { state = record M.state { seen = now } }
+
+pub moves_clock : (M N : StateMachineFields) (a : AnswerParts) (now : ℕ) → N ≡ clocked M now → a ≡ silent Nothing →
+    Turning.turn M.state (ClockMoved now) ≡ (N.state, answer_in N a)
+moves_clock M N a now is said =
+    (taken_else M.state (ClockMoved now)).0 (near_zero M.state)
+    ∙ ap (λ (S : State). (S, Turning.quiet Nothing)) (clock_moved M.state now)
+    ∙ sym (ap (λ (X : StateMachineFields). (X.state, answer_in X a)) is ∙ ap (λ (x : AnswerParts). ((clocked M now).state, answer_in (clocked M now) x)) said)
+
+pub moves_whole : (M N : StateMachineFields) (now : ℕ) → IsWholeReceiver (Turning.after_input M.state (ClockMoved now)) → N ≡ clocked M now →
+    IsWholeReceiver N.state
+moves_whole M N now whole is = subst IsWholeReceiver (clock_moved M.state now ∙ sym (ap (λ (X : StateMachineFields). X.state) is)) whole
+
+-- ---- an input that is not taken
+
+pub not_taken : (M : StateMachineFields) (a : AnswerParts) (i : Input) → Turning.is_too_far M.state (now_of i) ≡ true → a ≡ silent TooFarAhead →
+    Turning.turn M.state i ≡ (M.state, answer_in M a)
+not_taken M a i far said = not_taken_stays M.state i far ∙ ap (λ (x : AnswerParts). (M.state, answer_in M x)) (sym said)
+
+-- the moment of what was read
+pub read_at : (now : ℕ) (d : Directed) → now_of (input_of now d) ≡ now
+read_at now (directed.Metadata h m) = refl
+read_at now (directed.Eof h eof) = refl
+read_at now (directed.Ack h ack) = refl
+read_at now (directed.Prompt h prompt) = refl
+read_at now (directed.Other h) = refl
 
 -- ---- calls that may be out of memory
 
-pub turned_where_ok : {E : Type 0} (M N : StateMachineFields) (i : Input) (result : Result AnswerParts E) → IfOk result
-    (λ a. Turns (at_moment (now_of i) M) N a i) →
+pub turned_where_ok : {E : Type 0} (M N : StateMachineFields) (i : Input) (result : Result AnswerParts E) → IsAtMoment M.state i →
+    Turning.is_too_far M.state (now_of i) ≡ false → IfOk result (λ a. Turns (at_moment (now_of i) M) N a i) →
     IfOk result (λ a. Turning.turn M.state i ≡ (N.state, answer_in N a))
-turned_where_ok M N i (Ok a) t = turned M N a i t
-turned_where_ok M N i (Err why) t = tt
+turned_where_ok M N i (Ok a) moment near t = turned M N a i moment near t
+turned_where_ok M N i (Err why) moment near t = tt
 
-pub whole_where_ok : {E : Type 0} (M N : StateMachineFields) (i : Input) (result : Result AnswerParts E) → IsWholeReceiver M.state → IsWholeReceiver
-    (Turning.after_input M.state i) →
+pub whole_where_ok : {E : Type 0} (M N : StateMachineFields) (i : Input) (result : Result AnswerParts E) → IsAtMoment M.state i → IsWholeReceiver M.state →
+    IsWholeReceiver (Turning.after_input M.state i) →
     IfOk result (λ a. Turns (at_moment (now_of i) M) N a i) → OnErr result (N ≡ M) → IsWholeReceiver N.state
-whole_where_ok M N i (Ok a) before after t same = whole_turn M N a i after t
-whole_where_ok M N i (Err why) before after t same = subst (λ (X : StateMachineFields). IsWholeReceiver X.state) (sym same) before
+whole_where_ok M N i (Ok a) moment before after t same = whole_turn M N a i moment after t
+whole_where_ok M N i (Err why) moment before after t same = subst (λ (X : StateMachineFields). IsWholeReceiver X.state) (sym same) before
 
 -- ---- what is asked
 

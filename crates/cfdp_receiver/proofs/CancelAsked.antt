@@ -1,5 +1,5 @@
 -- What the user asks for: a transaction is cancelled.
-use Rattle.std.proofs.Common.{◌≡◌, ◌⊎◌, inl, inr, List, [], ◌∷◌, Option, Some, refl, sym, ap, ◌∙◌}
+use Rattle.std.proofs.Common.{◌≡◌, Bool, true, false, if◌then◌else◌, List, [], ◌∷◌, Option, Some, refl, sym, ap, ◌∙◌}
 use Rattle.cfdp_status.specs.declared.transaction.TransactionId.{TransactionId}
 use Rattle.cfdp_pdus.specs.declared.eof.Eof.{Eof}
 use Rattle.cfdp_sessions.specs.Sessions.{SessionFields, session_id, replaced}
@@ -15,9 +15,9 @@ use Rattle.cfdp_transactions.specs.Next.{next}
 use Rattle.cfdp_receiver.specs.declared.indication.Became.TheVariants.{Said, Replied}
 use Rattle.cfdp_receiver.specs.declared.indication.Word.TheVariants as words
 use Rattle.cfdp_receiver.specs.State.{State, CancelAsked, session_of}
-use Rattle.cfdp_receiver.specs.Handing.{of_session, where_known}
+use Rattle.cfdp_receiver.specs.Handing.{is_list_begun, cancel_events, of_session, where_known}
 use Rattle.cfdp_receiver.specs.StateMachine.{StateMachineFields, AnswerParts, answer_in}
-use Rattle.cfdp_receiver.specs.code.StateMachine.{Turns, in_world, silent}
+use Rattle.cfdp_receiver.specs.code.StateMachine.{Turns, in_world, machine_closed, silent}
 use Rattle.cfdp_receiver.specs.Turning as Turning
 use Rattle.cfdp_receiver.proofs.LateTurns.{turns_by}
 
@@ -26,9 +26,9 @@ abbrev pub with_sessions : StateMachineFields → List SessionFields → StateMa
 with_sessions M ss = record M { state = record M.state { sessions = ss } }
 
 cancels_in : (M : StateMachineFields) (id : TransactionId) (s : SessionFields) (stage : Stage) → session_of M.state id ≡ Some s → s.stage ≡ stage →
-    of_session (session_of M.state id) (Cancel id ∷ []) ≡ where_known stage (Cancel id ∷ [])
+    of_session (session_of M.state id) (cancel_events M.state id) ≡ where_known stage (cancel_events M.state id)
 cancels_in M id s stage here is =
-    ap (λ (o : Option SessionFields). of_session o (Cancel id ∷ [])) here ∙ ap (λ (x : Stage). where_known x (Cancel id ∷ [])) is
+    ap (λ (o : Option SessionFields). of_session o (cancel_events M.state id)) here ∙ ap (λ (x : Stage). where_known x (cancel_events M.state id)) is
 
 becomes_in : (M : StateMachineFields) (id : TransactionId) (s : SessionFields) (stage : Stage) → session_of M.state id ≡ Some s → s.stage ≡ stage →
     (rs : List Reply) → Turning.cancel_parts M.state rs id (session_of M.state id) ≡ Turning.cancel_stage M.state rs s stage
@@ -46,36 +46,58 @@ cancel_held M a id s eof here is said =
     refl refl refl refl refl
     (ap (answer_in N) said ∙ ap (λ (n : TransactionId). Turning.quiet (Said n words.Cancelled)) (sym (found_name R.sessions id s here)))
 
+-- of one that the core knows, by whether its list has begun
+known_parts : (M : StateMachineFields) (id : TransactionId) (s : SessionFields) (b : Bool) → session_of M.state id ≡ Some s → s.stage ≡ Known →
+    is_list_begun M.state id ≡ b → (rs : List Reply) →
+    Turning.cancel_parts M.state rs id (session_of M.state id) ≡ (if b then Turning.keeps M.state (Turning.said_word s words.ListBegun)
+    else Turning.keeps M.state (Turning.quiet (Turning.became_reply (session_id s) rs)))
+known_parts M id s b here is begun rs =
+    becomes_in M id s Known here is rs
+    ∙ ap (λ (x : Bool). if x then Turning.keeps M.state (Turning.said_word s words.ListBegun)
+    else Turning.keeps M.state (Turning.quiet (Turning.became_reply (session_id s) rs)))
+    (ap (is_list_begun M.state) (found_name M.state.sessions id s here) ∙ begun)
+
+known_events : (M : StateMachineFields) (id : TransactionId) (s : SessionFields) (b : Bool) → session_of M.state id ≡ Some s → s.stage ≡ Known →
+    is_list_begun M.state id ≡ b → of_session (session_of M.state id) (cancel_events M.state id) ≡ (if b then [] else Cancel id ∷ [])
+known_events M id s b here is begun = cancels_in M id s Known here is ∙ ap (λ (x : Bool). if x then [] else Cancel id ∷ []) begun
+
 pub cancel_known : (M : StateMachineFields) (V : World) (reply : Reply) (a : AnswerParts) (id : TransactionId) (s : SessionFields) →
-    session_of M.state id ≡ Some s → s.stage ≡ Known → next M.state.world (Cancel id) ≡ (V, reply) →
+    session_of M.state id ≡ Some s → s.stage ≡ Known → is_list_begun M.state id ≡ false → next M.state.world (Cancel id) ≡ (V, reply) →
     a ≡ silent (Replied id reply) → Turns M (in_world V M) a (CancelAsked M.state.now id)
-cancel_known M V reply a id s here is indicated said =
+cancel_known M V reply a id s here is unbegun indicated said =
     let R = M.state in
     turns_by M (in_world V M) a (CancelAsked R.now id) (Cancel id ∷ [])
     (λ (U : World) (rs : List Reply). Turning.keeps R (Turning.quiet (Turning.became_reply (session_id s) rs)))
-    (cancels_in M id s Known here is) (λ (U : World) (rs : List Reply). becomes_in M id s Known here is rs)
+    (known_events M id s false here is unbegun) (λ (U : World) (rs : List Reply). known_parts M id s false here is unbegun rs)
     (sym (ap (λ (x : World × Reply). x.0) indicated)) refl refl refl refl
     (ap (answer_in (in_world V M)) said ∙ ap (λ (x : World × Reply). Turning.quiet (Replied id x.1)) (sym indicated)
     ∙ ap (λ (n : TransactionId). Turning.quiet (Replied n (next R.world (Cancel id)).1)) (sym (found_name R.sessions id s here)))
 
-abbrev pub IsIdle : Stage → Type 0
-IsIdle stage = ((e : Ending) × (stage ≡ Over e)) ⊎ (stage ≡ Waiting)
+pub cancel_begun : (M : StateMachineFields) (a : AnswerParts) (id : TransactionId) (s : SessionFields) → session_of M.state id ≡ Some s →
+    s.stage ≡ Known → is_list_begun M.state id ≡ true → a ≡ silent (Said id words.ListBegun) → Turns M M a (CancelAsked M.state.now id)
+cancel_begun M a id s here is begun said =
+    let R = M.state in
+    turns_by M M a (CancelAsked R.now id) [] (λ (V : World) (rs : List Reply). Turning.keeps R (Turning.said_word s words.ListBegun))
+    (known_events M id s true here is begun) (λ (V : World) (rs : List Reply). known_parts M id s true here is begun rs)
+    refl refl refl refl refl
+    (ap (answer_in M) said ∙ ap (λ (n : TransactionId). Turning.quiet (Said n words.ListBegun)) (sym (found_name R.sessions id s here)))
 
-idle_events : (stage : Stage) (es : List Event) → IsIdle stage → where_known stage es ≡ []
-idle_events stage es (inl e) = ap (λ (x : Stage). where_known x es) e.1
-idle_events stage es (inr e) = ap (λ (x : Stage). where_known x es) e
+pub cancel_waiting : (M : StateMachineFields) (a : AnswerParts) (id : TransactionId) (s : SessionFields) → session_of M.state id ≡ Some s →
+    s.stage ≡ Waiting → a ≡ silent (Said id words.Closed) → Turns M (machine_closed M s) a (CancelAsked M.state.now id)
+cancel_waiting M a id s here is said =
+    let R = M.state in
+    turns_by M (machine_closed M s) a (CancelAsked R.now id) []
+    (λ (V : World) (rs : List Reply). Turning.closes R s (Turning.said_word s words.Closed))
+    (cancels_in M id s Waiting here is) (λ (V : World) (rs : List Reply). becomes_in M id s Waiting here is rs)
+    refl refl refl refl refl
+    (ap (answer_in (machine_closed M s)) said
+    ∙ ap (λ (n : TransactionId). Turning.quiet (Said n words.Closed)) (sym (found_name R.sessions id s here)))
 
-idle_parts : (R : State) (rs : List Reply) (s : SessionFields) (stage : Stage) → IsIdle stage →
-    Turning.cancel_stage R rs s stage ≡ Turning.keeps R (Turning.said_word s words.Idle)
-idle_parts R rs s stage (inl e) = ap (Turning.cancel_stage R rs s) e.1
-idle_parts R rs s stage (inr e) = ap (Turning.cancel_stage R rs s) e
-
-pub cancel_idle : (M : StateMachineFields) (a : AnswerParts) (id : TransactionId) (s : SessionFields) → session_of M.state id ≡ Some s → IsIdle s.stage →
-    a ≡ silent (Said id words.Idle) → Turns M M a (CancelAsked M.state.now id)
-cancel_idle M a id s here idle said =
+pub cancel_over : (M : StateMachineFields) (a : AnswerParts) (id : TransactionId) (s : SessionFields) (ending : Ending) → session_of M.state id ≡ Some s →
+    s.stage ≡ Over ending → a ≡ silent (Said id words.Idle) → Turns M M a (CancelAsked M.state.now id)
+cancel_over M a id s ending here is said =
     let R = M.state in
     turns_by M M a (CancelAsked R.now id) [] (λ (V : World) (rs : List Reply). Turning.keeps R (Turning.said_word s words.Idle))
-    (cancels_in M id s s.stage here refl ∙ idle_events s.stage (Cancel id ∷ []) idle)
-    (λ (V : World) (rs : List Reply). becomes_in M id s s.stage here refl rs ∙ idle_parts R rs s s.stage idle)
+    (cancels_in M id s (Over ending) here is) (λ (V : World) (rs : List Reply). becomes_in M id s (Over ending) here is rs)
     refl refl refl refl refl
     (ap (answer_in M) said ∙ ap (λ (n : TransactionId). Turning.quiet (Said n words.Idle)) (sym (found_name R.sessions id s here)))

@@ -6,8 +6,7 @@ use Rattle.std.proofs.lemmas.Bool.{cond-true, cond-false, both_ways}
 use Rattle.std.proofs.lemmas.Option.{none-some}
 use Rattle.cfdp_status.specs.declared.transaction.TransactionId.{TransactionId}
 use Rattle.cfdp_pdus.specs.declared.eof.Eof.{Eof}
-use Rattle.cfdp_sessions.specs.Closed.{with_name}
-use Rattle.cfdp_sessions.specs.Sessions.{SessionFields, AreDistinct, session_id, replaced, without_session}
+use Rattle.cfdp_sessions.specs.Sessions.{SessionFields, AreDistinct, session_id, replaced}
 use Rattle.cfdp_sessions.specs.declared.session.Ending.{Ending}
 use Rattle.cfdp_sessions.specs.declared.session.Stage.{Stage}
 use Rattle.cfdp_sessions.specs.declared.session.Stage.TheVariants.{Held, Known, Over, Waiting}
@@ -33,12 +32,12 @@ use Rattle.cfdp_receiver.specs.declared.indication.Indication.TheVariants as tel
 use Rattle.cfdp_receiver.specs.declared.indication.Word.{Word}
 use Rattle.cfdp_receiver.specs.declared.indication.Word.TheVariants as words
 use Rattle.cfdp_receiver.specs.State.{JointPhase, At_held, At_receiving, At_awaiting, At_executing, At_over, At_waiting}
-use Rattle.cfdp_receiver.specs.State.{State, Finish, at_of, at_stage, at_entry}
+use Rattle.cfdp_receiver.specs.State.{State, Finish, moments, at_of, at_stage, at_entry}
 use Rattle.cfdp_receiver.specs.Due.{first_over, is_over}
 use Rattle.cfdp_receiver.specs.Handing.{take_of, where_known}
 use Rattle.cfdp_receiver.specs.Laws.{AreKnown, knows}
 use Rattle.cfdp_receiver.specs.StateMachine.{StateMachineFields, AnswerParts, answer_in, finished_by}
-use Rattle.cfdp_receiver.specs.code.StateMachine.{Concludes, Turns, at_moment, in_world, silent}
+use Rattle.cfdp_receiver.specs.code.StateMachine.{Concludes, Turns, at_moment, in_world, machine_closed, silent}
 use Rattle.cfdp_receiver.specs.Turning as Turning
 use Rattle.cfdp_receiver.proofs.CancelAsked.{with_sessions}
 use Rattle.cfdp_receiver.proofs.SessionsAreKnown.{phase_over}
@@ -180,13 +179,13 @@ waits_by R s o abandoned sent acked =
     cond-false s.is_abandoned _ _ abandoned ∙ cond-false (not o.send) _ _ (ap not sent) ∙ cond-false (not s.header.acknowledged) _ _ (ap not acked)
 
 closes_by : (R : State) (s : SessionFields) (o : Outcome) → s.is_abandoned ≡ false → o.send ≡ true → s.header.acknowledged ≡ false →
-    Turning.finish_session R s o ≡ Turning.closes R (session_id s) (Turning.sends_it s o words.Closed)
+    Turning.finish_session R s o ≡ Turning.closes R (Turning.settled s o) (Turning.sends_it s o words.Closed)
 closes_by R s o abandoned sent acked =
     cond-false s.is_abandoned _ _ abandoned ∙ cond-false (not o.send) _ _ (ap not sent) ∙ cond-true (not s.header.acknowledged) _ _ (ap not acked)
 
 -- by the parts that the definitions give in this case
 concludes_by : (M N : StateMachineFields) (a : AnswerParts) (s : SessionFields) (o : Outcome) (p : Turning.Parts) → Turning.finish_session M.state s o ≡ p →
-    N.state.world ≡ M.state.world → N.state.mib ≡ M.state.mib → N.state.now ≡ M.state.now →
+    N.state.world ≡ M.state.world → N.state.mib ≡ M.state.mib → moments N.state ≡ moments M.state →
     N.state.sessions ≡ p.sessions → N.state.closed ≡ p.closed → answer_in N a ≡ p.answer →
     Concludes M N a s o
 concludes_by M N a s o p parts world mib now sessions closed answer = record {
@@ -210,21 +209,36 @@ concludes_waiting M index a s o at abandoned sent acked said =
     (ap (answer_in N) said ∙ ap (λ (x : Option SessionFields). record (Turning.concluded s o words.Finished) { finished = finished_by N x ∷ [] })
     (replaced_self R.sessions new (session_id s) (found_by_name R.sessions index s at) refl))
 
+-- it was abandoned: it is closed, and nothing is said of its outcome
+pub concludes_abandoned : (M : StateMachineFields) (a : AnswerParts) (s : SessionFields) (o : Outcome) → s.is_abandoned ≡ true →
+    a ≡ silent (Said (session_id s) words.Closed) → Concludes M (machine_closed M (Turning.settled s o)) a s o
+concludes_abandoned M a s o abandoned said =
+    let R = M.state in
+    let N = machine_closed M (Turning.settled s o) in
+    concludes_by M N a s o (Turning.closes R (Turning.settled s o) (Turning.said_word s words.Closed)) (cond-true s.is_abandoned _ _ abandoned)
+    refl refl refl refl refl (ap (answer_in N) said)
+
+-- it is closed, and no Finished PDU is sent
+pub concludes_unsent : (M : StateMachineFields) (a : AnswerParts) (s : SessionFields) (o : Outcome) → s.is_abandoned ≡ false → o.send ≡ false →
+    a ≡ ended (session_id s) (Turning.conclusion_of o) words.Closed → Concludes M (machine_closed M (Turning.settled s o)) a s o
+concludes_unsent M a s o abandoned unsent said =
+    let R = M.state in
+    let N = machine_closed M (Turning.settled s o) in
+    concludes_by M N a s o (Turning.closes R (Turning.settled s o) (Turning.concluded s o words.Closed))
+    (cond-false s.is_abandoned _ _ abandoned ∙ cond-true (not o.send) _ _ (ap not unsent)) refl refl refl refl refl (ap (answer_in N) said)
+
 -- the machine once the transaction is closed whose Finished PDU has these octets
-abbrev pub closed_with : StateMachineFields → TransactionId → List ℕ → StateMachineFields
-closed_with M id octets = record {
-  state = record M.state { sessions = without_session M.state.sessions id; closed = with_name M.state.closed id };
-  last_finished =
-      octets;
-}
+abbrev pub closed_with : StateMachineFields → SessionFields → List ℕ → StateMachineFields
+closed_with M s octets = record { state = (machine_closed M s).state; last_finished = octets }
 
 -- it is closed, and the Finished PDU is sent once
 pub concludes_closed : (M : StateMachineFields) (a : AnswerParts) (s : SessionFields) (o : Outcome) → AreDistinct M.state.sessions →
     s.is_abandoned ≡ false → o.send ≡ true → s.header.acknowledged ≡ false →
-    a ≡ ended_and_sent (session_id s) (Turning.conclusion_of o) words.Closed → Concludes M (closed_with M (session_id s) (finished_octets o)) a s o
+    a ≡ ended_and_sent (session_id s) (Turning.conclusion_of o) words.Closed → Concludes M (closed_with M (Turning.settled s o) (finished_octets o)) a s o
 concludes_closed M a s o d abandoned sent acked said =
     let R = M.state in
-    let N = closed_with M (session_id s) (finished_octets o) in
-    concludes_by M N a s o (Turning.closes R (session_id s) (Turning.sends_it s o words.Closed)) (closes_by R s o abandoned sent acked) refl refl refl refl refl
+    let N = closed_with M (Turning.settled s o) (finished_octets o) in
+    concludes_by M N a s o (Turning.closes R (Turning.settled s o) (Turning.sends_it s o words.Closed)) (closes_by R s o abandoned sent acked)
+    refl refl refl refl refl
     (ap (answer_in N) said ∙ ap (λ (x : Option SessionFields). record (Turning.concluded s o words.Closed) { finished = finished_by N x ∷ [] })
     (gone R.sessions (session_id s) d))

@@ -27,7 +27,7 @@ use Rattle.cfdp_receiver.specs.declared.indication.Became.TheVariants as became
 use Rattle.cfdp_receiver.specs.declared.indication.Word.TheVariants as words
 use Rattle.cfdp_receiver.specs.declared.mib.Handler.{Handler}
 use Rattle.cfdp_receiver.specs.declared.mib.Handler.TheVariants as handlers
-use Rattle.cfdp_receiver.specs.State.{State, AnswerFields, Input, MetadataPdu, DataPdu, EofPdu, AckPdu, PromptPdu, OtherPdu, Expire, Work, Finish, CancelAsked, ForgetAsked, now_of, session_of, JointPhase, At_waiting, at_stage, at_of}
+use Rattle.cfdp_receiver.specs.State.{State, AnswerFields, Input, MetadataPdu, DataPdu, EofPdu, AckPdu, PromptPdu, OtherPdu, Expire, Work, Finish, CancelAsked, ForgetAsked, ClockMoved, NotTaken, now_of, session_of, JointPhase, At_waiting, at_stage, at_of}
 use Rattle.cfdp_receiver.specs.Due as Dues
 use Rattle.cfdp_receiver.specs.Handing as Handing
 use Rattle.cfdp_receiver.specs.Turning as Turning
@@ -134,7 +134,7 @@ waits_eof R V rs h eof s Waiting e w = Same e refl
 
 -- it is closed
 closes_it : (R : State) (id : TransactionId) (s : SessionFields) (a : AnswerFields) → AreDistinct R.sessions → session_id s ≡ id → a.finished ≡ [] →
-    Waits R id s (Turning.closes R (session_id s) a)
+    Waits R id s (Turning.closes R s a)
 closes_it R id s a d name q = Gone (ap (λ (n : TransactionId). found (without_session R.sessions n) id) name ∙ gone R.sessions id d) q
 
 waits_ack : (R : State) (h : Header) (ack : Ack) (s : SessionFields) (stage : Stage) → AreDistinct R.sessions → found R.sessions (id_of h) ≡ Some s →
@@ -145,7 +145,7 @@ waits_ack R h ack s (Held eof) d e name w = absurd cc
 waits_ack R h ack s Known d e name w = absurd cc
 waits_ack R h ack s (OverStage ending) d e name w = absurd cc
 waits_ack R h ack s Waiting d e name w =
-    either_way (Waits R (id_of h) s) _ (Turning.closes R (session_id s) (Turning.said_of_header h _)) (Turning.keeps R (Turning.said_of_header h _))
+    either_way (Waits R (id_of h) s) _ (Turning.closes R s (Turning.said_of_header h _)) (Turning.keeps R (Turning.said_of_header h _))
     (closes_it R (id_of h) s _ d name refl) (Same e refl)
 
 pub at_waiting : (W : World) (s : SessionFields) → s.stage ≡ Waiting → at_of W s ≡ At_waiting
@@ -165,12 +165,13 @@ waits_prompt R h prompt s e w =
           (Same e refl)
     ]
 
-waits_cancel : (R : State) (rs : List Reply) (id : TransactionId) (s : SessionFields) (stage : Stage) → found R.sessions id ≡ Some s → stage ≡ Waiting →
+waits_cancel : (R : State) (rs : List Reply) (id : TransactionId) (s : SessionFields) (stage : Stage) → AreDistinct R.sessions → found R.sessions id ≡ Some s →
+    stage ≡ Waiting →
     Waits R id s (Turning.cancel_stage R rs s stage)
-waits_cancel R rs id s (Held eof) e w = absurd cc
-waits_cancel R rs id s Known e w = absurd cc
-waits_cancel R rs id s (OverStage ending) e w = absurd cc
-waits_cancel R rs id s Waiting e w = Same e refl
+waits_cancel R rs id s (Held eof) d e w = absurd cc
+waits_cancel R rs id s Known d e w = absurd cc
+waits_cancel R rs id s (OverStage ending) d e w = absurd cc
+waits_cancel R rs id s Waiting d e w = closes_it R id s _ d (found_name R.sessions id s e) refl
 
 -- ---- its timer
 
@@ -298,9 +299,11 @@ waits_of R V rs (CancelAsked now n) id s d e w ne same =
     let it = same_is n id same in
     let here : found R.sessions n ≡ Some s = ap (found R.sessions) it ∙ e in
     subst (λ (x : TransactionId). Waits R x s (Turning.cancel_parts R rs n (session_of R n))) it (
-    subst (λ (o : Option SessionFields). Waits R n s (Turning.cancel_parts R rs n o)) (sym here) (waits_cancel R rs n s s.stage here w)
+    subst (λ (o : Option SessionFields). Waits R n s (Turning.cancel_parts R rs n o)) (sym here) (waits_cancel R rs n s s.stage d here w)
     )
 waits_of R V rs ForgetAsked id s d e w ne same = Same e refl
+waits_of R V rs (ClockMoved now) id s d e w ne same = Same e refl
+waits_of R V rs NotTaken id s d e w ne same = Same e refl
 
 -- ---- over all inputs
 

@@ -21,7 +21,7 @@ use Rattle.cfdp_transactions.specs.Writable.{finished_octets}
 use Rattle.cfdp_transactions.specs.Next.{run, replies}
 use Rattle.cfdp_receiver.specs.declared.mib.Handler.{Handler}
 use Rattle.cfdp_receiver.specs.declared.mib.Handler.TheVariants as handlers
-use Rattle.cfdp_receiver.specs.State.{State, AnswerFields, Input, MetadataPdu, DataPdu, EofPdu, AckPdu, PromptPdu, OtherPdu, Expire, Work, Finish, CancelAsked, ForgetAsked, now_of, session_of, is_closed, is_full, JointPhase, At_held, At_receiving, At_awaiting, At_executing, At_over, At_waiting, at_phase, at_entry, at_stage, at_of}
+use Rattle.cfdp_receiver.specs.State.{State, AnswerFields, Input, MetadataPdu, DataPdu, EofPdu, AckPdu, PromptPdu, OtherPdu, Expire, Work, Finish, CancelAsked, ForgetAsked, ClockMoved, NotTaken, now_of, session_of, is_closed, is_full, JointPhase, At_held, At_receiving, At_awaiting, At_executing, At_over, At_waiting, at_phase, at_entry, at_stage, at_of, lacks_room}
 use Rattle.cfdp_receiver.specs.Due as Due
 use Rattle.cfdp_receiver.specs.Handing as Handing
 use Rattle.cfdp_receiver.specs.Turning as Turning
@@ -39,7 +39,7 @@ quiet_metadata_stage R V rs h m s Waiting = refl
 
 quiet_metadata : (R : State) (V : World) (rs : List Reply) (h : Header) (m : MetadataFields) (s : Option SessionFields) →
     Quiet (Turning.metadata_parts R V rs h m s)
-quiet_metadata R V rs h m None = either_way Quiet (is_closed R (id_of h) || is_full R) _ _ refl refl
+quiet_metadata R V rs h m None = either_way Quiet (is_closed R (id_of h) || lacks_room R (id_of h)) _ _ refl refl
 quiet_metadata R V rs h m (Some s) = quiet_metadata_stage R V rs h m s s.stage
 
 quiet_data : (R : State) (V : World) (rs : List Reply) (h : Header) (piece : FileDataFields) (s : Option SessionFields) →
@@ -50,13 +50,14 @@ quiet_data R V rs h piece (Some s) = either_way Quiet (Turning.is_known s.stage)
 quiet_eof_stage : (R : State) (V : World) (rs : List Reply) (h : Header) (eof : Eof) (s : SessionFields) (stage : Stage) →
     Quiet (Turning.eof_stage R V rs h eof s stage)
 quiet_eof_stage R V rs h eof s (Held kept) = either_way Quiet (eof.condition == 0) _ _ refl refl
-quiet_eof_stage R V rs h eof s Known = refl
+quiet_eof_stage R V rs h eof s Known = either_way Quiet (not (eof.condition == 0) && Handing.is_list_begun R (id_of h)) _ _ refl refl
 quiet_eof_stage R V rs h eof s (Over ending) = refl
 quiet_eof_stage R V rs h eof s Waiting = refl
 
 quiet_eof : (R : State) (V : World) (rs : List Reply) (h : Header) (eof : Eof) (s : Option SessionFields) → Quiet (Turning.eof_parts R V rs h eof s)
 quiet_eof R V rs h eof None =
-    either_way Quiet (is_closed R (id_of h) || not (eof.condition == 0) || not h.acknowledged) _ _ refl (either_way Quiet (is_full R) _ _ refl refl)
+    either_way Quiet (is_closed R (id_of h) || not (eof.condition == 0) || not h.acknowledged) _ _ refl
+    (either_way Quiet (lacks_room R (id_of h)) _ _ refl refl)
 quiet_eof R V rs h eof (Some s) = quiet_eof_stage R V rs h eof s s.stage
 
 quiet_ack_stage : (R : State) (h : Header) (ack : Ack) (s : SessionFields) (stage : Stage) → Quiet (Turning.ack_stage R h ack s stage)
@@ -79,7 +80,7 @@ quiet_prompt R h prompt (Some s) = either_way Quiet (s.header.acknowledged && Tu
 
 quiet_cancel_stage : (R : State) (rs : List Reply) (s : SessionFields) (stage : Stage) → Quiet (Turning.cancel_stage R rs s stage)
 quiet_cancel_stage R rs s (Held eof) = refl
-quiet_cancel_stage R rs s Known = refl
+quiet_cancel_stage R rs s Known = either_way Quiet (Handing.is_list_begun R (session_id s)) _ _ refl refl
 quiet_cancel_stage R rs s (Over ending) = refl
 quiet_cancel_stage R rs s Waiting = refl
 
@@ -172,6 +173,8 @@ sent_of R V rs (Work now) = None_sent refl
 sent_of R V rs (Finish now) = sent_finish R now (Due.first_over R.world R.sessions) refl
 sent_of R V rs (CancelAsked now id) = None_sent (quiet_cancel R rs id (session_of R id))
 sent_of R V rs ForgetAsked = None_sent refl
+sent_of R V rs (ClockMoved now) = None_sent refl
+sent_of R V rs NotTaken = None_sent refl
 
 pub finished_only : FinishedOnly
 finished_only R i = sent_of (Handing.later (now_of i) R) (run R.world (Handing.handed R i)) (replies R.world (Handing.handed R i)) i

@@ -1,11 +1,11 @@
 -- What is handed to the core.
-use Rattle.std.proofs.Common.{◌≤◌, Bool, true, false, ◌||◌, if◌then◌else◌, List, [], ◌∷◌, length, Option, Some, None, refl, sym, ◌∙◌, arith}
+use Rattle.std.proofs.Common.{◌≤◌, Bool, true, false, not, ◌&&◌, ◌||◌, ◌==◌, if◌then◌else◌, List, [], ◌∷◌, length, Option, Some, None, refl, sym, ◌∙◌, arith}
 use Rattle.std.proofs.lemmas.Bool.{cond_both}
 use Rattle.cfdp_status.specs.declared.transaction.TransactionId.{TransactionId}
 use Rattle.cfdp_pdus.specs.Values.{MetadataFields}
 use Rattle.cfdp_pdus.specs.declared.header.Header.{Header}
 use Rattle.cfdp_transactions.specs.declared.event.Event.{Event}
-use Rattle.cfdp_transactions.specs.declared.event.Event.TheVariants.{Metadata as MetadataCame, Check}
+use Rattle.cfdp_transactions.specs.declared.event.Event.TheVariants.{Metadata as MetadataCame, Eof as EofCame, Cancel, Check}
 use Rattle.cfdp_transactions.specs.Entry.{id_of}
 use Rattle.cfdp_transactions.specs.World.{World, next_runnable}
 use Rattle.cfdp_transactions.specs.Next.{next}
@@ -14,9 +14,9 @@ use Rattle.cfdp_sessions.specs.declared.session.Stage.{Stage}
 use Rattle.cfdp_sessions.specs.declared.session.Stage.TheVariants.{Held, Known, Over, Waiting}
 use Rattle.cfdp_receiver.specs.declared.mib.Handler.{Handler}
 use Rattle.cfdp_receiver.specs.declared.mib.Handler.TheVariants as handlers
-use Rattle.cfdp_receiver.specs.State.{State, Input, MetadataPdu, DataPdu, EofPdu, AckPdu, PromptPdu, OtherPdu, Expire, Work, Finish, CancelAsked, ForgetAsked, now_of, session_of, is_closed, is_full, at_of}
+use Rattle.cfdp_receiver.specs.State.{State, Input, MetadataPdu, DataPdu, EofPdu, AckPdu, PromptPdu, OtherPdu, Expire, Work, Finish, CancelAsked, ForgetAsked, ClockMoved, NotTaken, now_of, session_of, is_closed, is_full, at_of, lacks_room}
 use Rattle.cfdp_receiver.specs.Due.{Due, Nothing_due, Stage_due, Alive_due, first_due, first_over}
-use Rattle.cfdp_receiver.specs.Handing.{is_ours, later, metadata_in_stage, metadata_events, where_known, of_session, makes_checks, limit_events, due_events, step_of, take_of, events_of, handed}
+use Rattle.cfdp_receiver.specs.Handing.{is_ours, later, is_list_begun, metadata_in_stage, metadata_events, where_known, of_session, makes_checks, limit_events, due_events, step_of, take_of, events_of, handed}
 use Rattle.cfdp_receiver.specs.Turning.{after_input, all_handed}
 use Rattle.cfdp_transactions.specs.Headline.{NextIsSound, NextIsPromised, Promised, AtEach}
 use Rattle.cfdp_transactions.specs.Sound.{Sound}
@@ -59,9 +59,9 @@ few_check : (b : Bool) (id : TransactionId) → Few (if b then Check id ∷ [] e
 few_check true id = omega arith
 few_check false id = omega arith
 
-few_new : (b : Bool) (h : Header) (m : MetadataFields) → Few (if b then [] else MetadataCame h m ∷ [])
-few_new true h m = omega arith
-few_new false h m = omega arith
+few_unless : (b : Bool) (v : Event) → Few (if b then [] else v ∷ [])
+few_unless true v = omega arith
+few_unless false v = omega arith
 
 few_due : (R : State) (due : Due) → Few (due_events R due)
 few_due R Nothing_due = omega arith
@@ -84,21 +84,25 @@ few_in_stage h m s (Over ending) = omega arith
 few_in_stage h m s Waiting = omega arith
 
 few_metadata : (R : State) (h : Header) (m : MetadataFields) (s : Option SessionFields) → Few (metadata_events R h m s)
-few_metadata R h m None = few_new (is_closed R (id_of h) || is_full R) h m
+few_metadata R h m None = few_unless (is_closed R (id_of h) || lacks_room R (id_of h)) (MetadataCame h m)
 few_metadata R h m (Some s) = few_in_stage h m s s.stage
 
 few : (R : State) (i : Input) → Few (events_of R i)
 few R (MetadataPdu now h m) = cond_both (is_ours R h) _ [] Few (λ _. few_metadata R h m (session_of R (id_of h))) (λ _. omega arith)
 few R (DataPdu now h piece) = cond_both (is_ours R h) _ [] Few (λ _. few_session (session_of R (id_of h)) _ (omega arith)) (λ _. omega arith)
-few R (EofPdu now h eof) = cond_both (is_ours R h) _ [] Few (λ _. few_session (session_of R (id_of h)) _ (omega arith)) (λ _. omega arith)
+few R (EofPdu now h eof) =
+    cond_both (is_ours R h) _ [] Few
+    (λ _. few_session (session_of R (id_of h)) _ (few_unless (not (eof.condition == 0) && is_list_begun R (id_of h)) (EofCame h eof))) (λ _. omega arith)
 few R (AckPdu now h ack) = omega arith
 few R (PromptPdu now h prompt) = omega arith
 few R (OtherPdu now h) = omega arith
 few R (Expire now) = few_due R (first_due R R.sessions)
 few R (Work now) = few_step (next_runnable R.world.table)
 few R (Finish now) = few_take (first_over R.world R.sessions)
-few R (CancelAsked now id) = few_session (session_of R id) _ (omega arith)
+few R (CancelAsked now id) = few_session (session_of R id) _ (few_unless (is_list_begun R id) (Cancel id))
 few R ForgetAsked = omega arith
+few R (ClockMoved now) = omega arith
+few R NotTaken = omega arith
 
 pub few_events : FewEvents
 few_events R i = few (later (now_of i) R) i

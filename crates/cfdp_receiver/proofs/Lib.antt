@@ -3,6 +3,7 @@ pub mod AnswerParts
 pub mod Finishing
 pub mod TurnShapes
 pub mod Distinct
+pub mod Places
 pub mod WorkedWords
 pub mod WorkedInputs
 pub mod WorkedOctets
@@ -15,8 +16,11 @@ pub mod Serving
 pub mod OthersStay
 pub mod SessionsAreKnown
 pub mod MetadataAgain
+pub mod WholeLists
+pub mod ListGoesOn
 pub mod Delivering
 pub mod LateTurns
+pub mod OwnTime
 pub mod DueTimers
 pub mod LimitsReached
 pub mod OffsetsFit

@@ -14,19 +14,19 @@ use Rattle.cfdp_transactions.specs.Entry.{Entry}
 use Rattle.cfdp_transactions.specs.World.{World, entry_of}
 use Rattle.cfdp_transactions.specs.Next.{next, run}
 use Rattle.cfdp_receiver.specs.declared.indication.Became.TheVariants.{Said}
-use Rattle.cfdp_receiver.specs.declared.indication.Indication.TheVariants.{Abandoned}
+use Rattle.cfdp_receiver.specs.declared.indication.Indication.TheVariants.{Abandoned, Fault}
 use Rattle.cfdp_receiver.specs.declared.indication.Word.{Word}
 use Rattle.cfdp_receiver.specs.declared.mib.Handler.{Handler}
 use Rattle.cfdp_receiver.specs.declared.mib.Handler.TheVariants as handlers
 use Rattle.cfdp_receiver.specs.declared.indication.Word.TheVariants as words
-use Rattle.cfdp_receiver.specs.State.{State, Expire, JointPhase, At_held, At_receiving, At_awaiting, At_executing, At_over, At_waiting, at_of, at_stage, at_entry, at_phase}
+use Rattle.cfdp_receiver.specs.State.{State, Expire, moments, JointPhase, At_held, At_receiving, At_awaiting, At_executing, At_over, At_waiting, at_of, at_stage, at_entry, at_phase}
 use Rattle.cfdp_receiver.specs.Due.{Stage_due, fault_at, first_due, handler_at}
 use Rattle.cfdp_receiver.specs.Handing.{due_events, limit_events, makes_checks, where_known}
 use Rattle.cfdp_receiver.specs.StateMachine.{StateMachineFields, AnswerParts, answer_in, listed}
 use Rattle.cfdp_receiver.specs.code.StateMachine.{Turns, silent}
 use Rattle.cfdp_receiver.specs.Turning as Turning
 use Rattle.cfdp_receiver.proofs.LateTurns.{turns_by}
-use Rattle.cfdp_receiver.proofs.Finishing.{waits_entry, waits_phase}
+use Rattle.cfdp_receiver.proofs.Finishing.{waits_entry}
 
 pub fault_small : (acknowledged : Bool) (at : JointPhase) → fault_at acknowledged at < 16
 fault_small true At_held = omega arith
@@ -71,7 +71,7 @@ limit_turns M N a s at condition how V ss closed due here cause handler is world
     ∙ ap (λ (h : Handler). Turning.gives_up R s condition h at) handler)
     (ap (λ (m : StateMachineFields). m.state.world) is ∙ world)
     (ap (λ (m : StateMachineFields). m.state.mib) is)
-    (ap (λ (m : StateMachineFields). m.state.now) is)
+    (ap (λ (m : StateMachineFields). moments m.state) is)
     (ap (λ (m : StateMachineFields). m.state.sessions) is ∙ sessions)
     (ap (λ (m : StateMachineFields). m.state.closed) is ∙ names)
     answer
@@ -196,3 +196,10 @@ pub indicated_abandoned : (N : StateMachineFields) (s : SessionFields) (id : Tra
 indicated_abandoned N s id a b condition name word e =
     ap (answer_in N) (e ∙ ap (λ (x : AnswerParts). record x { indications = listed (Some (Abandoned id condition)) }) word)
     ∙ ap (λ (x : TransactionId). record (Turning.quiet (Said x words.Faulted)) { indications = Abandoned x condition ∷ [] }) name
+
+pub indicated_fault : (N : StateMachineFields) (s : SessionFields) (id : TransactionId) (a b : AnswerParts) (condition : ℕ) →
+    id ≡ session_id s → b ≡ silent (Said id words.Faulted) → a ≡ record b { indications = listed (Some (Fault id condition)) } →
+    answer_in N a ≡ Turning.fault_indicated s condition words.Faulted
+indicated_fault N s id a b condition name word e =
+    ap (answer_in N) (e ∙ ap (λ (x : AnswerParts). record x { indications = listed (Some (Fault id condition)) }) word)
+    ∙ ap (λ (x : TransactionId). record (Turning.quiet (Said x words.Faulted)) { indications = Fault x condition ∷ [] }) name

@@ -17,7 +17,7 @@ use Rattle.cfdp_transactions.specs.declared.event.Event.{Event}
 use Rattle.cfdp_transactions.specs.declared.event.Event.TheVariants.{Metadata as MetadataCame}
 use Rattle.cfdp_transactions.specs.declared.reply.Reply.{Reply}
 use Rattle.cfdp_transactions.specs.declared.reply.Reply.TheVariants as replies
-use Rattle.cfdp_receiver.specs.State.{State, begin, MetadataPdu, session_of, is_closed, is_full}
+use Rattle.cfdp_receiver.specs.State.{State, begin, MetadataPdu, session_of, is_closed, lacks_room}
 use Rattle.cfdp_receiver.specs.Handing.{is_ours, later, metadata_in_stage, metadata_events}
 use Rattle.cfdp_receiver.specs.Turning.{after_input, after_all, is_known}
 use Rattle.cfdp_receiver.specs.Laws.{IsPast, Past_closed, Past_over, Past_waiting, NoneAgain, NotBegunAnew, knows, AreKnown, is_begun_in, is_begun, RememberedStays, AtMostOnce}
@@ -30,7 +30,7 @@ past_events : (R : State) (now : ℕ) (h : Header) (m : MetadataFields) → IsPa
     metadata_events (later now R) h m (session_of R (id_of h)) ≡ []
 past_events R now h m (Past_closed none closed) =
     ap (metadata_events (later now R) h m) none
-    ∙ cond-true (is_closed R (id_of h) || is_full R) [] (MetadataCame h m ∷ []) (or_left (is_closed R (id_of h)) (is_full R) closed)
+    ∙ cond-true (is_closed R (id_of h) || lacks_room R (id_of h)) [] (MetadataCame h m ∷ []) (or_left (is_closed R (id_of h)) (lacks_room R (id_of h)) closed)
 past_events R now h m (Past_over s ending here over) = ap (metadata_events (later now R) h m) here ∙ ap (metadata_in_stage h m s) over
 past_events R now h m (Past_waiting s here waits) = ap (metadata_events (later now R) h m) here ∙ ap (metadata_in_stage h m s) waits
 

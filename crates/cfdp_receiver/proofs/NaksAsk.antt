@@ -35,11 +35,12 @@ use Rattle.cfdp_transactions.specs.declared.reply.Reply.{Reply}
 use Rattle.cfdp_transactions.specs.World.{World, entry_of, index_of}
 use Rattle.cfdp_transactions.specs.Next.{run, replies}
 use Rattle.cfdp_receiver.specs.declared.indication.Became.TheVariants as became
+use Rattle.cfdp_directives.specs.declared.ack.TransactionStatus.TheVariants.{Active}
 use Rattle.cfdp_receiver.specs.declared.indication.Word.TheVariants as words
 use Rattle.cfdp_receiver.specs.declared.mib.Handler.{Handler}
 use Rattle.cfdp_receiver.specs.declared.mib.Handler.TheVariants as handlers
 use Rattle.cfdp_receiver.specs.declared.mib.Mib.{Mib}
-use Rattle.cfdp_receiver.specs.State.{State, AnswerFields, Input, MetadataPdu, DataPdu, EofPdu, AckPdu, PromptPdu, OtherPdu, Expire, Work, Finish, CancelAsked, ForgetAsked, now_of, session_of, is_closed, is_full, JointPhase, At_held, At_receiving, At_awaiting, At_executing, At_over, At_waiting, at_of, status_of, turned_header}
+use Rattle.cfdp_receiver.specs.State.{State, AnswerFields, Input, MetadataPdu, DataPdu, EofPdu, AckPdu, PromptPdu, OtherPdu, Expire, Work, Finish, CancelAsked, ForgetAsked, ClockMoved, NotTaken, now_of, session_of, is_closed, is_full, JointPhase, At_held, At_receiving, At_awaiting, At_executing, At_over, At_waiting, at_of, status_of, turned_header, lacks_room}
 use Rattle.cfdp_receiver.specs.Due as Due
 use Rattle.cfdp_receiver.specs.Handing as Handing
 use Rattle.cfdp_receiver.specs.Turning as Turning
@@ -51,7 +52,7 @@ use Rattle.cfdp_receiver.proofs.TurnShapes.{IsDueOf, due_is}
 
 -- the state after an input with these parts
 abbrev with_parts : State → World → Turning.Parts → State
-with_parts R V p = record { world = V; mib = R.mib; now = R.now; sessions = p.sessions; closed = p.closed }
+with_parts R V p = record { world = V; mib = R.mib; now = R.now; seen = R.seen; sessions = p.sessions; closed = p.closed }
 
 pub from_zero : (xs : List SegmentRequest) → filter (λ (g : SegmentRequest). nat_le 0 g.0) xs ≡ xs
 from_zero [] = refl
@@ -133,18 +134,15 @@ becomes_heard R V id s a here =
 asked_metadata_stage : (R : State) (V : World) (rs : List Reply) (h : Header) (m : MetadataFields) (s : SessionFields) (stage : Stage) →
     session_of R (id_of h) ≡ Some s →
     AskedIn R V false (id_of h) (Turning.metadata_stage R V rs h m s stage)
-asked_metadata_stage R V rs h m s (Held eof) here =
-    let new = Turning.begun_session R h (Turning.stage_in (entry_of V (id_of h)) true h.destination) in
-    let joins = Turning.joins R V rs h m in
-    either_way (AskedIn R V false (id_of h)) h.acknowledged joins (Turning.keeps R (Turning.said_word s words.Idle))
-    (asked_awaiting R.world (with_parts R V joins) (id_of h) new (becomes_put R V (id_of h) new new joins.answer (s, here) refl refl refl)) (Asks_none refl)
+asked_metadata_stage R V rs h m s (Held eof) here = either_way (AskedIn R V false (id_of h)) h.acknowledged _ _ (Asks_none refl) (Asks_none refl)
 asked_metadata_stage R V rs h m s Known here = Asks_none refl
 asked_metadata_stage R V rs h m s (Over ending) here = Asks_none refl
 asked_metadata_stage R V rs h m s Waiting here = Asks_none refl
 
 asked_metadata : (R : State) (V : World) (rs : List Reply) (h : Header) (m : MetadataFields) (s : Option SessionFields) → session_of R (id_of h) ≡ s →
     AskedIn R V false (id_of h) (Turning.metadata_parts R V rs h m s)
-asked_metadata R V rs h m None here = either_way (AskedIn R V false (id_of h)) (is_closed R (id_of h) || is_full R) _ _ (Asks_none refl) (Asks_none refl)
+asked_metadata R V rs h m None here =
+    either_way (AskedIn R V false (id_of h)) (is_closed R (id_of h) || lacks_room R (id_of h)) _ _ (Asks_none refl) (Asks_none refl)
 asked_metadata R V rs h m (Some s) here = asked_metadata_stage R V rs h m s s.stage here
 
 -- ---- File Data
@@ -214,9 +212,11 @@ asked_eof_stage : (R : State) (V : World) (rs : List Reply) (h : Header) (eof : 
     AskedIn R V false (id_of h) (Turning.eof_stage R V rs h eof s stage)
 asked_eof_stage R V rs h eof s (Held kept) here = either_way (AskedIn R V false (id_of h)) (eof.condition == 0) _ _ (Asks_none refl) (Asks_none refl)
 asked_eof_stage R V rs h eof s Known here =
-    let p = Turning.eof_stage R V rs h eof s Known in
-    asked_if R.world false (with_parts R V p) (id_of h) (Turning.left_receiving R V s && (eof.condition == 0)) (Turning.asks_where_awaiting R.mib V s)
-    (λ e. asked_awaiting R.world (with_parts R V p) (id_of h) s (becomes_heard R V (id_of h) s p.answer here))
+    let p = Turning.takes_eof R V rs h eof s in
+    either_way (AskedIn R V false (id_of h)) (not (eof.condition == 0) && Handing.is_list_begun R (id_of h))
+    (Turning.keeps R (Turning.acks_only h eof Active words.ListBegun)) p (Asks_none refl)
+    (asked_if R.world false (with_parts R V p) (id_of h) (Turning.left_receiving R V s && (eof.condition == 0)) (Turning.asks_where_awaiting R.mib V s)
+    (λ e. asked_awaiting R.world (with_parts R V p) (id_of h) s (becomes_heard R V (id_of h) s p.answer here)))
 asked_eof_stage R V rs h eof s (Over ending) here = Asks_none refl
 asked_eof_stage R V rs h eof s Waiting here = Asks_none refl
 
@@ -230,11 +230,11 @@ asked_eof : (R : State) (V : World) (rs : List Reply) (h : Header) (eof : Eof) (
     AskedIn R V false (id_of h) (Turning.eof_parts R V rs h eof s)
 asked_eof R V rs h eof None here =
     let kept = Turning.keeps R (Turning.acks_only h eof (status_of R (id_of h)) (Turning.word_without_session R (id_of h))) in
-    let full = Turning.keeps R (Turning.said_of_header h words.TableFull) in
+    let full = Turning.keeps R (Turning.said_of_header h (Turning.no_room_word R)) in
     let before = is_closed R (id_of h) || not (eof.condition == 0) in
-    cond_both (before || not h.acknowledged) kept (if is_full R then full else Turning.held_first R h eof) (AskedIn R V false (id_of h))
+    cond_both (before || not h.acknowledged) kept (if lacks_room R (id_of h) then full else Turning.held_first R h eof) (AskedIn R V false (id_of h))
     (λ e. Asks_none refl) (λ e.
-    either_way (AskedIn R V false (id_of h)) (is_full R) full (Turning.held_first R h eof) (Asks_none refl)
+    either_way (AskedIn R V false (id_of h)) (lacks_room R (id_of h)) full (Turning.held_first R h eof) (Asks_none refl)
     (asked_holds R V h eof here (not-false h.acknowledged (or_parts before (not h.acknowledged) e).1)))
 asked_eof R V rs h eof (Some s) here = asked_eof_stage R V rs h eof s s.stage here
 
@@ -341,7 +341,7 @@ asked_finish R V (Some s) = asked_session_over R V s (Turning.outcome_for s (ent
 asked_cancel_stage : (R : State) (V : World) (rs : List Reply) (id : TransactionId) (s : SessionFields) (stage : Stage) →
     AskedIn R V false id (Turning.cancel_stage R rs s stage)
 asked_cancel_stage R V rs id s (Held eof) = Asks_none refl
-asked_cancel_stage R V rs id s Known = Asks_none refl
+asked_cancel_stage R V rs id s Known = either_way (AskedIn R V false id) (Handing.is_list_begun R (session_id s)) _ _ (Asks_none refl) (Asks_none refl)
 asked_cancel_stage R V rs id s (Over ending) = Asks_none refl
 asked_cancel_stage R V rs id s Waiting = Asks_none refl
 
@@ -371,11 +371,25 @@ asked_of R V rs (Work now) same = Asks_none refl
 asked_of R V rs (Finish now) same = asked_finish R V (Due.first_over R.world R.sessions)
 asked_of R V rs (CancelAsked now id) same = asked_cancel R V rs id (session_of R id)
 asked_of R V rs ForgetAsked same = Asks_none refl
+asked_of R V rs (ClockMoved now) same = Asks_none refl
+asked_of R V rs NotTaken same = Asks_none refl
+
+-- whatever the driver's clock says
+asked_seen : (U : World) (d : Bool) (N : State) (seen : ℕ) (id : TransactionId) (sent : List NakFields) → Asked U d N id sent →
+    Asked U d (record N { seen = seen }) id sent
+asked_seen U d N seen id sent (Asks_none e) = Asks_none e
+asked_seen U d N seen id sent (Asks_all s eof here mode held e) = Asks_all s eof here mode held e
+asked_seen U d N seen id sent (Asks_gaps s entry here mode known there other e) = Asks_gaps s entry here mode known there other e
+asked_seen U d N seen id sent (Asks_new s entry low here mode known there came immediate from some e) =
+    Asks_new s entry low here mode known there came immediate from some e
 
 pub naks_ask : NaksAsk
 naks_ask R i =
-    asked_of (Handing.later (now_of i) R) (run R.world (Handing.handed R i)) (replies R.world (Handing.handed R i)) i
-    (λ now h prompt e. ap (λ (j : Input). run R.world (Handing.handed R j)) e)
+    let L = Handing.later (now_of i) R in
+    let V = run R.world (Handing.handed R i) in
+    let p = Turning.parts R i in
+    asked_seen R.world (is_data i) (with_parts L V p) (Turning.seen_after R i) (touched_in L i) p.answer.naks
+    (asked_of L V (replies R.world (Handing.handed R i)) i (λ now h prompt e. ap (λ (j : Input). run R.world (Handing.handed R j)) e))
 
 -- ---- exactly what is missing
 

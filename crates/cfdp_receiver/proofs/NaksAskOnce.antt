@@ -25,10 +25,10 @@ use Rattle.cfdp_transactions.specs.Sound.{Each}
 use Rattle.cfdp_transactions.specs.declared.event.Event.{Event}
 use Rattle.cfdp_transactions.specs.declared.event.Event.TheVariants.{Data as DataCame}
 use Rattle.cfdp_receiver.specs.declared.mib.Mib.{Mib}
-use Rattle.cfdp_receiver.specs.State.{State, begin, Input, MetadataPdu, DataPdu, EofPdu, AckPdu, PromptPdu, OtherPdu, Expire, Work, Finish, CancelAsked, ForgetAsked, session_of}
+use Rattle.cfdp_receiver.specs.State.{State, begin, Input, MetadataPdu, DataPdu, EofPdu, AckPdu, PromptPdu, OtherPdu, Expire, Work, Finish, CancelAsked, ForgetAsked, ClockMoved, NotTaken, session_of}
 use Rattle.cfdp_receiver.specs.Handing as Handing
 use Rattle.cfdp_receiver.specs.Turning as Turning
-use Rattle.cfdp_receiver.specs.Laws.{touched, Asked, Asks_none, Asks_all, Asks_gaps, Asks_new, is_data, requests_of_naks, asks_metadata, AsksOnce, Once_held, Once_known, AsksOnceIn, EndsStayThere, NaksAskOnceIn, NaksAskOnce}
+use Rattle.cfdp_receiver.specs.Laws.{touched, Asked, Asks_none, Asks_all, Asks_gaps, Asks_new, is_data, requests_of_naks, asks_metadata, AsksOnce, Once_held, Once_known, EndsStayThere, NaksAskOnceIn, NaksAskOnce}
 use Rattle.cfdp_receiver.proofs.NaksAsk.{naks_ask, asks_for, exactly_missing, from_zero}
 use Rattle.cfdp_receiver.proofs.HandedOn.{hands_on}
 use Rattle.cfdp_receiver.proofs.LastThere.{LastThere, Joined, run_last, next_joined}
@@ -179,6 +179,8 @@ goes_on R (Work now) all d = absurd cc
 goes_on R (Finish now) all d = absurd cc
 goes_on R (CancelAsked now id) all d = absurd cc
 goes_on R ForgetAsked all d = absurd cc
+goes_on R (ClockMoved now) all d = absurd cc
+goes_on R NotTaken all d = absurd cc
 
 -- ---- over all inputs
 

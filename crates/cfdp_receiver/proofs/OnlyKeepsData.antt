@@ -15,7 +15,7 @@ use Rattle.cfdp_transactions.specs.Next.{next}
 use Rattle.cfdp_receiver.specs.declared.indication.Became.TheVariants.{Replied}
 use Rattle.cfdp_receiver.specs.declared.indication.Indication.{Indication}
 use Rattle.cfdp_receiver.specs.declared.indication.Indication.TheVariants.{FileSegmentRecv}
-use Rattle.cfdp_receiver.specs.State.{State, DataPdu, AnswerFields, at_of, session_of}
+use Rattle.cfdp_receiver.specs.State.{State, DataPdu, AnswerFields, moments, at_of, session_of}
 use Rattle.cfdp_receiver.specs.Due.{is_receiving_at}
 use Rattle.cfdp_receiver.specs.Handing.{is_ours, of_session, where_known}
 use Rattle.cfdp_receiver.specs.StateMachine.{StateMachineFields, AnswerParts, answer_in}
@@ -53,7 +53,7 @@ only_kept M N a h p s ours found known hears none answers =
     ∙ cond-true (is_known s.stage) (takes_piece R V rs h p s) _ (ap is_known known))
     (ap (λ (X : StateMachineFields). X.state.world) hears)
     (ap (λ (X : StateMachineFields). X.state.mib) hears)
-    (ap (λ (X : StateMachineFields). X.state.now) hears)
+    (ap (λ (X : StateMachineFields). moments X.state) hears)
     (ap (λ (X : StateMachineFields). X.state.sessions) hears)
     (ap (λ (X : StateMachineFields). X.state.closed) hears)
     (ap (answer_in N) answers ∙ ap (with_naks (record last { indications = indications_of reply h p })) (sym none))

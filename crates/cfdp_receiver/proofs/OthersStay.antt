@@ -1,6 +1,6 @@
 -- An input leaves the entries of other transactions in the core as they are.
 use Rattle.std.specs.List.{AllByRecursion}
-use Rattle.std.proofs.Common.{◌≡◌, ◌≢◌, Bool, true, false, ◌||◌, List, [], ◌∷◌, Option, Some, None, refl, sym, ap, ◌∙◌}
+use Rattle.std.proofs.Common.{◌≡◌, ◌≢◌, Bool, true, false, not, ◌&&◌, ◌||◌, ◌==◌, List, [], ◌∷◌, Option, Some, None, refl, sym, ap, ◌∙◌}
 use Rattle.std.proofs.lemmas.Bool.{both_ways}
 use Rattle.cfdp_status.proofs.Choices.{either_way}
 use Rattle.cfdp_status.specs.declared.transaction.TransactionId.{TransactionId}
@@ -21,9 +21,10 @@ use Rattle.cfdp_sessions.specs.declared.session.Stage.TheVariants.{Held, Known, 
 use Rattle.cfdp_sessions.proofs.Names.{found_name}
 use Rattle.cfdp_receiver.specs.declared.mib.Handler.{Handler}
 use Rattle.cfdp_receiver.specs.declared.mib.Handler.TheVariants as handlers
-use Rattle.cfdp_receiver.specs.State.{State, Input, MetadataPdu, DataPdu, EofPdu, AckPdu, PromptPdu, OtherPdu, Expire, Work, Finish, CancelAsked, ForgetAsked, now_of, session_of, is_closed, is_full, at_of}
+use Rattle.cfdp_receiver.specs.State.{State, Input, MetadataPdu, DataPdu, EofPdu, AckPdu, PromptPdu, OtherPdu, Expire, Work, Finish, CancelAsked, ForgetAsked, ClockMoved, NotTaken, now_of, session_of, is_closed, is_full, at_of, lacks_room}
 use Rattle.cfdp_receiver.specs.Due as Dues
 use Rattle.cfdp_receiver.specs.Handing as Handing
+use Rattle.cfdp_receiver.specs.Turning.{after_input, after_all}
 use Rattle.cfdp_receiver.specs.Laws.{due_name, session_name, touched_in, touched, is_work, OthersKeepEntries, WorkKeepsOthers}
 use Rattle.cfdp_receiver.proofs.HandedOn.{entries_stay}
 use Rattle.cfdp_leases.proofs.Held.{same_itself}
@@ -54,7 +55,7 @@ not_metadata_stage id h m s Waiting ne name = tt
 
 not_metadata : (R : State) (id : TransactionId) (h : Header) (m : MetadataFields) (o : Option SessionFields) → id ≢ id_of h → session_of R (id_of h) ≡ o →
     NotAbout id (Handing.metadata_events R h m o)
-not_metadata R id h m None ne here = either_way (NotAbout id) (is_closed R (id_of h) || is_full R) [] (MetadataCame h m ∷ []) tt (ne, tt)
+not_metadata R id h m None ne here = either_way (NotAbout id) (is_closed R (id_of h) || lacks_room R (id_of h)) [] (MetadataCame h m ∷ []) tt (ne, tt)
 not_metadata R id h m (Some s) ne here = not_metadata_stage id h m s s.stage ne (found_name R.sessions (id_of h) s here)
 
 not_limit : (id n : TransactionId) (checks : Bool) (how : Handler) → id ≢ n → NotAbout id (Handing.limit_events n checks how)
@@ -85,16 +86,20 @@ not_handed R (DataPdu now h piece) id w ne =
     either_way (NotAbout id) (Handing.is_ours R h) (Handing.of_session (session_of R (id_of h)) (DataCame h piece ∷ [])) []
     (not_session id (session_of R (id_of h)) (DataCame h piece ∷ []) (ne, tt)) tt
 not_handed R (EofPdu now h eof) id w ne =
-    either_way (NotAbout id) (Handing.is_ours R h) (Handing.of_session (session_of R (id_of h)) (EofCame h eof ∷ [])) []
-    (not_session id (session_of R (id_of h)) (EofCame h eof ∷ []) (ne, tt)) tt
+    either_way (NotAbout id) (Handing.is_ours R h) (Handing.of_session (session_of R (id_of h)) (Handing.eof_events R h eof)) []
+    (not_session id (session_of R (id_of h)) (Handing.eof_events R h eof)
+    (either_way (NotAbout id) (not (eof.condition == 0) && Handing.is_list_begun R (id_of h)) [] (EofCame h eof ∷ []) tt (ne, tt))) tt
 not_handed R (AckPdu now h ack) id w ne = tt
 not_handed R (PromptPdu now h prompt) id w ne = tt
 not_handed R (OtherPdu now h) id w ne = tt
 not_handed R (Expire now) id w ne = not_due R id (Dues.first_due R R.sessions) ne
 not_handed R (Work now) id w ne = absurd cc
 not_handed R (Finish now) id w ne = not_take id (Dues.first_over R.world R.sessions) ne
-not_handed R (CancelAsked now n) id w ne = not_session id (session_of R n) (Cancel n ∷ []) (ne, tt)
+not_handed R (CancelAsked now n) id w ne =
+    not_session id (session_of R n) (Handing.cancel_events R n) (either_way (NotAbout id) (Handing.is_list_begun R n) [] (Cancel n ∷ []) tt (ne, tt))
 not_handed R ForgetAsked id w ne = tt
+not_handed R (ClockMoved now) id w ne = tt
+not_handed R NotTaken id w ne = tt
 
 not_step : (id : TransactionId) (o : Option TransactionId) → o ≢ Some id → NotAbout id (Handing.step_of o)
 not_step id None ne = tt
@@ -111,3 +116,7 @@ work_keeps_others next_sound promised R now id sound ne =
 pub run_sound : NextIsSound → (W : World) (es : List Event) → Sound W → Sound (run W es)
 run_sound next_sound W [] s = s
 run_sound next_sound W (v ∷ vs) s = run_sound next_sound (next W v).0 vs (next_sound W v s)
+
+pub sound_all : NextIsSound → (R : State) (inputs : List Input) → Sound R.world → Sound (after_all R inputs).world
+sound_all next_sound R [] s = s
+sound_all next_sound R (i ∷ is) s = sound_all next_sound (after_input R i) is (run_sound next_sound R.world (Handing.handed R i) s)

@@ -18,7 +18,7 @@ use Rattle.cfdp_transactions.specs.Next.{run}
 use Rattle.cfdp_receiver.specs.declared.indication.Became.TheVariants.{Said}
 use Rattle.cfdp_receiver.specs.declared.indication.Word.TheVariants as words
 use Rattle.cfdp_receiver.specs.declared.mib.Mib.{Mib}
-use Rattle.cfdp_receiver.specs.State.{State, Expire, JointPhase, At_held, At_receiving, At_awaiting, At_executing, At_over, At_waiting, at_of}
+use Rattle.cfdp_receiver.specs.State.{State, Expire, moments, JointPhase, At_held, At_receiving, At_awaiting, At_executing, At_over, At_waiting, at_of}
 use Rattle.cfdp_receiver.specs.Due.{Stage_due, first_due}
 use Rattle.cfdp_receiver.specs.Handing.{due_events}
 use Rattle.cfdp_receiver.specs.StateMachine.{StateMachineFields, AnswerParts, answer_in, finished_by}
@@ -87,7 +87,7 @@ again_turns M N a s due is answer =
     (λ (U : World) (rs : List Reply). ap (Turning.due_parts R U) due)
     (ap (λ (m : StateMachineFields). m.state.world) is)
     (ap (λ (m : StateMachineFields). m.state.mib) is)
-    (ap (λ (m : StateMachineFields). m.state.now) is)
+    (ap (λ (m : StateMachineFields). moments m.state) is)
     (ap (λ (m : StateMachineFields). m.state.sessions) is)
     (ap (λ (m : StateMachineFields). m.state.closed) is)
     (ap (λ (m : StateMachineFields). answer_in m a) is ∙ answer)

@@ -355,7 +355,7 @@ fewer_put R V s new a d m name alike less = omega (arith, sum_replaced (in_world
 
 fewer_closed : (R : State) (V : World) (s : SessionFields) (a : AnswerFields) → AreDistinct R.sessions → IsMember s R.sessions →
     AlikeBut (in_world R V) R s R.sessions →
-    1 ≤ due_of R s → Fewer R V (Turning.closes R (session_id s) a)
+    1 ≤ due_of R s → Fewer R V (Turning.closes R s a)
 fewer_closed R V s a d m alike some = omega (arith, sum_without (in_world R V) R R.sessions s d m alike, some)
 
 abbrev alive_part : State → SessionFields → ℕ
@@ -431,7 +431,7 @@ over_put promised R s new acknowledged at how a sound d m name over due =
 
 gives_closed : NextIsPromised → (R : State) (s : SessionFields) (acknowledged : Bool) (at : JointPhase) (how : Handler) (a : AnswerFields) → Sound R.world →
     AreDistinct R.sessions → IsMember s R.sessions →
-    1 ≤ is_due (Dues.expiry_of R s) → Fewer R (run R.world (limit_events_of R s acknowledged at how)) (Turning.closes R (session_id s) a)
+    1 ≤ is_due (Dues.expiry_of R s) → Fewer R (run R.world (limit_events_of R s acknowledged at how)) (Turning.closes R s a)
 gives_closed promised R s acknowledged at how a sound d m due =
     let es = limit_events_of R s acknowledged at how in
     let own : Own es (session_id s) = own_known s.stage _ (session_id s) (own_limit (session_id s) (Handing.makes_checks acknowledged at) how) in

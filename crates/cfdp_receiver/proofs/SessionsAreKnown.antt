@@ -36,7 +36,7 @@ use Rattle.cfdp_receiver.specs.declared.indication.Became.TheVariants as became
 use Rattle.cfdp_receiver.specs.declared.indication.Word.TheVariants as words
 use Rattle.cfdp_receiver.specs.declared.mib.Handler.{Handler}
 use Rattle.cfdp_receiver.specs.declared.mib.Handler.TheVariants as handlers
-use Rattle.cfdp_receiver.specs.State.{State, begin, AnswerFields, Input, MetadataPdu, DataPdu, EofPdu, AckPdu, PromptPdu, OtherPdu, Expire, Work, Finish, CancelAsked, ForgetAsked, now_of, session_of, status_of, is_closed, is_full, JointPhase, At_held, At_receiving, At_awaiting, At_executing, At_over, At_waiting, at_phase, at_entry, at_stage, at_of}
+use Rattle.cfdp_receiver.specs.State.{State, begin, AnswerFields, Input, MetadataPdu, DataPdu, EofPdu, AckPdu, PromptPdu, OtherPdu, Expire, Work, Finish, CancelAsked, ForgetAsked, ClockMoved, NotTaken, now_of, session_of, status_of, is_closed, is_full, JointPhase, At_held, At_receiving, At_awaiting, At_executing, At_over, At_waiting, at_phase, at_entry, at_stage, at_of, lacks_room}
 use Rattle.cfdp_receiver.specs.Due as Dues
 use Rattle.cfdp_receiver.specs.Handing as Handing
 use Rattle.cfdp_receiver.specs.Turning as Turning
@@ -99,7 +99,7 @@ fits_put R id s es new a here name is =
 fits_close : (R : State) (id : TransactionId) (s : SessionFields) (es : List Event) (a : World → List Reply → AnswerFields) → AreDistinct R.sessions →
     session_id s
     ≡ id → is_there (run R.world es) id ≡ false →
-    Fits R id es (λ V rs. Turning.closes R (session_id s) (a V rs))
+    Fits R id es (λ V rs. Turning.closes R s (a V rs))
 fits_close R id s es a d name is = is ∙ ap knows (sym (ap (λ (n : TransactionId). found (without_session R.sessions n) id) name ∙ gone R.sessions id d))
 
 -- an event of a session that is known leaves its entry there
@@ -189,7 +189,8 @@ fits_metadata : Laws → (R : State) (h : Header) (m : MetadataFields) (o : Opti
     Fits R (id_of h) (Handing.metadata_events R h m o) (λ V rs. Turning.metadata_parts R V rs h m o)
 fits_metadata laws R h m None sound k =
     let away = Turning.said_of_header h (Turning.turned_away R h) in
-    fits_if R (id_of h) (is_closed R (id_of h) || is_full R) [] (MetadataCame h m ∷ []) (λ V rs. Turning.keeps R away) (λ V rs. Turning.begins R V rs h m)
+    fits_if R (id_of h) (is_closed R (id_of h) || lacks_room R (id_of h)) [] (MetadataCame h m ∷ []) (λ V rs. Turning.keeps R away)
+    (λ V rs. Turning.begins R V rs h m)
     (fits_keeps R (id_of h) None away k)
     (fits_add R (id_of h) (MetadataCame h m ∷ []) (λ V rs. Turning.begun_session R h
     (Turning.stage_in (entry_of V (id_of h)) (h.acknowledged || m.closure) h.destination)) (λ V rs. (Turning.begins R V rs h m).answer) k.0 (λ V rs. refl)
@@ -229,28 +230,31 @@ fits_over R id s new a k name same = fits_put R id s [] (λ V rs. new) (λ V rs.
 
 fits_eof_stage : Laws → (R : State) (h : Header) (eof : Eof) (s : SessionFields) (stage : Stage) → Sound R.world → Knows R (id_of h) (Some s) → s.stage
     ≡ stage →
-    Fits R (id_of h) (Handing.where_known stage (EofCame h eof ∷ [])) (λ V rs. Turning.eof_stage R V rs h eof s stage)
+    Fits R (id_of h) (Handing.where_known stage (Handing.eof_events R h eof)) (λ V rs. Turning.eof_stage R V rs h eof s stage)
 fits_eof_stage laws R h eof s (Held kept) sound k is =
     either_way (λ (parts : Turning.Parts). Fits R (id_of h) [] (λ V rs. parts)) (eof.condition == 0)
     (Turning.keeps R (Turning.acks_only h eof Active words.Duplicate))
     (Turning.replaces_one R (Turning.ended_by h eof s) (Turning.acks_only h eof Active words.Faulted))
     (fits_keeps R (id_of h) (Some s) silent k)
     (fits_over R (id_of h) s (Turning.ended_by h eof s) silent k (found_name R.sessions (id_of h) s k.0) (ap is_known is))
-fits_eof_stage laws R h eof s Known sound k is = fits_heard laws R (id_of h) s (EofCame h eof)
-    (λ V rs. (Turning.eof_stage R V rs h eof s Known).answer) sound k is refl refl
+fits_eof_stage laws R h eof s Known sound k is =
+    let begun = Turning.acks_only h eof Active words.ListBegun in
+    fits_if R (id_of h) (not (eof.condition == 0) && Handing.is_list_begun R (id_of h)) [] (EofCame h eof ∷ []) (λ V rs. Turning.keeps R begun)
+    (λ V rs. Turning.takes_eof R V rs h eof s) (fits_keeps R (id_of h) (Some s) begun k)
+    (fits_heard laws R (id_of h) s (EofCame h eof) (λ V rs. (Turning.takes_eof R V rs h eof s).answer) sound k is refl refl)
 fits_eof_stage laws R h eof s (OverStage ending) sound k is = fits_keeps R (id_of h) (Some s) silent k
 fits_eof_stage laws R h eof s Waiting sound k is = fits_keeps R (id_of h) (Some s) silent k
 
 fits_eof : Laws → (R : State) (h : Header) (eof : Eof) (o : Option SessionFields) → Sound R.world → Knows R (id_of h) o →
-    Fits R (id_of h) (Handing.of_session o (EofCame h eof ∷ [])) (λ V rs. Turning.eof_parts R V rs h eof o)
+    Fits R (id_of h) (Handing.of_session o (Handing.eof_events R h eof)) (λ V rs. Turning.eof_parts R V rs h eof o)
 fits_eof laws R h eof None sound k =
     let kept = Turning.keeps R (Turning.acks_only h eof (status_of R (id_of h)) (Turning.word_without_session R (id_of h))) in
-    let full = Turning.keeps R (Turning.said_of_header h words.TableFull) in
+    let full = Turning.keeps R (Turning.said_of_header h (Turning.no_room_word R)) in
     let holds = Turning.held_first R h eof in
     either_way (λ (parts : Turning.Parts). Fits R (id_of h) [] (λ V rs. parts)) (is_closed R (id_of h) || not (eof.condition == 0) || not h.acknowledged)
-    kept (if is_full R then full else holds)
+    kept (if lacks_room R (id_of h) then full else holds)
     (fits_keeps R (id_of h) None silent k)
-    (either_way (λ (parts : Turning.Parts). Fits R (id_of h) [] (λ V rs. parts)) (is_full R) full holds (fits_keeps R (id_of h) None silent k)
+    (either_way (λ (parts : Turning.Parts). Fits R (id_of h) [] (λ V rs. parts)) (lacks_room R (id_of h)) full holds (fits_keeps R (id_of h) None silent k)
     (fits_add R (id_of h) [] (λ V rs. Turning.begun_session R h (Held eof)) (λ V rs. holds.answer) k.0 (λ V rs. refl) k.1))
 fits_eof laws R h eof (Some s) sound k = fits_eof_stage laws R h eof s s.stage sound k refl
 
@@ -261,7 +265,7 @@ fits_ack_stage R h ack s Known d k is = fits_keeps R (id_of h) (Some s) silent k
 fits_ack_stage R h ack s (OverStage ending) d k is = fits_keeps R (id_of h) (Some s) silent k
 fits_ack_stage R h ack s Waiting d k is =
     either_way (λ (parts : Turning.Parts). Fits R (id_of h) [] (λ V rs. parts)) (ack.directive == 5)
-    (Turning.closes R (session_id s) (Turning.said_of_header h words.Acknowledged))
+    (Turning.closes R s (Turning.said_of_header h words.Acknowledged))
     (Turning.keeps R (Turning.said_of_header h words.Idle))
     (fits_close R (id_of h) s [] (λ V rs. Turning.said_of_header h words.Acknowledged) d (found_name R.sessions (id_of h) s k.0) (k.1 ∙ ap is_known is))
     (fits_keeps R (id_of h) (Some s) silent k)
@@ -287,20 +291,28 @@ fits_prompt R h prompt (Some s) k =
     (roused_is R s).1)
     (fits_keeps R (id_of h) (Some s) silent k)
 
-fits_cancel_stage : Laws → (R : State) (id : TransactionId) (s : SessionFields) (stage : Stage) → Sound R.world → Knows R id (Some s) → s.stage ≡ stage →
-    Fits R id (Handing.where_known stage (Cancel id ∷ [])) (λ V rs. Turning.cancel_stage R rs s stage)
-fits_cancel_stage laws R id s (Held eof) sound k is = fits_over R id s (Turning.over_here R s 15) silent k (found_name R.sessions id s k.0)
+fits_cancel_stage : Laws → (R : State) (id : TransactionId) (s : SessionFields) (stage : Stage) → Sound R.world → AreDistinct R.sessions →
+    Knows R id (Some s) → s.stage ≡ stage →
+    Fits R id (Handing.where_known stage (Handing.cancel_events R id)) (λ V rs. Turning.cancel_stage R rs s stage)
+fits_cancel_stage laws R id s (Held eof) sound d k is = fits_over R id s (Turning.over_here R s 15) silent k (found_name R.sessions id s k.0)
     (ap is_known is)
-fits_cancel_stage laws R id s Known sound k is =
+fits_cancel_stage laws R id s Known sound d k is =
     let known : is_known s.stage ≡ true = ap is_known is in
-    stays_there laws R.world (Cancel id) sound refl (k.1 ∙ known) ∙ sym known ∙ ap knows (sym k.0)
-fits_cancel_stage laws R id s (OverStage ending) sound k is = fits_keeps R id (Some s) silent k
-fits_cancel_stage laws R id s Waiting sound k is = fits_keeps R id (Some s) silent k
+    let begun = Turning.keeps R (Turning.said_word s words.ListBegun) in
+    let replied = λ (rs : List Reply). Turning.keeps R (Turning.quiet (Turning.became_reply (session_id s) rs)) in
+    subst (λ (n : TransactionId). Fits R id (Handing.cancel_events R id) (λ V rs. if Handing.is_list_begun R n then begun else replied rs))
+    (sym (found_name R.sessions id s k.0))
+    (fits_if R id (Handing.is_list_begun R id) [] (Cancel id ∷ []) (λ V rs. begun) (λ V rs. replied rs)
+    (fits_keeps R id (Some s) (Turning.said_word s words.ListBegun) k)
+    (stays_there laws R.world (Cancel id) sound refl (k.1 ∙ known) ∙ sym known ∙ ap knows (sym k.0)))
+fits_cancel_stage laws R id s (OverStage ending) sound d k is = fits_keeps R id (Some s) silent k
+fits_cancel_stage laws R id s Waiting sound d k is =
+    fits_close R id s [] (λ V rs. Turning.said_word s words.Closed) d (found_name R.sessions id s k.0) (k.1 ∙ ap is_known is)
 
-fits_cancel : Laws → (R : State) (id : TransactionId) (o : Option SessionFields) → Sound R.world → Knows R id o →
-    Fits R id (Handing.of_session o (Cancel id ∷ [])) (λ V rs. Turning.cancel_parts R rs id o)
-fits_cancel laws R id None sound k = fits_keeps R id None silent k
-fits_cancel laws R id (Some s) sound k = fits_cancel_stage laws R id s s.stage sound k refl
+fits_cancel : Laws → (R : State) (id : TransactionId) (o : Option SessionFields) → Sound R.world → AreDistinct R.sessions → Knows R id o →
+    Fits R id (Handing.of_session o (Handing.cancel_events R id)) (λ V rs. Turning.cancel_parts R rs id o)
+fits_cancel laws R id None sound d k = fits_keeps R id None silent k
+fits_cancel laws R id (Some s) sound d k = fits_cancel_stage laws R id s s.stage sound d k refl
 
 -- ---- timers
 
@@ -427,21 +439,21 @@ fits_session : (R : State) (s : SessionFields) (o : Outcome) (es : List Event) �
     is_there (run R.world es) (session_id s) ≡ false →
     Fits R (session_id s) es (λ V rs. Turning.finish_session R s o)
 fits_session R s o es d here gone_now =
-    let closed : (a : AnswerFields) → Fits R (session_id s) es (λ V rs. Turning.closes R (session_id s) a) =
-    λ a. fits_close R (session_id s) s es (λ V rs. a) d refl gone_now in
+    let closed : (a : AnswerFields) → Fits R (session_id s) es (λ V rs. Turning.closes R (Turning.settled s o) a) =
+    λ a. fits_close R (session_id s) (Turning.settled s o) es (λ V rs. a) d refl gone_now in
     let waits : Fits R (session_id s) es (λ V rs. Turning.replaces_one R (Turning.waits_for_ack R s o) (Turning.sends_it s o words.Finished)) =
     fits_put R (session_id s) s es (λ V rs. Turning.waits_for_ack R s o) (λ V rs. Turning.sends_it s o words.Finished) here (λ V rs. refl) gone_now in
-    let third = if not s.header.acknowledged then Turning.closes R (session_id s) (Turning.sends_it s o words.Closed)
+    let third = if not s.header.acknowledged then Turning.closes R (Turning.settled s o) (Turning.sends_it s o words.Closed)
     else Turning.replaces_one R (Turning.waits_for_ack R s o) (Turning.sends_it s o words.Finished) in
-    let second = if not o.send then Turning.closes R (session_id s) (Turning.concluded s o words.Closed) else third in
+    let second = if not o.send then Turning.closes R (Turning.settled s o) (Turning.concluded s o words.Closed) else third in
     either_way (λ (parts : Turning.Parts). Fits R (session_id s) es (λ V rs. parts)) s.is_abandoned
-    (Turning.closes R (session_id s) (Turning.said_word s words.Closed)) second
+    (Turning.closes R (Turning.settled s o) (Turning.said_word s words.Closed)) second
     (closed (Turning.said_word s words.Closed)) (
     either_way (λ (parts : Turning.Parts). Fits R (session_id s) es (λ V rs. parts)) (not o.send)
-    (Turning.closes R (session_id s) (Turning.concluded s o words.Closed)) third
+    (Turning.closes R (Turning.settled s o) (Turning.concluded s o words.Closed)) third
     (closed (Turning.concluded s o words.Closed)) (
     either_way (λ (parts : Turning.Parts). Fits R (session_id s) es (λ V rs. parts)) (not s.header.acknowledged)
-    (Turning.closes R (session_id s) (Turning.sends_it s o words.Closed))
+    (Turning.closes R (Turning.settled s o) (Turning.sends_it s o words.Closed))
     (Turning.replaces_one R (Turning.waits_for_ack R s o) (Turning.sends_it s o words.Finished))
     (closed (Turning.sends_it s o words.Closed)) waits
     )
@@ -477,7 +489,7 @@ fits_touched laws R (DataPdu now h piece) sound d known w =
     (fits_data laws R h piece o sound (refl, known (id_of h)))
 fits_touched laws R (EofPdu now h eof) sound d known w =
     let o = session_of R (id_of h) in
-    fits_ours R h o (Handing.of_session o (EofCame h eof ∷ [])) (λ V rs. Turning.eof_parts R V rs h eof o) (refl, known (id_of h))
+    fits_ours R h o (Handing.of_session o (Handing.eof_events R h eof)) (λ V rs. Turning.eof_parts R V rs h eof o) (refl, known (id_of h))
     (fits_eof laws R h eof o sound (refl, known (id_of h)))
 fits_touched laws R (AckPdu now h ack) sound d known w =
     fits_ours_none R h (Turning.ack_parts R h ack (session_of R (id_of h))) known (fits_ack R h ack (session_of R (id_of h)) d (refl, known (id_of h)))
@@ -494,8 +506,10 @@ fits_touched laws R (Work now) sound d known w = absurd cc
 fits_touched laws R (Finish now) sound d known w =
     let o = Dues.first_over R.world R.sessions in
     fits_finish laws R o sound d refl (refl, known (session_name o))
-fits_touched laws R (CancelAsked now id) sound d known w = fits_cancel laws R id (session_of R id) sound (refl, known id)
+fits_touched laws R (CancelAsked now id) sound d known w = fits_cancel laws R id (session_of R id) sound d (refl, known id)
 fits_touched laws R ForgetAsked sound d known w = known nobody
+fits_touched laws R (ClockMoved now) sound d known w = known nobody
+fits_touched laws R NotTaken sound d known w = known nobody
 
 -- ---- the others
 
@@ -542,6 +556,8 @@ known_after laws next_sound promised R (Work now) sound d known = λ id. step_sa
 known_after laws next_sound promised R (Finish now) sound d known = known_but_work laws next_sound promised R (Finish now) sound d known refl
 known_after laws next_sound promised R (CancelAsked now id) sound d known = known_but_work laws next_sound promised R (CancelAsked now id) sound d known refl
 known_after laws next_sound promised R ForgetAsked sound d known = known_but_work laws next_sound promised R ForgetAsked sound d known refl
+known_after laws next_sound promised R (ClockMoved now) sound d known = known_but_work laws next_sound promised R (ClockMoved now) sound d known refl
+known_after laws next_sound promised R NotTaken sound d known = known_but_work laws next_sound promised R NotTaken sound d known refl
 
 pub known_all : Laws → NextIsSound → NextIsPromised → (R : State) (inputs : List Input) → Sound R.world → AreDistinct R.sessions → AreKnown R →
     AreKnown (Turning.after_all R inputs)

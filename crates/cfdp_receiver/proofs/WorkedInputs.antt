@@ -1,6 +1,6 @@
 -- Worked examples: what is answered to each input, computed from the definitions.
 use Rattle.std.proofs.Common.{◌≡◌, ℕ, ◌+◌, ◌*◌, List, [], ◌∷◌, refl, ap, ◌∙◌}
-use Rattle.std.specs.Prelude.{pos, true, false, Some, codes, map, max, slice_set}
+use Rattle.std.specs.Prelude.{pos, true, false, Some, codes, map, slice_set}
 use Rattle.cfdp_actions.specs.Filestore.{empty_filestore, blocks_of, blocks}
 use Rattle.cfdp_actions.specs.Actions.{Install, Perform, CreateFile, row, free_row, table, create, install}
 use Rattle.cfdp_checksum.specs.Checksum.{weighed_from}
@@ -44,7 +44,8 @@ abbrev after_on : State → Input → List Event → World × ReplyOf → State
 after_on R i more x = record {
   world = run x.0 more;
   mib = R.mib;
-  now = max R.now (now_of i);
+  now = (later (now_of i) R).now;
+  seen = (later (now_of i) R).seen;
   sessions = (parts_on R i more x).sessions;
   closed = (parts_on R i more x).closed;
 }
@@ -302,7 +303,7 @@ resumed = after_on holding (MetadataPdu 0 (header 5) M) (EofCame (header 5) E �
 
 joined : (inputs : List Input) →
     all_answers holding (MetadataPdu 0 (header 5) M ∷ inputs)
-    ≡ record (replies 5 (Reply.Admitted 2 2)) { naks = nak 5 0 15 ((0, 15) ∷ []) ∷ []; indications = described 5 ∷ [] } ∷ all_answers resumed inputs
+    ≡ record (replies 5 (Reply.Admitted 2 2)) { indications = described 5 ∷ [] } ∷ all_answers resumed inputs
 joined inputs = ap (all_on holding (MetadataPdu 0 (header 5) M) (EofCame (header 5) E ∷ []) inputs) admitted
 
 after_the_join : all_answers resumed (data_at 0 0 15 ∷ Work 0 ∷ Finish 0 ∷ []) ≡ completed 0 15 ∷ replies 5 Reply.Installed ∷ delivered ∷ []

@@ -40,6 +40,7 @@ mib = record {
   nak_mode = modes.Deferred;
   has_crc = false;
   longest_nak = 65535;
+  most_ahead = None;
 }
 
 -- the entity with no session

@@ -1,10 +1,13 @@
 -- What is true of the receiver, whatever comes.
 --     HandsOn, HeadlineHolds    its world is the core's own, of the events that were handed on
 --     FewEvents, FewPdus        how many events an input hands on at most;  how many PDUs an answer has at most
---     FindsNoRoom R h eof       an EOF PDU without a fault would begin a transaction, and there are 64 sessions
+--     FindsNoRoom R h eof       an EOF PDU without a fault would begin a transaction, for which there is no room
 --     AcknowledgedOnce          every other EOF PDU in acknowledged mode is acknowledged once
 --     touched R i               the transaction that an input is about
 --     OthersStay                the sessions of all others stay
+--     is_forget i               all names closed last are to be forgotten
+--     SourcesAreApart           else whether a name is remembered does not change where its source is not that of the
+--                               transaction that the input is about
 --     UnrecognizedIsTrue        this is said of no transaction that ever had a session
 --     HadSession R inputs id    it had a session after some of the inputs
 --     TerminatedIsTrue          this is said only of a transaction that had one
@@ -41,8 +44,10 @@
 --     RememberedStays           the same of a state: a Metadata PDU of a transaction that is remembered leaves the core
 --                               as it is
 --     AtMostOnce                while a transaction is remembered, no Metadata PDU of it changes the core
+--     NonePerformed e, AllPerformed e   no item of a transaction's list was performed;  every item was
+--     AllOrNone                 of a transaction that is over no item was performed, or every item was
 use Rattle.std.specs.Prelude.{◌≡◌, ◌≢◌, ◌⊎◌, ℕ, ◌+◌, ◌-◌, ◌*◌, ◌≤◌, ◌<◌, ◌==◌, ◌&&◌, Bool, true, false, ◌||◌, if◌then◌else◌, List, [], ◌∷◌, ◌++◌, map, min, length, Option, Some, None, is_some}
-use Rattle.std.specs.List.{AllByRecursion, flat_map}
+use Rattle.std.specs.List.{AllByRecursion, flat_map, list_any}
 use Rattle.cfdp_status.specs.declared.transaction.TransactionId.{TransactionId}
 use Rattle.cfdp_leases.specs.Leases.{is_same}
 use Rattle.cfdp_directives.specs.declared.ack.TransactionStatus.TheVariants.{Terminated, Unrecognized}
@@ -60,7 +65,7 @@ use Rattle.cfdp_sessions.specs.Sessions.{SessionFields, session_id, AreDistinct}
 use Rattle.cfdp_sessions.specs.declared.session.Ending.{Ending}
 use Rattle.cfdp_sessions.specs.declared.session.Stage.{Stage}
 use Rattle.cfdp_sessions.specs.declared.session.Stage.TheVariants.{Held, Known, Over, Waiting}
-use Rattle.cfdp_transactions.specs.Entry.{Entry, id_of, gaps, reach}
+use Rattle.cfdp_transactions.specs.Entry.{Entry, id_of, gaps, is_live, reach}
 use Rattle.cfdp_transactions.specs.ReceivedLaws.{octet_at}
 use Rattle.cfdp_transactions.specs.Received.{is_whole}
 use Rattle.cfdp_transactions.specs.declared.event.Event.{Event}
@@ -69,12 +74,13 @@ use Rattle.cfdp_transactions.specs.declared.phase.Phase.TheVariants.{Awaiting, E
 use Rattle.cfdp_transactions.specs.Events.{about}
 use Rattle.cfdp_transactions.specs.World.{World, bound, entry_of, next_runnable}
 use Rattle.cfdp_transactions.specs.Next.{run}
-use Rattle.cfdp_transactions.specs.Sound.{Each, Sound}
+use Rattle.cfdp_transactions.specs.Execution.{is_install}
+use Rattle.cfdp_transactions.specs.Sound.{Each, Sound, all_successful}
 use Rattle.cfdp_transactions.specs.Headline.{Promised, AtEach}
 use Rattle.cfdp_transactions.specs.Writable.{finished_octets}
 use Rattle.cfdp_receiver.specs.declared.mib.Handler.TheVariants.{Ignore}
 use Rattle.cfdp_receiver.specs.declared.mib.Mib.{Mib}
-use Rattle.cfdp_receiver.specs.State.{State, begin, Input, MetadataPdu, DataPdu, EofPdu, AckPdu, PromptPdu, OtherPdu, Expire, Work, Finish, CancelAsked, ForgetAsked, now_of, status_of, session_of, is_closed, is_full}
+use Rattle.cfdp_receiver.specs.State.{State, begin, Input, MetadataPdu, DataPdu, EofPdu, AckPdu, PromptPdu, OtherPdu, Expire, Work, Finish, CancelAsked, ForgetAsked, ClockMoved, NotTaken, now_of, status_of, session_of, is_closed, is_full, lacks_room}
 use Rattle.cfdp_receiver.specs.Due.{Due, Nothing_due, Stage_due, Alive_due, IsSet, expiry_of, is_alive_due, first_due, first_over}
 use Rattle.cfdp_receiver.specs.Handing.{is_ours, later, handed}
 use Rattle.cfdp_receiver.specs.Turning.{outcome_for, most_nak_requests, sequence, all_of, gaps_after, progress_at, is_immediate, parts, after_input, after_all, all_handed, acked, is_known}
@@ -92,12 +98,13 @@ abbrev pub FewPdus : Type 0
 FewPdus = (R : State) (i : Input) → (length (parts R i).answer.acks ≤ 1)
     × (length (parts R i).answer.keep_alives + length (parts R i).answer.finished ≤ 1)
 
--- an EOF PDU without a fault would begin a transaction, for which there is no room
+-- an EOF PDU without a fault would begin a transaction, for which there is no room: there are 64 sessions, or 16
+-- sources and its own has no place
 pub record FindsNoRoom (R : State) (h : Header) (eof : Eof) : Type 0 where
   pub none : session_of R (id_of h) ≡ None
   pub unclosed : is_closed R (id_of h) ≡ false
   pub faultless : eof.condition ≡ no_error
-  pub full : is_full R ≡ true
+  pub full : lacks_room R (id_of h) ≡ true
 
 -- or it finds no room, and is not taken
 abbrev pub AcknowledgedOnce : Type 0
@@ -132,6 +139,8 @@ touched_in R (Work now) = nobody
 touched_in R (Finish now) = session_name (first_over R.world R.sessions)
 touched_in R (CancelAsked now id) = id
 touched_in R ForgetAsked = nobody
+touched_in R (ClockMoved now) = nobody
+touched_in R NotTaken = nobody
 
 abbrev pub touched : State → Input → TransactionId
 touched R i = touched_in (later (now_of i) R) i
@@ -140,6 +149,14 @@ abbrev pub OthersStay : Type 0
 OthersStay = (R : State) (i : Input) (id : TransactionId) → is_same (touched R i) id ≡ false → session_of
     (after_input R i) id
     ≡ session_of R id
+
+abbrev pub is_forget : Input → Bool
+is_forget ForgetAsked = true
+is_forget i = false
+
+abbrev pub SourcesAreApart : Type 0
+SourcesAreApart = (R : State) (i : Input) (id : TransactionId) → is_forget i ≡ false →
+    ((touched R i).source == id.source) ≡ false → is_closed (after_input R i) id ≡ is_closed R id
 
 abbrev pub UnrecognizedIsTrue : Type 0
 UnrecognizedIsTrue =
@@ -428,3 +445,20 @@ NoneAfterAck =
     (session_of (after_input R (AckPdu now h ack)) (id_of h) ≡ None)
     × (is_closed (after_input R (AckPdu now h ack)) (id_of h) ≡ true)
     × (sent_closed (after_input R (AckPdu now h ack)) inputs (id_of h) ≡ 0)
+
+pub record NonePerformed (e : Entry) : Type 0 where
+  pub statuses : e.statuses ≡ []
+  pub installed : e.installed ≡ false
+  pub steps : e.steps_spent ≡ 0
+
+-- each request with 'successful', and the file is installed where there is one
+pub record AllPerformed (e : Entry) : Type 0 where
+  pub statuses : e.statuses ≡ all_successful e.metadata.requests
+  pub installed : e.installed ≡ list_any is_install e.items
+
+-- whatever comes, a cancel in the middle of the list included
+abbrev pub AllOrNone : Type 0
+AllOrNone =
+    (mib : Mib) (W : World) (inputs : List Input) (id : TransactionId) (e : Entry) → Sound W → W.table ≡ [] →
+    entry_of (after_all (begin mib W) inputs).world id ≡ Some e → is_live e.phase ≡ false →
+    NonePerformed e ⊎ AllPerformed e

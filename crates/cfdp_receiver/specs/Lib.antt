@@ -2,6 +2,7 @@ pub mod State
 pub mod Due
 pub mod Handing
 pub mod Turning
+pub mod Moments
 pub mod Laws
 pub mod StateMachine
 pub mod Heard

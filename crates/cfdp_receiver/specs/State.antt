@@ -2,15 +2,17 @@
 -- receiving entity).
 --     State, begin mib W        the core's world, the sessions in order of beginning, the names closed last;  with no
 --                               session
+--     moments R                 its own time, and the latest moment by the driver's clock
 --     Input, now_of             what comes;  the moment at which it comes
 --     AnswerFields              what is sent, what the user is notified of, and what became of the input
 --     session_of R id           the session of this name, if there is one
 --     is_closed R id            the name is one of those closed last
 --     is_full R                 there are 64 sessions
+--     lacks_room R id           or there is no place for the source of this name
 --     JointPhase, at_of W s     how far a transaction is, by its session and the core
 --     status_of R id            what an ACK PDU says of the transaction (§5.2.4)
 --     turned_header h           the header of a PDU that is sent: toward the sender, all else as in the PDU that came
-use Rattle.std.specs.Prelude.{ℕ, Bool, true, false, nat_le, List, [], length, Option, Some, None}
+use Rattle.std.specs.Prelude.{ℕ, Bool, true, false, not, ◌||◌, nat_le, List, [], length, Option, Some, None}
 use Rattle.cfdp_status.specs.declared.transaction.TransactionId.{TransactionId}
 use Rattle.cfdp_pdus.specs.Values.{MetadataFields, FileDataFields}
 use Rattle.cfdp_pdus.specs.declared.header.Header.{Header}
@@ -21,7 +23,7 @@ use Rattle.cfdp_directives.specs.declared.ack.TransactionStatus.{TransactionStat
 use Rattle.cfdp_directives.specs.declared.ack.TransactionStatus.TheVariants.{Undefined, Active, Terminated, Unrecognized}
 use Rattle.cfdp_directives.specs.declared.keep_alive.KeepAlive.{KeepAlive}
 use Rattle.cfdp_directives.specs.declared.prompt.Prompt.{Prompt}
-use Rattle.cfdp_sessions.specs.Closed.{ClosedFields, remembers}
+use Rattle.cfdp_sessions.specs.Closed.{ClosedFields, remembers, has_room_for}
 use Rattle.cfdp_sessions.specs.Sessions.{SessionFields, session_id, found}
 use Rattle.cfdp_sessions.specs.declared.session.Stage.{Stage}
 use Rattle.cfdp_sessions.specs.declared.session.Stage.TheVariants.{Held, Known, Over, Waiting}
@@ -38,12 +40,23 @@ use Rattle.cfdp_receiver.specs.declared.mib.Mib.{Mib}
 pub record State : Type 0 where
   pub world : World
   pub mib : Mib
-  pub now : ℕ  -- the latest moment that was handed in
+  pub now : ℕ  -- its own time: the ticks that have passed for it, by which its timers run
+  pub seen : ℕ  -- the latest moment that was handed in, by the driver's clock
   pub sessions : List SessionFields
   pub closed : ClosedFields
 
 abbrev pub begin : Mib → World → State
-begin mib W = record { world = W; mib = mib; now = 0; sessions = []; closed = record { names = []; forgot = false } }
+begin mib W = record {
+  world = W;
+  mib = mib;
+  now = 0;
+  seen = 0;
+  sessions = [];
+  closed = record { sources = []; forgot = false };
+}
+
+abbrev pub moments : State → ℕ × ℕ
+moments R = (R.now, R.seen)
 
 -- a PDU that was read, a call of the user or of the driver
 pub data Input : Type 0 where
@@ -59,6 +72,10 @@ pub data Input : Type 0 where
   Finish : (now : ℕ) → Input
   CancelAsked : (now : ℕ) → (id : TransactionId) → Input
   ForgetAsked : Input
+  -- the driver's clock was set: its moment is this one by now
+  ClockMoved : (now : ℕ) → Input
+  -- an input whose moment is further ahead than may be
+  NotTaken : Input
 
 -- an earlier moment than the latest counts as the latest
 abbrev pub now_of : Input → ℕ
@@ -73,6 +90,8 @@ now_of (Work now) = now
 now_of (Finish now) = now
 now_of (CancelAsked now id) = now
 now_of ForgetAsked = 0
+now_of (ClockMoved now) = 0
+now_of NotTaken = 0
 
 -- PDUs are sent in the order of the fields
 pub record AnswerFields : Type 0 where
@@ -91,6 +110,9 @@ is_closed R id = remembers R.closed id
 
 abbrev pub is_full : State → Bool
 is_full R = nat_le 64 (length R.sessions)
+
+abbrev pub lacks_room : State → TransactionId → Bool
+lacks_room R id = is_full R || not (has_room_for R.closed id.source)
 
 abbrev pub at_phase : Phase → JointPhase
 at_phase Receiving = At_receiving

@@ -16,8 +16,6 @@ use Rattle.cfdp_pdus.specs.declared.header.Header.{Header}
 use Rattle.cfdp_directives.specs.Reading.{NakFields}
 use Rattle.cfdp_directives.specs.declared.ack.Ack.{Ack}
 use Rattle.cfdp_directives.specs.declared.keep_alive.KeepAlive.{KeepAlive}
-use Rattle.cfdp_retransmission.specs.Naks.{naks}
-use Rattle.cfdp_retransmission.specs.declared.timer.Expiry.TheVariants.{Limit}
 use Rattle.cfdp_sessions.specs.Sessions.{SessionFields}
 use Rattle.cfdp_transactions.specs.World.{World}
 use Rattle.cfdp_receiver.specs.declared.indication.Became.{Became}
@@ -78,7 +76,7 @@ is_no_time (Some interval) = interval == 0
 abbrev pub lacks_time : Mib → Bool
 lacks_time mib =
     (mib.ack.interval == 0) || (mib.nak.interval == 0) || (mib.check.interval == 0) || (mib.inactivity.interval == 0)
-    || is_no_time mib.keep_alive
+    || is_no_time mib.keep_alive || is_no_time mib.most_ahead
 
 abbrev pub is_limit : ℕ → Bool
 is_limit limit = nat_le 1 limit && nat_le limit 1000

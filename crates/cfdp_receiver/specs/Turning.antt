@@ -6,16 +6,22 @@
 --     asks mib V s              the NAK sequence for a session, in the world V
 --     parts_of R V replies i    by the input: R is as late as it, V the world after what was handed on, and these were
 --                               the replies
---     turn R i                  the state after an input, and its answer;  after R i, parts R i
+--     after_input R i, parts R i    the state after an input; its answer, with the sessions and closed names
+--     is_too_far R now          a moment is further ahead of the latest than the management information base allows
+--     timely R i                the input, or that none is taken, where its moment is too far ahead
+--     turn R i                  the state after an input that is handed in, and its answer
 --     after_all                 the state after several inputs
 --     all_handed                all events that they hand to the core
-use Rattle.std.specs.Prelude.{ℕ, ◌-◌, ◌/◌, max, min, Bool, true, false, not, ◌&&◌, ◌||◌, ◌==◌, if◌then◌else◌, nat_le, List, [], ◌∷◌, ◌++◌, map, length, Option, Some, None}
+use Rattle.std.specs.Prelude.{ℕ, ◌+◌, ◌-◌, ◌/◌, max, min, Bool, true, false, not, ◌&&◌, ◌||◌, ◌==◌, if◌then◌else◌, nat_le, nat_lt, List, [], ◌∷◌, ◌++◌, map, length, Option, Some, None}
 use Rattle.std.specs.List.{filter}
 use Rattle.cfdp_status.specs.declared.transaction.TransactionId.{TransactionId}
+use Rattle.cfdp_status.specs.declared.status.Status.{Status}
+use Rattle.cfdp_status.specs.declared.status.Status.TheVariants.{NotPerformed}
+use Rattle.cfdp_tlv.specs.Values.{ResponseFields}
 use Rattle.cfdp_pdus.specs.Values.{MetadataFields, FileDataFields, FinishedFields}
 use Rattle.cfdp_pdus.specs.declared.header.Header.{Header}
 use Rattle.cfdp_pdus.specs.declared.eof.Eof.{Eof}
-use Rattle.cfdp_pdus.specs.Codes.{no_error, filestore_rejection, cancel_request_received, eof_code, finished_code, file_unreported}
+use Rattle.cfdp_pdus.specs.Codes.{no_error, filestore_rejection, cancel_request_received, eof_code, finished_code, file_retained, file_unreported}
 use Rattle.cfdp_directives.specs.Reading.{NakFields}
 use Rattle.cfdp_directives.specs.declared.ack.Ack.{Ack}
 use Rattle.cfdp_directives.specs.declared.ack.TransactionStatus.{TransactionStatus}
@@ -25,7 +31,7 @@ use Rattle.cfdp_directives.specs.declared.prompt.Prompt.TheVariants as prompts
 use Rattle.cfdp_retransmission.specs.declared.timer.Expiry.TheVariants.{Again}
 use Rattle.cfdp_retransmission.specs.Timers.{passed, restarted}
 use Rattle.cfdp_retransmission.specs.Naks.{SegmentRequest, naks}
-use Rattle.cfdp_sessions.specs.Closed.{ClosedFields, with_name}
+use Rattle.cfdp_sessions.specs.Closed.{ClosedFields, with_closed, with_source, forgotten}
 use Rattle.cfdp_sessions.specs.Sessions.{SessionFields, session_id, replaced, without_session}
 use Rattle.cfdp_sessions.specs.declared.session.Ending.{Ending}
 use Rattle.cfdp_sessions.specs.declared.session.Stage.{Stage}
@@ -40,7 +46,7 @@ use Rattle.cfdp_transactions.specs.Writable.{finished_octets}
 use Rattle.cfdp_transactions.specs.World.{World, entry_of, next_runnable}
 use Rattle.cfdp_transactions.specs.Next.{run, replies}
 use Rattle.cfdp_receiver.specs.declared.indication.Became.{Became}
-use Rattle.cfdp_receiver.specs.declared.indication.Became.TheVariants.{Nothing, NotOurs, Said, Replied}
+use Rattle.cfdp_receiver.specs.declared.indication.Became.TheVariants.{Nothing, NotOurs, TooFarAhead, Said, Replied}
 use Rattle.cfdp_receiver.specs.declared.indication.Conclusion.{Conclusion}
 use Rattle.cfdp_receiver.specs.declared.indication.Indication.{Indication}
 use Rattle.cfdp_receiver.specs.declared.indication.Indication.TheVariants as tells
@@ -51,9 +57,9 @@ use Rattle.cfdp_receiver.specs.declared.mib.Handler.TheVariants as handlers
 use Rattle.cfdp_receiver.specs.declared.mib.Mib.{Mib}
 use Rattle.cfdp_receiver.specs.declared.mib.NakMode.{NakMode}
 use Rattle.cfdp_receiver.specs.declared.mib.NakMode.TheVariants as modes
-use Rattle.cfdp_receiver.specs.State.{State, Input, MetadataPdu, DataPdu, EofPdu, AckPdu, PromptPdu, OtherPdu, Expire, Work, Finish, CancelAsked, ForgetAsked, now_of, AnswerFields, session_of, is_closed, is_full, JointPhase, At_held, At_receiving, At_awaiting, At_waiting, at_of, status_of, turned_header}
+use Rattle.cfdp_receiver.specs.State.{State, Input, MetadataPdu, DataPdu, EofPdu, AckPdu, PromptPdu, OtherPdu, Expire, Work, Finish, CancelAsked, ForgetAsked, ClockMoved, NotTaken, now_of, AnswerFields, session_of, is_closed, is_full, JointPhase, At_held, At_receiving, At_awaiting, At_waiting, at_of, status_of, turned_header, lacks_room}
 use Rattle.cfdp_receiver.specs.Due.{Due, Nothing_due, Stage_due, Alive_due, first_due, first_over, fault_at, handler_at, is_receiving_at}
-use Rattle.cfdp_receiver.specs.Handing.{is_ours, later, handed}
+use Rattle.cfdp_receiver.specs.Handing.{is_ours, later, is_list_begun, handed, own_time}
 
 pub record Parts : Type 0 where
   pub sessions : List SessionFields
@@ -70,18 +76,21 @@ abbrev pub replaces_one : State → SessionFields → AnswerFields → Parts
 replaces_one R new answer = record { sessions = replaced R.sessions new; closed = R.closed; answer = answer }
 
 abbrev pub adds : State → SessionFields → AnswerFields → Parts
-adds R new answer = record { sessions = R.sessions ++ new ∷ []; closed = R.closed; answer = answer }
+adds R new answer = record {
+  sessions = R.sessions ++ new ∷ [];
+  closed = with_source R.closed new.header.source;
+  answer = answer;
+}
 
-abbrev pub closes : State → TransactionId → AnswerFields → Parts
-closes R id answer = record {
-  sessions = without_session R.sessions id;
-  closed = with_name R.closed id;
-  answer =
-      answer;
+abbrev pub closes : State → SessionFields → AnswerFields → Parts
+closes R s answer = record {
+  sessions = without_session R.sessions (session_id s);
+  closed = with_closed R.closed s;
+  answer = answer;
 }
 
 abbrev pub forgets : State → AnswerFields → Parts
-forgets R answer = record { sessions = R.sessions; closed = record { names = []; forgot = true }; answer = answer }
+forgets R answer = record { sessions = R.sessions; closed = forgotten R.closed R.sessions; answer = answer }
 
 abbrev pub said_word : SessionFields → Word → AnswerFields
 said_word s word = quiet (Said (session_id s) word)
@@ -167,6 +176,7 @@ begun_session R h stage =
       alive_at = R.now;
       cause = None;
       is_abandoned = false;
+      has_changed = false;
       finished = [];
     }
 
@@ -179,14 +189,12 @@ stage_in (Some e) is_sent at_fault = Known
 abbrev pub described : TransactionId → MetadataFields → Indication
 described id m = tells.MetadataRecv id (record { size = m.size; closure = m.closure; checksum_type = m.checksum_type })
 
--- the Metadata of a transaction whose EOF PDU is held
+-- the Metadata of a transaction whose EOF PDU is held. It asks for nothing: the NAK PDUs that asked for it asked for
+-- the whole file, too, and the timer begins anew
 abbrev pub joins : State → World → List Reply → Header → MetadataFields → Parts
 joins R V replies h m =
-    let new = begun_session R h (stage_in (entry_of V (id_of h)) true h.destination) in
-    replaces_one R new (record (quiet (became_reply (id_of h) replies)) {
-      naks = asks_where_awaiting R.mib V new;
-      indications = described (id_of h) m ∷ [];
-    })
+    replaces_one R (begun_session R h (stage_in (entry_of V (id_of h)) true h.destination))
+    (record (quiet (became_reply (id_of h) replies)) { indications = described (id_of h) m ∷ [] })
 
 -- a new transaction
 abbrev pub begins : State → World → List Reply → Header → MetadataFields → Parts
@@ -201,12 +209,17 @@ metadata_stage R V replies h m s Known = replaces_one R (heard_session R V s) (q
 metadata_stage R V replies h m s (Over ending) = keeps R (said_word s words.Duplicate)
 metadata_stage R V replies h m s Waiting = keeps R (said_word s words.Duplicate)
 
+-- there are 64 sessions, or 16 sources
+abbrev pub no_room_word : State → Word
+no_room_word R = if is_full R then words.TableFull else words.SourcesFull
+
 abbrev pub turned_away : State → Header → Word
-turned_away R h = if is_closed R (id_of h) then words.Duplicate else words.TableFull
+turned_away R h = if is_closed R (id_of h) then words.Duplicate else no_room_word R
 
 abbrev pub metadata_parts : State → World → List Reply → Header → MetadataFields → Option SessionFields → Parts
 metadata_parts R V replies h m None =
-    if is_closed R (id_of h) || is_full R then keeps R (said_of_header h (turned_away R h)) else begins R V replies h m
+    if is_closed R (id_of h) || lacks_room R (id_of h) then keeps R (said_of_header h (turned_away R h))
+    else begins R V replies h m
 metadata_parts R V replies h m (Some s) = metadata_stage R V replies h m s s.stage
 
 -- ---- File Data
@@ -278,16 +291,25 @@ left_receiving R V s = is_receiving_at (at_of R.world s) && not (is_receiving_at
 abbrev pub ended_by : Header → Eof → SessionFields → SessionFields
 ended_by h eof s = record s { stage = Over (record { condition = eof.condition; is_sent = true; at_fault = h.source }) }
 
-abbrev pub eof_stage : State → World → List Reply → Header → Eof → SessionFields → Stage → Parts
-eof_stage R V replies h eof s (Held kept) =
-    if eof.condition == no_error then keeps R (acks_only h eof Active words.Duplicate)
-    else replaces_one R (ended_by h eof s) (acks_only h eof Active words.Faulted)
-eof_stage R V replies h eof s Known =
+-- the EOF PDU is handed to the core
+abbrev pub takes_eof : State → World → List Reply → Header → Eof → SessionFields → Parts
+takes_eof R V replies h eof s =
     replaces_one R (heard_session R V s) (record (quiet (became_reply (id_of h) replies)) {
       acks = acked h eof.condition Active;
       naks = if left_receiving R V s && (eof.condition == no_error) then asks_where_awaiting R.mib V s else [];
       indications = if left_receiving R V s && (eof.condition == no_error) then tells.EofRecv (id_of h) ∷ [] else [];
     })
+
+-- a sender's cancel in the middle of a list is acknowledged, and the list goes on to its end
+abbrev pub eof_known : State → World → List Reply → Header → Eof → SessionFields → Parts
+eof_known R V replies h eof s = if not (eof.condition == no_error) && is_list_begun R (id_of h)
+    then keeps R (acks_only h eof Active words.ListBegun) else takes_eof R V replies h eof s
+
+abbrev pub eof_stage : State → World → List Reply → Header → Eof → SessionFields → Stage → Parts
+eof_stage R V replies h eof s (Held kept) =
+    if eof.condition == no_error then keeps R (acks_only h eof Active words.Duplicate)
+    else replaces_one R (ended_by h eof s) (acks_only h eof Active words.Faulted)
+eof_stage R V replies h eof s Known = eof_known R V replies h eof s
 eof_stage R V replies h eof s stage = keeps R (acks_only h eof Active words.Idle)
 
 -- a transaction whose EOF PDU comes first
@@ -302,7 +324,7 @@ abbrev pub eof_parts : State → World → List Reply → Header → Eof → Opt
 eof_parts R V replies h eof None =
     if is_closed R (id_of h) || not (eof.condition == no_error) || not h.acknowledged
     then keeps R (acks_only h eof (status_of R (id_of h)) (word_without_session R (id_of h)))
-    else if is_full R then keeps R (said_of_header h words.TableFull)
+    else if lacks_room R (id_of h) then keeps R (said_of_header h (no_room_word R))
     else held_first R h eof
 eof_parts R V replies h eof (Some s) = eof_stage R V replies h eof s s.stage
 
@@ -310,7 +332,7 @@ eof_parts R V replies h eof (Some s) = eof_stage R V replies h eof s s.stage
 
 abbrev pub ack_stage : State → Header → Ack → SessionFields → Stage → Parts
 ack_stage R h ack s Waiting =
-    if ack.directive == finished_code then closes R (session_id s) (said_of_header h words.Acknowledged)
+    if ack.directive == finished_code then closes R s (said_of_header h words.Acknowledged)
     else keeps R (said_of_header h words.Idle)
 ack_stage R h ack s stage = keeps R (said_of_header h words.Idle)
 
@@ -373,12 +395,12 @@ over_here R s condition = record s {
 abbrev pub gives_up : State → SessionFields → ℕ → Handler → JointPhase → Parts
 gives_up R s condition handlers.Ignore at = replaces_one R (record s { timer = restarted R.now })
     (fault_indicated s condition words.Ignored)
-gives_up R s condition handlers.Cancel At_waiting = closes R (session_id s) (fault_indicated s condition words.Faulted)
+gives_up R s condition handlers.Cancel At_waiting = closes R s (fault_indicated s condition words.Faulted)
 gives_up R s condition handlers.Cancel At_held = replaces_one R (over_here R s condition) (said_word s words.Faulted)
 gives_up R s condition handlers.Cancel at = replaces_one R (record s { cause = Some condition })
     (said_word s words.Faulted)
-gives_up R s condition handlers.Abandon At_waiting = closes R (session_id s) (abandonment_indicated s condition)
-gives_up R s condition handlers.Abandon At_held = closes R (session_id s) (abandonment_indicated s condition)
+gives_up R s condition handlers.Abandon At_waiting = closes R s (abandonment_indicated s condition)
+gives_up R s condition handlers.Abandon At_held = closes R s (abandonment_indicated s condition)
 gives_up R s condition handlers.Abandon at = replaces_one R (record s { is_abandoned = true })
     (abandonment_indicated s condition)
 
@@ -433,8 +455,30 @@ abbrev pub outcome_for : SessionFields → Option Entry → Outcome
 outcome_for s (Some e) = record (outcome_of e) { finished = caused s.cause (outcome_of e).finished }
 outcome_for s None = stage_outcome s s.stage
 
+-- an item was performed, or tried: the file is installed, or a request was tried. They are tried in order, so where
+-- the first was not, none was
+abbrev pub is_tried : Status → Bool
+is_tried (NotPerformed action) = false
+is_tried status = true
+
+abbrev pub is_any_tried : List ResponseFields → Bool
+is_any_tried [] = false
+is_any_tried (r ∷ rs) = is_tried r.status
+
+abbrev pub has_changed : FinishedFields → Bool
+has_changed f = (f.file_status == file_retained) || is_any_tried f.responses
+
+-- by its outcome
+abbrev pub settled : SessionFields → Outcome → SessionFields
+settled s o = record s { has_changed = has_changed o.finished }
+
 abbrev pub waits_for_ack : State → SessionFields → Outcome → SessionFields
-waits_for_ack R s o = record s { stage = Waiting; finished = finished_octets o; timer = restarted R.now }
+waits_for_ack R s o = record s {
+  stage = Waiting;
+  has_changed = has_changed o.finished;
+  finished = finished_octets o;
+  timer = restarted R.now;
+}
 
 abbrev pub conclusion_of : Outcome → Conclusion
 conclusion_of o = record {
@@ -454,9 +498,9 @@ sends_it s o word = record (concluded s o word) { finished = finished_octets o �
 
 abbrev pub finish_session : State → SessionFields → Outcome → Parts
 finish_session R s o =
-    if s.is_abandoned then closes R (session_id s) (said_word s words.Closed)
-    else if not o.send then closes R (session_id s) (concluded s o words.Closed)
-    else if not s.header.acknowledged then closes R (session_id s) (sends_it s o words.Closed)
+    if s.is_abandoned then closes R (settled s o) (said_word s words.Closed)
+    else if not o.send then closes R (settled s o) (concluded s o words.Closed)
+    else if not s.header.acknowledged then closes R (settled s o) (sends_it s o words.Closed)
     else replaces_one R (waits_for_ack R s o) (sends_it s o words.Finished)
 
 abbrev pub finish_parts : State → Option SessionFields → Parts
@@ -465,11 +509,14 @@ finish_parts R (Some s) = finish_session R s (outcome_for s (entry_of R.world (s
 
 -- ---- the user's request to cancel
 
+-- not in the middle of a list. A session that waits for its acknowledgement is closed
 abbrev pub cancel_stage : State → List Reply → SessionFields → Stage → Parts
 cancel_stage R replies s (Held eof) =
     replaces_one R (over_here R s cancel_request_received) (said_word s words.Cancelled)
-cancel_stage R replies s Known = keeps R (quiet (became_reply (session_id s) replies))
-cancel_stage R replies s stage = keeps R (said_word s words.Idle)
+cancel_stage R replies s Known = if is_list_begun R (session_id s) then keeps R (said_word s words.ListBegun)
+    else keeps R (quiet (became_reply (session_id s) replies))
+cancel_stage R replies s Waiting = closes R s (said_word s words.Closed)
+cancel_stage R replies s (Over ending) = keeps R (said_word s words.Idle)
 
 abbrev pub cancel_parts : State → List Reply → TransactionId → Option SessionFields → Parts
 cancel_parts R replies id None = keeps R (quiet (Said id words.Unknown))
@@ -495,22 +542,41 @@ parts_of R V replies (Work now) = keeps R (quiet (work_became (next_runnable R.w
 parts_of R V replies (Finish now) = finish_parts R (first_over R.world R.sessions)
 parts_of R V replies (CancelAsked now id) = cancel_parts R replies id (session_of R id)
 parts_of R V replies ForgetAsked = forgets R (quiet Nothing)
+parts_of R V replies (ClockMoved now) = keeps R (quiet Nothing)
+parts_of R V replies NotTaken = keeps R (quiet TooFarAhead)
 
 abbrev pub parts : State → Input → Parts
 parts R i = parts_of (later (now_of i) R) (run R.world (handed R i)) (replies R.world (handed R i)) i
+
+-- a moment of the driver's clock that is earlier counts as the latest, but where the clock was moved
+abbrev pub seen_after : State → Input → ℕ
+seen_after R (ClockMoved now) = now
+seen_after R i = max R.seen (now_of i)
 
 -- the world is what the core makes of what was handed on, and of nothing else
 abbrev pub after_input : State → Input → State
 after_input R i = record {
   world = run R.world (handed R i);
   mib = R.mib;
-  now = max R.now (now_of i);
+  now = max R.now (own_time R (now_of i));
+  seen = seen_after R i;
   sessions = (parts R i).sessions;
   closed = (parts R i).closed;
 }
 
+-- more ticks after the latest moment than the management information base allows
+abbrev pub is_ahead : ℕ → Option ℕ → ℕ → Bool
+is_ahead seen None now = false
+is_ahead seen (Some most) now = nat_lt (seen + most) now
+
+abbrev pub is_too_far : State → ℕ → Bool
+is_too_far R now = is_ahead R.seen R.mib.most_ahead now
+
+abbrev pub timely : State → Input → Input
+timely R i = if is_too_far R (now_of i) then NotTaken else i
+
 abbrev pub turn : State → Input → State × AnswerFields
-turn R i = (after_input R i, (parts R i).answer)
+turn R i = (after_input R (timely R i), (parts R (timely R i)).answer)
 
 abbrev pub after_all : State → List Input → State
 after_all R [] = R

@@ -7,7 +7,7 @@ ghost use Rattle.cfdp_directives.specs.Spelling.{IsSizedAck};
 ghost use Rattle.cfdp_receiver.specs.StateMachine.{listed};
 ghost use Rattle.cfdp_receiver.specs.code.StateMachine.{all_naks, silent};
 ghost use Rattle.cfdp_receiver.specs.State.{turned_header};
-ghost use Rattle.cfdp_receiver.specs.declared.indication.Became.TheVariants.{Nothing, Said, Replied};
+ghost use Rattle.cfdp_receiver.specs.declared.indication.Became.TheVariants.{Nothing, TooFarAhead, Said, Replied};
 
 use crate::{Became, Indication, Word};
 use arrayvec::ArrayVec;
@@ -151,6 +151,13 @@ impl Answer {
         ensures { result ≡ silent Nothing }
     {
         Answer::quiet(Became::Nothing)
+    }
+
+    /// The moment is too far ahead, and the input was not taken.
+    pub(crate) fn not_taken() -> Answer
+        ensures { result ≡ silent TooFarAhead }
+    {
+        Answer::quiet(Became::TooFarAhead)
     }
 
     /// A word of the receiver's own.

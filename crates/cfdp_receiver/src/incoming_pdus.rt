@@ -1,8 +1,9 @@
 //! PDUs that come: Metadata, File Data, EOF, ACK and Prompt.
 
-ghost use Rattle.std.specs.Prelude.{◌≡◌, ◌<◌, ◌^◌, ◌∷◌, [], if◌then◌else◌, Bool, true, length, slice_get, None, Some, IfNone, IfOk, IfSome, OnErr};
+ghost use Rattle.std.specs.Prelude.{◌≡◌, ◌<◌, ◌^◌, ◌∷◌, [], if◌then◌else◌, Bool, true, false, not, ◌&&◌, ◌==◌, length, slice_get, None, Some, IfNone, IfOk, IfSome, OnErr};
 ghost use Rattle.cfdp_pdus.specs.Bits.{fss};
 ghost use Rattle.cfdp_pdus.specs.Canonical.{IsHeader, IsSizedEof};
+ghost use Rattle.cfdp_pdus.specs.Codes.{no_error};
 ghost use Rattle.cfdp_directives.specs.Spelling.{IsSizedAck};
 ghost use Rattle.cfdp_sessions.specs.Sessions.{SessionFields, session_id};
 ghost use Rattle.cfdp_sessions.specs.declared.session.Stage.TheVariants.{Held as HeldStage, Known as KnownStage};
@@ -13,10 +14,10 @@ ghost use Rattle.cfdp_transactions.specs.World.{World, entry_of};
 ghost use Rattle.cfdp_transactions.specs.Writable.{IsReadable};
 ghost use Rattle.cfdp_receiver.specs.State.{MetadataPdu, DataPdu, EofPdu, AckPdu, PromptPdu, OtherPdu, at_of, past_status, is_closed, session_of, status_of};
 ghost use Rattle.cfdp_receiver.specs.declared.indication.Indication.TheVariants.{FileSegmentRecv};
-ghost use Rattle.cfdp_receiver.specs.Handing.{is_ours};
+ghost use Rattle.cfdp_receiver.specs.Handing.{is_list_begun, is_ours};
 ghost use Rattle.cfdp_receiver.specs.Due.{is_receiving_at};
 ghost use Rattle.cfdp_receiver.specs.StateMachine.{StateMachineFields, answer_in, listed};
-ghost use Rattle.cfdp_receiver.specs.code.StateMachine.{AtIndex, IsInOrder, begins_no_gap, IsSessionAt, Turns, at_moment, machine_heard, in_world, all_naks, with_session};
+ghost use Rattle.cfdp_receiver.specs.code.StateMachine.{AtIndex, HavePlaces, IsInOrder, begins_no_gap, IsSessionAt, Turns, at_moment, machine_heard, in_world, all_naks, with_session};
 ghost use Rattle.cfdp_receiver.specs.Laws.{AreKnown};
 ghost use Rattle.cfdp_receiver.specs.Turning.{acked, acks_only, asks_at_once, described, foreign, is_immediate, is_kept_by, progress_at, prompted, quiet, roused, stage_in, takes_prompts};
 
@@ -193,20 +194,21 @@ impl StateMachine {
             self.later(now);
             return Ok(Answer::said(id, Word::Duplicate));
         }
-        if self.sessions.is_full() {
+        if let Some(word) = self.no_room(id) {
             self.later(now);
-            return Ok(Answer::said(id, Word::TableFull));
+            return Ok(Answer::said(id, word));
         }
         let indicated = described(id, &metadata);
         let is_sent = header.acknowledged || metadata.closure;
         let reply = self.hand_metadata(now, header, metadata)?;
         let stage = self.stage_in(id, is_sent, header.destination);
         let session = self.begun(alloc, header, stage);
-        self.sessions.add(session);
+        self.begin(session);
         Ok(Answer::replied(id, reply).with_indication(Some(indicated)))
     }
 
-    /// Metadata of a transaction whose EOF PDU is held.
+    /// Metadata of a transaction whose EOF PDU is held. It asks for nothing: the NAK PDUs that asked for the Metadata
+    /// PDU asked for the whole file, too.
     fn joins(
         &mut self,
         alloc: Global,
@@ -232,14 +234,9 @@ impl StateMachine {
         self.entity.eof(&first, eof);
         let stage = self.stage_in(id, true, header.destination);
         let session = self.begun(alloc, header, stage);
-        let naks = self.asks_where_awaiting(&session);
         self.sessions.look_first(index);
         self.sessions.put(session);
-        Ok(
-            Answer::replied(id, reply)
-                .with_naks(naks)
-                .with_indication(Some(indicated)),
-        )
+        Ok(Answer::replied(id, reply).with_indication(Some(indicated)))
     }
 
     /// Metadata of a transaction that the core knows.
@@ -443,7 +440,7 @@ impl StateMachine {
         };
         let active = TransactionStatus::Active;
         match self.session(index).stage {
-            Stage::Known => self.takes_eof(index, header, eof),
+            Stage::Known => self.eof_of_known(index, header, eof),
             Stage::Held(_) if eof.condition == NO_ERROR => {
                 acks_only(header, eof, active, Word::Duplicate)
             }
@@ -460,13 +457,29 @@ impl StateMachine {
         }
     }
 
-    /// The EOF PDU of a transaction that the core knows.
+    /// The EOF PDU of a transaction that the core knows. A cancel in the middle of a list is acknowledged, and no more.
+    fn eof_of_known(&mut self, index: usize, header: &Header, eof: Eof) -> Answer
+        requires ours { is_ours self.old.state header.now ≡ true }
+        requires here { IsSessionAt self.old.state (id_of header.now) index }
+        requires known { AtIndex self.old.state.sessions index (λ s. s.stage ≡ KnownStage) }
+        requires header { IsHeader header.now }
+        requires sized { IsSizedEof header.now.large eof }
+        ensures { Turns self.old self.new result (EofPdu self.old.state.now header.now eof) }
+    {
+        if eof.condition != NO_ERROR && self.is_list_begun(transaction_of(header)) {
+            return acks_only(header, eof, TransactionStatus::Active, Word::ListBegun);
+        }
+        self.takes_eof(index, header, eof)
+    }
+
+    /// The EOF PDU of a transaction that the core knows, which is handed to the core.
     fn takes_eof(&mut self, index: usize, header: &Header, eof: Eof) -> Answer
         requires ours { is_ours self.old.state header.now ≡ true }
         requires here { IsSessionAt self.old.state (id_of header.now) index }
         requires known { AtIndex self.old.state.sessions index (λ s. s.stage ≡ KnownStage) }
         requires header { IsHeader header.now }
         requires sized { IsSizedEof header.now.large eof }
+        requires taken { (not (eof.condition == no_error) && is_list_begun self.old.state (id_of header.now)) ≡ false }
         ensures { Turns self.old self.new result (EofPdu self.old.state.now header.now eof) }
     {
         let id = transaction_of(header);
@@ -499,12 +512,12 @@ impl StateMachine {
         if self.closed.remembers(id) || eof.condition != NO_ERROR || !header.acknowledged {
             return acks_only(header, eof, self.past_status(id), self.absent(id));
         }
-        if self.sessions.is_full() {
-            return Answer::said(id, Word::TableFull);
+        if let Some(word) = self.no_room(id) {
+            return Answer::said(id, word);
         }
         let session = self.begun(alloc, *header, Stage::Held(eof));
         let naks = self.asks(&session);
-        self.sessions.add(session);
+        self.begin(session);
         Answer::said(id, Word::Held)
             .with_ack(acked(header, eof.condition, TransactionStatus::Active))
             .with_naks(naks)
@@ -513,6 +526,7 @@ impl StateMachine {
 
     /// An ACK PDU came (CCSDS 727.0-B-5 §5.2.4).
     pub(crate) fn ack(&mut self, header: &Header, ack: Ack) -> Answer
+        requires { HavePlaces self.old.state }
         ensures { Turns self.old self.new result (AckPdu self.old.state.now header.now ack) }
     {
         if !self.is_ours(header) {
@@ -522,9 +536,11 @@ impl StateMachine {
         let Some(index) = self.find(id) else {
             return Answer::said(id, Word::Idle);
         };
-        match self.session(index).stage {
+        let session = self.session(index);
+        match session.stage {
             Stage::Waiting if ack.directive == directive::FINISHED => {
-                self.close(index, id);
+                let has_changed = session.has_changed;
+                self.close(index, has_changed);
                 Answer::said(id, Word::Acknowledged)
             }
             Stage::Held(_) | Stage::Known | Stage::Over(_) | Stage::Waiting => {

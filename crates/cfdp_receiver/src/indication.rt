@@ -50,6 +50,8 @@ pub enum Word {
     NotForUs,
     /// There are 64 sessions, and none of this name.
     TableFull,
+    /// 16 sources have a place, and this one has none.
+    SourcesFull,
     /// The PDU came before.
     Duplicate,
     /// There is nothing to do for it.
@@ -66,6 +68,8 @@ pub enum Word {
     Answered,
     /// The transaction was cancelled.
     Cancelled,
+    /// The transaction is not cancelled: items of its list were performed, so the list goes on to its end.
+    ListBegun,
     /// A timer expired, below its limit.
     Expired,
     /// A Keep Alive PDU was due.
@@ -82,10 +86,13 @@ pub enum Word {
 #[derive(Drop)]
 pub enum Became {
     /// There was nothing to do: no timer is due, no item is to be performed, no outcome is there. Also of names that
-    /// are forgotten.
+    /// are forgotten, and of a clock that was set.
     Nothing,
     /// The PDU is not for the receiver of a file.
     NotOurs,
+    /// The moment is further ahead of the latest one than the management information base allows: the input was not
+    /// taken, and nothing changed.
+    TooFarAhead,
     /// A word of the receiver's own.
     Said(TransactionId, Word),
     /// The core's reply.

@@ -1,6 +1,7 @@
 //! What is true of the receiver, whatever comes. These functions do nothing: their contracts are the laws.
 
-ghost use Rattle.cfdp_receiver.specs.Laws.{HandsOn, HeadlineHolds, FewEvents, FewPdus, AcknowledgedOnce, OthersStay, UnrecognizedIsTrue, TerminatedIsTrue, ClosedIsOver, FinishedOnly, NoneAgain, NotBegunAnew, RememberedStays, AtMostOnce, NaksAsk, ExactlyMissing, EndsStayThere, NaksAskOnceIn, NaksAskOnce, FewNakPdus, FewRequests, ServedOnce, KnownIsEntry, AnsweredIsDelivered, SessionsAreDistinct, SentAtMost, NoneAfterAck, EntriesStay, OthersKeepEntries, WorkKeepsOthers};
+ghost use Rattle.cfdp_receiver.specs.Laws.{HandsOn, HeadlineHolds, FewEvents, FewPdus, AcknowledgedOnce, OthersStay, UnrecognizedIsTrue, TerminatedIsTrue, ClosedIsOver, FinishedOnly, NoneAgain, NotBegunAnew, RememberedStays, AtMostOnce, AllOrNone, NaksAsk, ExactlyMissing, EndsStayThere, NaksAskOnceIn, NaksAskOnce, FewNakPdus, FewRequests, ServedOnce, KnownIsEntry, AnsweredIsDelivered, SessionsAreDistinct, SentAtMost, NoneAfterAck, EntriesStay, OthersKeepEntries, WorkKeepsOthers, SourcesAreApart};
+ghost use Rattle.cfdp_receiver.specs.Moments.{TicksAreCounted, LeftStays, NotTakenStays, TakenElse, MovedAlways};
 
 /// The world of a receiver is the core's own run of the events that its inputs handed on.
 pub fn hands_on()
@@ -27,7 +28,7 @@ pub fn few_pdus()
 
 /// An EOF PDU in acknowledged mode is acknowledged once, with its condition code and the status of its transaction
 /// after it. The only one that is not is one without a fault, of a transaction that has no session and is not closed
-/// and remembered, while there are 64 sessions.
+/// and remembered, while there are 64 sessions, or 16 sources and none of them is its own.
 pub fn acknowledged_once()
     ensures { AcknowledgedOnce }
 {}
@@ -35,6 +36,12 @@ pub fn acknowledged_once()
 /// The sessions of all transactions but the one that an input is about stay as they are.
 pub fn others_stay()
     ensures { OthersStay }
+{}
+
+/// An input leaves what is remembered of all sources but that of the transaction that it is about: no transaction of
+/// one source ever pushes out a name of another, and only the request to forget all names drops one of those.
+pub fn sources_are_apart()
+    ensures { SourcesAreApart }
 {}
 
 /// An ACK PDU says 'unrecognized' of no transaction that ever had a session here.
@@ -63,6 +70,17 @@ pub fn remembered_stays()
 /// remembered, its Metadata PDU leaves the core as it is, so its requests are not performed a second time.
 pub fn at_most_once()
     ensures { AtMostOnce }
+{
+    cfdp_transactions::laws::only_take_removes();
+    cfdp_transactions::laws::take_removes();
+    cfdp_transactions::laws::next_is_sound();
+    cfdp_transactions::laws::next_is_promised();
+}
+
+/// Over an entity that begins without transactions: of each transaction that is over every item of its list was
+/// performed, the install included, or none was. No cancel, timer or limit leaves half of a list.
+pub fn all_or_none()
+    ensures { AllOrNone }
 {
     cfdp_transactions::laws::only_take_removes();
     cfdp_transactions::laws::take_removes();
@@ -193,4 +211,30 @@ pub fn known_is_entry()
 /// it is complete, or its checksum is wrong.
 pub fn answered_is_delivered()
     ensures { AnsweredIsDelivered }
+{}
+
+/// A timer is due as if the receiver's own time went on by all ticks that passed: that it goes on at once by no more
+/// than the longest interval changes nothing.
+pub fn ticks_are_counted()
+    ensures { TicksAreCounted }
+{}
+
+/// Moving the driver's clock, back or ahead, leaves each timer as much time as it had.
+pub fn left_stays()
+    ensures { LeftStays }
+{}
+
+/// The driver's clock can be moved to every moment.
+pub fn moved_always()
+    ensures { MovedAlways }
+{}
+
+/// An input whose moment is too far ahead changes nothing, not even the latest moment.
+pub fn not_taken_stays()
+    ensures { NotTakenStays }
+{}
+
+/// Every other input is taken, and without a limit each is.
+pub fn taken_else()
+    ensures { TakenElse }
 {}

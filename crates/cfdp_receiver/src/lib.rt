@@ -27,4 +27,4 @@ pub use indication::{Became, Conclusion, Described, Indication, Word};
 pub use joint_phase::JointPhase;
 pub use mib::{Handler, Mib, MibFault, NakMode, Retries, Watch};
 pub use reading::Dropped;
-pub use receiver::{NotMade, NotWritten, Receiver};
+pub use receiver::{NotMade, NotWritten, Receiver, Unmade};

@@ -67,12 +67,15 @@ pub struct Mib {
     pub has_crc: bool,
     /// How many octets a NAK PDU has at most, 72 to 65,535, its CRC included.
     pub longest_nak: u16,
+    /// How far ahead of the latest moment another one may be, 1 to 2^32 - 1 ticks. An input with a moment further ahead
+    /// is answered with `Became::TooFarAhead`, and changes nothing. `None`: there is no limit.
+    pub most_ahead: Option<u32>,
 }
 
 /// Which value of the management information base is out of range.
 #[derive(Clone, Copy, Debug, PartialEq, Eq)]
 pub enum MibFault {
-    /// An interval is 0.
+    /// An interval is 0, or how far ahead a moment may be.
     Interval,
     /// A limit is not 1 to 1,000.
     Limit,
@@ -91,6 +94,7 @@ impl Mib {
             || self.nak.interval == 0
             || watched
             || self.keep_alive == Some(0)
+            || self.most_ahead == Some(0)
         {
             return Some(MibFault::Interval);
         }

@@ -1,6 +1,6 @@
 //! The receiving entity.
 
-ghost use Rattle.std.specs.Prelude.{◌≡◌, ◌≤◌, ◌<◌, ◌^◌, ℕ, [], max, is_some, drop, length, slice_get, take, true, List, IfErr, IfNone, IfOk, IfSome, IsOk, None, OnErr, OnOk, Ok, Some};
+ghost use Rattle.std.specs.Prelude.{◌≡◌, ◌≤◌, ◌<◌, ◌^◌, ℕ, [], max, is_some, drop, length, slice_get, take, false, true, List, IfErr, IfNone, IfOk, IfSome, IsOk, None, OnErr, OnOk, Ok, Some};
 ghost use Rattle.std.specs.Option.{option_copied};
 ghost use Rattle.cfdp_transactions.specs.World.{next_runnable};
 ghost use Rattle.cfdp_pdus.specs.Canonical.{IsHeader, IsSizedEof};
@@ -15,18 +15,19 @@ ghost use Rattle.cfdp_transactions.specs.Entry.{id_of};
 ghost use Rattle.cfdp_transactions.specs.Writable.{IsReadable};
 ghost use Rattle.cfdp_receiver.specs.declared.reading.Dropped.TheVariants.{Pdu as PduDropped};
 ghost use Rattle.cfdp_receiver.specs.declared.receiver.NotWritten.TheVariants.{NoMore};
-ghost use Rattle.cfdp_receiver.specs.State.{AckPdu, CancelAsked, DataPdu, EofPdu, MetadataPdu, OtherPdu, PromptPdu, Expire, Finish, ForgetAsked, Input, Work, begin, is_closed, session_of, status_of};
+ghost use Rattle.cfdp_receiver.specs.State.{AckPdu, CancelAsked, DataPdu, EofPdu, MetadataPdu, OtherPdu, PromptPdu, Expire, Finish, ForgetAsked, ClockMoved, Input, Work, begin, is_closed, session_of, status_of};
 ghost use Rattle.cfdp_receiver.specs.Due.{IsSet, first_due, first_over};
+ghost use Rattle.cfdp_receiver.specs.Handing.{own_time};
 ghost use Rattle.cfdp_receiver.specs.Laws.{AreKnown, EndsThere};
 ghost use Rattle.cfdp_receiver.specs.Heard.{IsDropped, IsUnread, heard, input_at};
 ghost use Rattle.cfdp_receiver.specs.StateMachine.{IsNotMade, answer_in, mib_fault, has_come, is_any_due};
 ghost use Rattle.cfdp_receiver.specs.code.StateMachine.{AtIndex, IsInOrder, IsWholeReceiver};
 ghost use Rattle.cfdp_receiver.specs.Sent.{IsNotWritten, as_sent, crc_len, longest_sealed, pdus_of};
-ghost use Rattle.cfdp_receiver.specs.Turning.{after_input, most_nak_requests, turn};
+ghost use Rattle.cfdp_receiver.specs.Turning.{after_input, is_too_far, most_nak_requests, turn};
 
 use crate::answer::{Answer, Unsent};
 use crate::reading::{Directed, Dropped, read_data, read_directed};
-use crate::state_machine::StateMachine;
+use crate::state_machine::{Room, StateMachine};
 use crate::{Mib, MibFault};
 use cfdp_crc::{seal, unseal};
 use cfdp_directives::{Ack, Prompt, TransactionStatus};
@@ -38,7 +39,7 @@ use cfdp_transactions::transaction_of;
 use std::alloc::{AllocError, Global};
 use std::marker::Model;
 
-/// Why a receiver was not made, in the order of tests. The entity is dropped.
+/// Why a receiver was not made, in the order of tests.
 #[derive(Clone, Copy, Debug, PartialEq, Eq)]
 pub enum NotMade {
     /// A value of the management information base is out of range.
@@ -47,6 +48,15 @@ pub enum NotMade {
     HasTransactions,
     /// Out of memory.
     Memory,
+}
+
+/// A receiver was not made. The entity is given back as it was.
+#[derive(Drop)]
+pub struct Unmade {
+    /// Why not.
+    pub why: NotMade,
+    /// The entity.
+    pub entity: Entity,
 }
 
 /// Why a PDU of an answer was not written.
@@ -65,6 +75,11 @@ pub enum NotWritten {
 /// A driver hands in what comes, by [`Receiver::receive`], or that time has passed, by [`Receiver::expire`]; then calls
 /// [`Receiver::work`] while [`Receiver::has_work`], and [`Receiver::finish`] while [`Receiver::has_outcome`]. It writes
 /// the PDUs of each answer before the next input, and sleeps until [`Receiver::deadline`].
+///
+/// A moment is what the driver's clock says, in ticks. An earlier one than the latest counts as the latest, and where
+/// [`Mib::most_ahead`] sets a limit, an input with a moment further ahead is not taken. Where the driver's clock was
+/// set, [`Receiver::move_clock`] says so. The receiver's timers run by its own time: the ticks that passed between the
+/// moments.
 ///
 /// Contracts see its state, of which each call makes one turn; no two of its sessions have one name, a session is known
 /// exactly where the core has an entry, and no transaction that is closed and remembered has a session
@@ -100,23 +115,32 @@ impl Receiver {
     ///
     /// # Errors
     ///
-    /// The first of: [`NotMade::Mib`], [`NotMade::HasTransactions`], and [`NotMade::Memory`] when out of memory. Cost:
-    /// the memory of 64 sessions and of 256 names, which is all that it takes but for Metadata PDUs and outcomes.
-    pub fn new(alloc: Global, mib: Mib, entity: Entity) -> Result<Receiver, NotMade>
+    /// The first of: [`NotMade::Mib`], [`NotMade::HasTransactions`], and [`NotMade::Memory`] when out of memory. The
+    /// entity is given back as it was. Cost: the memory of 64 sessions and of the names of 16 sources, 256 of each,
+    /// which is all that it takes but for Metadata PDUs and outcomes.
+    pub fn new(alloc: Global, mib: Mib, entity: Entity) -> Result<Receiver, Unmade>
         ensures ok { IfOk result (λ receiver. receiver.state ≡ begin mib entity) }
         ensures fit { OnOk result (mib_fault mib ≡ None) }
         ensures free { OnOk result (entity.table ≡ []) }
-        ensures err { IfErr result (IsNotMade mib entity) }
+        ensures err { IfErr result (λ unmade. IsNotMade mib entity unmade.why) }
+        ensures back { IfErr result (λ unmade. unmade.entity ≡ entity) }
     {
         if let Some(fault) = mib.fault() {
-            return Err(NotMade::Mib(fault));
+            let why = NotMade::Mib(fault);
+            return Err(Unmade { why, entity });
         }
         if entity.core().transaction_at(0).is_some() {
-            return Err(NotMade::HasTransactions);
+            let why = NotMade::HasTransactions;
+            return Err(Unmade { why, entity });
         }
-        match StateMachine::new(alloc, mib, entity) {
-            Ok(machine) => Ok(Receiver { machine }),
-            Err(_) => Err(NotMade::Memory),
+        match Room::new(alloc) {
+            Ok(room) => Ok(Receiver {
+                machine: StateMachine::new(alloc, mib, entity, room),
+            }),
+            Err(_) => {
+                let why = NotMade::Memory;
+                Err(Unmade { why, entity })
+            }
         }
     }
 
@@ -155,9 +179,9 @@ impl Receiver {
     /// Why they were dropped; or out of memory, for a Metadata PDU alone. The receiver is as before.
     ///
     /// Cost: that of its event, and at most one pass over the 64 sessions; for a transaction without a session also one
-    /// over the 256 names closed last, for a PDU with a CRC one over its octets, and for a NAK sequence its gaps. A
-    /// File Data PDU after one of the same transaction takes at most 1.3 times the instructions of [`Entity::receive`]:
-    /// so they were counted for 1,000 octets in order without a CRC.
+    /// over 16 sources and the 256 names of its own one, for a PDU with a CRC one over its octets, and for a NAK
+    /// sequence its gaps. A File Data PDU after one of the same transaction takes at most 1.3 times the instructions of
+    /// [`Entity::receive`]: so they were counted for 1,000 octets in order without a CRC.
     pub fn receive(&mut self, alloc: Global, now: u64, octets: &mut [u8]) -> Result<Answer, Dropped>
         ensures ok { IfOk result (λ answer. (input : Input) × (heard now octets.old ≡ Ok input)
             × (turn self.old.state input ≡ (self.new.state, answer_in self.new answer))) }
@@ -169,6 +193,9 @@ impl Receiver {
         let Some((header, piece)) = read_data(octets) else {
             return self.hear_directed(alloc, now, octets);
         };
+        if self.machine.is_too_far(now) {
+            return Ok(Answer::not_taken());
+        }
         let found = self.machine.find(transaction_of(&header));
         if let Some(index) = found
             && self.machine.is_in_order(index, &header, &piece)
@@ -186,7 +213,11 @@ impl Receiver {
         ensures err { IfErr result (IsUnread now octets.now) }
         ensures unchanged { OnErr result (self.new ≡ self.old) }
     {
-        match read_directed(alloc, octets)? {
+        let directed = read_directed(alloc, octets)?;
+        if self.machine.is_too_far(now) {
+            return Ok(Answer::not_taken());
+        }
+        match directed {
             Directed::Metadata(header, metadata) => {
                 self.hear_metadata(alloc, now, header, metadata)
             }
@@ -205,7 +236,8 @@ impl Receiver {
         header: Header,
         metadata: Metadata,
     ) -> Result<Answer, Dropped>
-        requires { IsReadable (MetadataCame header metadata) }
+        requires timely { is_too_far self.old.state now ≡ false }
+        requires readable { IsReadable (MetadataCame header metadata) }
         ensures ok { IfOk result (λ answer. turn self.old.state (MetadataPdu now header metadata)
             ≡ (self.new.state, answer_in self.new answer)) }
         ensures err { IfErr result (λ why. why ≡ PduDropped NoMemory) }
@@ -227,6 +259,7 @@ impl Receiver {
         header: &Header,
         piece: &Piece<'_>,
     ) -> Result<Answer, Dropped>
+        requires timely { is_too_far self.old.state now ≡ false }
         requires some { IfSome found (λ index. session_of self.old.state (id_of header.now)
             ≡ slice_get self.old.state.sessions index) }
         requires within { IfSome found (λ index. index < length self.old.state.sessions) }
@@ -251,6 +284,7 @@ impl Receiver {
         header: &Header,
         piece: &Piece<'_>,
     ) -> Unsent
+        requires timely { is_too_far self.old.state now ≡ false }
         requires order { IsInOrder self.old.state header.now piece.now index }
         requires header { IsHeader header.now }
         ensures { turn self.old.state (DataPdu now header.now piece.now) ≡ (self.new.state, answer_in self.new result) }
@@ -262,6 +296,7 @@ impl Receiver {
 
     /// An EOF PDU came.
     fn hear_eof(&mut self, alloc: Global, now: u64, header: &Header, eof: Eof) -> Answer
+        requires timely { is_too_far self.old.state now ≡ false }
         requires header { IsHeader header.now }
         requires sized { IsSizedEof header.now.large eof }
         ensures { turn self.old.state (EofPdu now header.now eof) ≡ (self.new.state, answer_in self.new result) }
@@ -273,6 +308,7 @@ impl Receiver {
 
     /// An ACK PDU came.
     fn hear_ack(&mut self, now: u64, header: &Header, ack: Ack) -> Answer
+        requires timely { is_too_far self.old.state now ≡ false }
         ensures { turn self.old.state (AckPdu now header.now ack) ≡ (self.new.state, answer_in self.new result) }
     {
         self.stays_whole();
@@ -282,6 +318,7 @@ impl Receiver {
 
     /// A Prompt PDU came.
     fn hear_prompt(&mut self, now: u64, header: &Header, prompt: Prompt) -> Answer
+        requires timely { is_too_far self.old.state now ≡ false }
         ensures { turn self.old.state (PromptPdu now header.now prompt) ≡ (self.new.state, answer_in self.new result) }
     {
         self.stays_whole();
@@ -291,6 +328,7 @@ impl Receiver {
 
     /// A NAK, Keep Alive or Finished PDU came.
     fn hear_other(&mut self, now: u64, header: &Header) -> Answer
+        requires timely { is_too_far self.old.state now ≡ false }
         ensures { turn self.old.state (OtherPdu now header.now) ≡ (self.new.state, answer_in self.new result) }
     {
         self.stays_whole();
@@ -303,6 +341,9 @@ impl Receiver {
     pub fn expire(&mut self, now: u64) -> Answer
         ensures { turn self.old.state (Expire now) ≡ (self.new.state, answer_in self.new result) }
     {
+        if self.machine.is_too_far(now) {
+            return Answer::not_taken();
+        }
         self.stays_whole();
         self.machine.later(now);
         self.machine.expire()
@@ -314,6 +355,9 @@ impl Receiver {
     pub fn work(&mut self, now: u64) -> Answer
         ensures { turn self.old.state (Work now) ≡ (self.new.state, answer_in self.new result) }
     {
+        if self.machine.is_too_far(now) {
+            return Answer::not_taken();
+        }
         self.stays_whole();
         self.machine.later(now);
         self.machine.work()
@@ -335,6 +379,9 @@ impl Receiver {
         ensures lean { first_over self.old.state.world self.old.state.sessions ≡ None → IsOk result }
         ensures unchanged { OnErr result (self.new ≡ self.old) }
     {
+        if self.machine.is_too_far(now) {
+            return Ok(Answer::not_taken());
+        }
         self.stays_whole();
         self.machine.finish(alloc, now)
     }
@@ -344,14 +391,18 @@ impl Receiver {
     pub fn cancel(&mut self, now: u64, id: TransactionId) -> Answer
         ensures { turn self.old.state (CancelAsked now id) ≡ (self.new.state, answer_in self.new result) }
     {
+        if self.machine.is_too_far(now) {
+            return Answer::not_taken();
+        }
         self.stays_whole();
         self.machine.later(now);
         self.machine.cancel(id)
     }
 
-    /// The names of the transactions that were closed last are forgotten, for a sender whose transaction sequence
-    /// numbers begin anew. A Metadata PDU of one of them that comes once more begins it anew then. Takes no memory.
-    /// Cost: constant.
+    /// The names of all transactions that were closed are forgotten, for a sender whose transaction sequence numbers
+    /// begin anew, or for one more source where 16 have a place: only those with a session keep theirs. A Metadata PDU
+    /// of one of them that comes once more begins it anew then. Takes no memory. Cost: for each of 16 sources a pass
+    /// over the 64 sessions.
     pub fn forget_closed(&mut self) -> Answer
         ensures { turn self.old.state ForgetAsked ≡ (self.new.state, answer_in self.new result) }
     {
@@ -359,13 +410,36 @@ impl Receiver {
         self.machine.forget()
     }
 
+    /// The driver's clock was set, back or ahead: its moment is this one by now, and what is left of each timer stays.
+    /// Without this call an earlier moment counts as the latest, so that after one wrong reading, far ahead, no timer
+    /// would be due until the clock comes to it. A moment is never too far ahead for this call: where there is a limit,
+    /// a driver begins with it. Takes no memory. Cost: constant.
+    pub fn move_clock(&mut self, now: u64) -> Answer
+        ensures { turn self.old.state (ClockMoved now) ≡ (self.new.state, answer_in self.new result) }
+    {
+        self.stays_whole();
+        self.machine.move_clock(now)
+    }
+
+    /// Whether a moment is further ahead of the latest one than [`Mib::most_ahead`] allows: then an input is not taken.
+    /// In constant time.
+    pub fn is_too_far(&self, now: u64) -> bool
+        ensures { result ≡ is_too_far self.now.state now }
+    {
+        self.machine.is_too_far(now)
+    }
+
     /// The moment from which on a timer is due: `None` where none runs, or where it is due after the greatest moment.
     /// Takes no memory. Cost: one pass over the 64 sessions, with a look-up for each.
     pub fn deadline(&self) -> Option<u64>
         ensures { (now : ℕ) → now < 2 ^ 64 → has_come result now
-            ≡ is_any_due (first_due (record self.now.state { now = now }) self.now.state.sessions) }
+            ≡ is_any_due (first_due (record self.now.state { now = own_time self.now.state now })
+            self.now.state.sessions) }
     {
-        self.machine.deadline()
+        match self.machine.deadline() {
+            None => None,
+            Some(time) => self.machine.by_clock(time),
+        }
     }
 
     /// Whether a transaction has an item to be performed. Cost: a pass over the core's table.
@@ -382,15 +456,16 @@ impl Receiver {
         self.machine.first_over().is_some()
     }
 
-    /// What an ACK PDU says of a transaction (CCSDS 727.0-B-5 §5.2.4). Cost: a pass over the sessions, or over the
-    /// names closed last.
+    /// What an ACK PDU says of a transaction (CCSDS 727.0-B-5 §5.2.4). Cost: a pass over the sessions, and over the
+    /// names of its source that are remembered.
     pub fn status(&self, id: TransactionId) -> TransactionStatus
         ensures { result ≡ status_of self.now.state id }
     {
         self.machine.status(id)
     }
 
-    /// What is kept of a transaction beside the core, if it has a session. Cost: a pass over the sessions.
+    /// Returns the session of a transaction, if it has one: what is kept of it beside the core. Its moments are those of
+    /// the receiver's own time: the ticks that have passed for it. Cost: a pass over the sessions.
     pub fn session(&self, id: TransactionId) -> Option<&Session>
         ensures { option_copied result ≡ session_of self.now.state id }
     {

@@ -1,20 +1,21 @@
 //! The machine: what a receiving entity keeps, and what all its turns use.
 
-ghost use Rattle.std.specs.Prelude.{◌≡◌, ◌<◌, ◌≤◌, ◌^◌, [], All, Bool, None, Some, IfNone, IfOk, IfSome, length, slice_get};
+ghost use Rattle.std.specs.Prelude.{false, ◌≡◌, ◌<◌, ◌≤◌, ◌^◌, [], All, Bool, None, Some, IfNone, IfOk, IfSome, length, slice_get, ℕ, nat_le, ◌++◌, ◌∷◌, true};
 ghost use Rattle.std.specs.Option.{option_map};
 ghost use Rattle.cfdp_pdus.specs.Bits.{fss};
 ghost use Rattle.cfdp_pdus.specs.Canonical.{IsHeader};
 ghost use Rattle.cfdp_directives.specs.Spelling.{IsSizedRange};
-ghost use Rattle.cfdp_sessions.specs.Closed.{with_name};
-ghost use Rattle.cfdp_sessions.specs.Sessions.{AreDistinct, SessionFields, session_id, without_session};
+ghost use Rattle.cfdp_sessions.specs.Closed.{has_room_for, has_source, with_source};
+ghost use Rattle.cfdp_sessions.specs.Sessions.{AreDistinct, SessionFields, session_id};
 ghost use Rattle.cfdp_sessions.specs.code.Sessions.{IsSizedStage};
 ghost use Rattle.cfdp_transactions.specs.Sound.{Sound};
 ghost use Rattle.cfdp_transactions.specs.World.{World, entry_of};
-ghost use Rattle.cfdp_receiver.specs.State.{at_of, begin, session_of};
-ghost use Rattle.cfdp_receiver.specs.Handing.{is_ours, later};
-ghost use Rattle.cfdp_receiver.specs.StateMachine.{IsMib};
-ghost use Rattle.cfdp_receiver.specs.code.StateMachine.{AtIndex, IsSessionAt, IsTaking, awaited_of, machine_heard, all_naks};
-ghost use Rattle.cfdp_receiver.specs.Turning.{word_without_session, all_of, asks, asks_entry, asks_where_awaiting, begun_session, gaps_after, is_immediate, is_news, most_nak_requests, progress_at, sequence};
+ghost use Rattle.cfdp_receiver.specs.State.{at_of, begin, session_of, lacks_room};
+ghost use Rattle.cfdp_receiver.specs.Handing.{is_list_begun, is_ours, later, own_time};
+ghost use Rattle.cfdp_receiver.specs.StateMachine.{IsMib, has_come};
+ghost use Rattle.cfdp_receiver.specs.code.StateMachine.{AtIndex, IsSessionAt, IsTaking, awaited_of, machine_heard, all_naks, silent, machine_closed};
+ghost use Rattle.cfdp_receiver.specs.Turning.{word_without_session, all_of, asks, asks_entry, asks_where_awaiting, begun_session, gaps_after, is_immediate, is_news, most_nak_requests, progress_at, sequence, is_too_far, no_room_word};
+ghost use Rattle.cfdp_receiver.specs.declared.indication.Became.TheVariants.{Nothing};
 
 use crate::answer::{Answer, NakSequence};
 use crate::last_finished::LastFinished;
@@ -24,11 +25,14 @@ use cfdp_directives::NakRange;
 use cfdp_entity::Entity;
 use cfdp_pdus::Header;
 use cfdp_retransmission::Timer;
-use cfdp_sessions::{ClosedTransactions, Session, Sessions, Stage};
+use cfdp_sessions::{ClosedTransactions, Session, Sessions, Stage, most_closed};
 use cfdp_status::TransactionId;
-use cfdp_transactions::MOST_GAPS;
+use cfdp_transactions::{MOST_GAPS, Phase};
 use std::alloc::{AllocError, Global};
 use std::marker::Model;
+
+/// The longest that a timer runs, in ticks.
+const LONGEST_INTERVAL: u64 = 4_294_967_295;
 
 /// What is missing of a file.
 pub(crate) type Gaps = ArrayVec<NakRange, MOST_GAPS>;
@@ -38,8 +42,10 @@ pub(crate) type Gaps = ArrayVec<NakRange, MOST_GAPS>;
 pub(crate) struct StateMachine {
     pub(crate) entity: Entity,
     pub(crate) mib: Mib,
-    /// The latest moment that was handed in.
+    /// The receiver's own time: the ticks that have passed for it, by which its timers run.
     pub(crate) latest: u64,
+    /// The latest moment that was handed in, by the driver's clock.
+    pub(crate) seen: u64,
     pub(crate) sessions: Sessions,
     pub(crate) closed: ClosedTransactions,
     pub(crate) last_finished: LastFinished,
@@ -59,6 +65,7 @@ impl Model for StateMachine {
         world = m.entity;
         mib = m.mib;
         now = m.latest;
+        seen = m.seen;
         sessions = m.sessions;
         closed = m.closed;
       };
@@ -68,28 +75,91 @@ impl Model for StateMachine {
     ghost invariant = { λ m. IsMib m.mib };
 }
 
+/// The memory that a machine takes when it is made, which is all that it takes but for Metadata and outcomes.
+#[derive(Drop)]
+pub(crate) struct Room {
+    sessions: Sessions,
+    closed: ClosedTransactions,
+}
+
+impl Room {
+    /// Room without a session, and without a name.
+    pub(crate) fn new(alloc: Global) -> Result<Room, AllocError>
+        ensures sessions { IfOk result (λ room. room.sessions ≡ []) }
+        ensures sources { IfOk result (λ room. room.closed.sources ≡ []) }
+        ensures forgot { IfOk result (λ room. room.closed.forgot ≡ false) }
+    {
+        Ok(Room {
+            sessions: Sessions::new(alloc)?,
+            closed: ClosedTransactions::new(alloc)?,
+        })
+    }
+}
+
 impl StateMachine {
     /// A machine without sessions.
-    pub(crate) fn new(alloc: Global, mib: Mib, entity: Entity) -> Result<StateMachine, AllocError>
-        requires { IsMib mib }
-        ensures state { IfOk result (λ machine. machine.state ≡ begin mib entity) }
-        ensures last_finished { IfOk result (λ machine. machine.last_finished ≡ []) }
+    pub(crate) fn new(alloc: Global, mib: Mib, entity: Entity, room: Room) -> StateMachine
+        requires mib { IsMib mib }
+        requires sessions { room.sessions ≡ [] }
+        requires sources { room.closed.sources ≡ [] }
+        requires forgot { room.closed.forgot ≡ false }
+        ensures state { result.state ≡ begin mib entity }
+        ensures last_finished { result.last_finished ≡ [] }
     {
-        Ok(StateMachine {
+        StateMachine {
             entity,
             mib,
             latest: 0,
-            sessions: Sessions::new(alloc)?,
-            closed: ClosedTransactions::new(alloc)?,
+            seen: 0,
+            sessions: room.sessions,
+            closed: room.closed,
             last_finished: LastFinished::none(alloc),
-        })
+        }
     }
 
     /// A moment is handed in: an earlier one counts as the latest.
     pub(crate) fn later(&mut self, now: u64)
         ensures { self.new ≡ record self.old { state = later now self.old.state } }
     {
-        self.latest = self.latest.max(now);
+        let passed = now.saturating_sub(self.seen).min(LONGEST_INTERVAL);
+        self.latest = self.latest.saturating_add(passed);
+        self.seen = self.seen.max(now);
+    }
+
+    /// Whether a moment is further ahead of the latest one than may be.
+    pub(crate) fn is_too_far(&self, now: u64) -> bool
+        ensures { result ≡ is_too_far self.now.state now }
+    {
+        match self.mib.most_ahead {
+            None => false,
+            Some(most) => u64::from(most) < now.saturating_sub(self.seen),
+        }
+    }
+
+    /// The driver's clock was set: its moment is this one by now. The receiver's own time, by which its timers run,
+    /// stays.
+    pub(crate) fn move_clock(&mut self, now: u64) -> Answer
+        ensures state { self.new ≡ record self.old { state = record self.old.state { seen = now } } }
+        ensures answer { result ≡ silent Nothing }
+    {
+        self.seen = now;
+        Answer::nothing()
+    }
+
+    /// The moment of the driver's clock at which the receiver's own time is this. `None` where it is after the greatest
+    /// moment, or no call makes it that late at once.
+    pub(crate) fn by_clock(&self, time: u64) -> Option<u64>
+        ensures { (now : ℕ) → now < 2 ^ 64 → has_come result now ≡ nat_le time (own_time self.now.state now) }
+    {
+        if time == 0 {
+            return Some(0);
+        }
+        let left = time.saturating_sub(self.latest);
+        if LONGEST_INTERVAL < left {
+            return None;
+        }
+        let over = self.latest.saturating_sub(time);
+        self.seen.saturating_sub(over).checked_add(left)
     }
 
     /// The session with this index.
@@ -124,6 +194,16 @@ impl StateMachine {
         }
     }
 
+    /// Whether the list of a transaction has begun: its first item was performed, and another is still to be performed.
+    pub(crate) fn is_list_begun(&self, id: TransactionId) -> bool
+        ensures { result ≡ is_list_begun self.now.state id }
+    {
+        match self.entity.core().phase(id) {
+            Some(Phase::Executing(next)) => 0 < next,
+            _ => false,
+        }
+    }
+
     /// A session that begins now.
     pub(crate) fn begun(&self, alloc: Global, header: Header, stage: Stage) -> Session
         requires header { IsHeader header }
@@ -137,6 +217,7 @@ impl StateMachine {
             alive_at: self.latest,
             cause: None,
             is_abandoned: false,
+            has_changed: false,
             finished: Vec::new(alloc),
         }
     }
@@ -152,17 +233,53 @@ impl StateMachine {
         }
     }
 
-    /// A transaction is closed, and its name remembered. The index is that of its session, so that no pass over the
-    /// sessions finds it again; another index changes only the cost.
-    pub(crate) fn close(&mut self, index: usize, id: TransactionId)
+    /// The word for a PDU that would begin a transaction for which there is no room. `None` where there is room.
+    pub(crate) fn no_room(&self, id: TransactionId) -> Option<Word>
+        ensures some { IfSome result (λ word. word ≡ no_room_word self.now.state) }
+        ensures lacks { IfSome result (λ word. lacks_room self.now.state id ≡ true) }
+        ensures none { IfNone result (lacks_room self.now.state id ≡ false) }
+        ensures few { IfNone result (length self.now.state.sessions < 64) }
+        ensures place { IfNone result (has_room_for self.now.state.closed id.source ≡ true) }
+    {
+        if self.sessions.is_full() {
+            return Some(Word::TableFull);
+        }
+        if self.closed.has_room_for(id.source) {
+            return None;
+        }
+        Some(Word::SourcesFull)
+    }
+
+    /// A session of a new name begins, and its source has a place from now on.
+    pub(crate) fn begin(&mut self, session: Session)
+        requires few { length self.old.state.sessions < 64 }
+        requires new { session_of self.old.state (session_id session) ≡ None }
+        requires place { has_room_for self.old.state.closed session.header.source ≡ true }
         ensures { self.new ≡ record self.old {
-          state = record self.old.state
-              { sessions = without_session self.old.state.sessions id; closed = with_name self.old.state.closed id };
+          state = record self.old.state {
+            sessions = self.old.state.sessions ++ session ∷ [];
+            closed = with_source self.old.state.closed session.header.source;
+          };
         } }
     {
+        self.closed.add_source(session.header.source);
+        self.sessions.add(session);
+    }
+
+    /// The transaction of the session with this index is closed, and its name remembered.
+    pub(crate) fn close(&mut self, index: usize, has_changed: bool)
+        requires here { index < length self.old.state.sessions }
+        requires place { AtIndex self.old.state.sessions index (λ s. has_source self.old.state.closed s.header.source
+            ≡ true) }
+        ensures { AtIndex self.old.state.sessions index (λ s. self.new
+            ≡ machine_closed self.old (record s { has_changed = has_changed })) }
+    {
+        let session = self.session(index);
+        let id = session.name();
+        let most = most_closed(&session.header);
         self.sessions.look_first(index);
         self.sessions.close(id);
-        self.closed.add(id);
+        self.closed.add(id, most, has_changed);
     }
 
     /// The gaps of a transaction that waits for what is missing; `None` in every other phase.

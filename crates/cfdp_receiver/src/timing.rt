@@ -10,7 +10,7 @@ ghost use Rattle.cfdp_receiver.specs.State.{At_awaiting, Expire, at_of};
 ghost use Rattle.cfdp_receiver.specs.Due.{Alive_due, Stage_due, expiry_by, expiry_of, fault_at, first_due, handler_at, is_alive_due, terms_at};
 ghost use Rattle.cfdp_receiver.specs.Handing.{due_events, where_known};
 ghost use Rattle.cfdp_receiver.specs.StateMachine.{has_come, is_any_due};
-ghost use Rattle.cfdp_receiver.specs.code.StateMachine.{AtIndex, Turns, in_world, is_expired, is_within, timer_in};
+ghost use Rattle.cfdp_receiver.specs.code.StateMachine.{AtIndex, HavePlaces, Turns, in_world, is_expired, is_within, timer_in};
 ghost use Rattle.cfdp_receiver.specs.Turning.{over_here};
 
 use crate::answer::{Answer, turned};
@@ -185,6 +185,7 @@ impl StateMachine {
 
     /// The first timer that is due is served.
     pub(crate) fn expire(&mut self) -> Answer
+        requires { HavePlaces self.old.state }
         ensures { Turns self.old self.new result (Expire self.old.state.now) }
     {
         match self.first_due() {
@@ -268,6 +269,7 @@ impl StateMachine {
 
     /// A timer reached its limit.
     fn gives_up(&mut self, index: usize) -> Answer
+        requires places { HavePlaces self.old.state }
         requires here { index < length self.old.state.sessions }
         requires due { AtIndex self.old.state.sessions index (λ s. first_due self.old.state self.old.state.sessions
             ≡ Stage_due s true) }
@@ -302,6 +304,7 @@ impl StateMachine {
 
     /// A fault cancels the transaction. One whose Finished PDU is not acknowledged is closed.
     fn cancels(&mut self, index: usize, at: JointPhase, condition: u8) -> Answer
+        requires places { HavePlaces self.old.state }
         requires here { index < length self.old.state.sessions }
         requires due { AtIndex self.old.state.sessions index (λ s. first_due self.old.state self.old.state.sessions
             ≡ Stage_due s true) }
@@ -316,7 +319,8 @@ impl StateMachine {
         let id = session.name();
         match at {
             JointPhase::Waiting => {
-                self.close(index, id);
+                let has_changed = session.has_changed;
+                self.close(index, has_changed);
                 return Answer::said(id, Word::Faulted).with_indication(Some(Indication::Fault(
                     id, condition,
                 )));
@@ -336,6 +340,7 @@ impl StateMachine {
 
     /// A fault abandons the transaction: nothing more is sent.
     fn abandons(&mut self, index: usize, at: JointPhase, condition: u8) -> Answer
+        requires places { HavePlaces self.old.state }
         requires here { index < length self.old.state.sessions }
         requires due { AtIndex self.old.state.sessions index (λ s. first_due self.old.state self.old.state.sessions
             ≡ Stage_due s true) }
@@ -346,9 +351,13 @@ impl StateMachine {
             (λ s. handler_at self.old.state.mib s.header.acknowledged at ≡ Abandon) }
         ensures { Turns self.old self.new result (Expire self.old.state.now) }
     {
-        let id = self.session(index).name();
+        let session = self.session(index);
+        let id = session.name();
         match at {
-            JointPhase::Waiting | JointPhase::Held => self.close(index, id),
+            JointPhase::Waiting | JointPhase::Held => {
+                let has_changed = session.has_changed;
+                self.close(index, has_changed);
+            }
             _ => {
                 self.hand_cancel(index);
                 self.sessions.abandon(index);

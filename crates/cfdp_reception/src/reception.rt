@@ -2,10 +2,11 @@
 
 ghost use Rattle.std.specs.Prelude.{◌≡◌, ◌≤◌, ◌<◌, ◌^◌, ℕ, List, max, length, drop, take, slice_get, IfErr, IfOk, IsOk, OnErr, OnOk, None, Some};
 ghost use Rattle.cfdp_receiver.specs.Due.{first_due, first_over};
+ghost use Rattle.cfdp_receiver.specs.Handing.{own_time};
 ghost use Rattle.cfdp_receiver.specs.Heard.{IsDropped};
 ghost use Rattle.cfdp_receiver.specs.StateMachine.{has_come, is_any_due};
 ghost use Rattle.cfdp_receiver.specs.Sent.{IsNotWritten, as_sent, crc_len, longest_sealed};
-ghost use Rattle.cfdp_receiver.specs.State.{CancelAsked, Expire, Finish, ForgetAsked, Work};
+ghost use Rattle.cfdp_receiver.specs.State.{CancelAsked, ClockMoved, Expire, Finish, ForgetAsked, Work};
 ghost use Rattle.cfdp_receiver.specs.declared.receiver.NotWritten.TheVariants.{NoMore};
 ghost use Rattle.cfdp_reception.specs.Reception.{Hears, Turned, pdus_in};
 
@@ -108,10 +109,19 @@ impl Reception {
         self.answer = Some(self.receiver.forget_closed());
     }
 
+    /// The driver's clock was set, back or ahead: its moment is this one by now. See [`Receiver::move_clock`], also for
+    /// the cost.
+    pub fn move_clock(&mut self, now: u64)
+        ensures { Turned self.old self.new (ClockMoved now) }
+    {
+        self.answer = Some(self.receiver.move_clock(now));
+    }
+
     /// The moment from which on a timer is due. See [`Receiver::deadline`], also for the cost.
     pub fn deadline(&self) -> Option<u64>
         ensures { (now : ℕ) → now < 2 ^ 64 → has_come result now
-            ≡ is_any_due (first_due (record self.now.machine.state { now = now }) self.now.machine.state.sessions) }
+            ≡ is_any_due (first_due (record self.now.machine.state { now = own_time self.now.machine.state now })
+            self.now.machine.state.sessions) }
     {
         self.receiver.deadline()
     }

@@ -30,7 +30,7 @@ use Rattle.cfdp_receiver.specs.declared.indication.Indication.TheVariants.{Metad
 use Rattle.cfdp_receiver.specs.declared.indication.Word.{Word}
 use Rattle.cfdp_receiver.specs.declared.indication.Word.TheVariants as words
 use Rattle.cfdp_receiver.specs.declared.indication.Became.{Became}
-use Rattle.cfdp_receiver.specs.declared.indication.Became.TheVariants.{Nothing, NotOurs, Said, Replied}
+use Rattle.cfdp_receiver.specs.declared.indication.Became.TheVariants.{Nothing, NotOurs, TooFarAhead, Said, Replied}
 use Rattle.cfdp_receiver.specs.declared.mib.Mib.{Mib}
 use Rattle.cfdp_receiver.specs.declared.reading.Dropped.{Dropped}
 use Rattle.cfdp_receiver.specs.declared.reading.Dropped.TheVariants as dropped
@@ -66,6 +66,7 @@ indication_line indication = line (indication_text indication)
 abbrev pub word_text : Word → List ℕ
 word_text words.NotForUs = codes "not-for-us"
 word_text words.TableFull = codes "table-full"
+word_text words.SourcesFull = codes "sources-full"
 word_text words.Duplicate = codes "duplicate"
 word_text words.Idle = codes "idle"
 word_text words.Unknown = codes "unknown"
@@ -74,6 +75,7 @@ word_text words.Faulted = codes "faulted"
 word_text words.Acknowledged = codes "acknowledged"
 word_text words.Answered = codes "answered"
 word_text words.Cancelled = codes "cancelled"
+word_text words.ListBegun = codes "list-begun"
 word_text words.Expired = codes "expired"
 word_text words.KeptAlive = codes "kept-alive"
 word_text words.Ignored = codes "ignored"
@@ -91,6 +93,7 @@ replied_line id reply = if is_taken reply then line (transaction_name id ++ word
 abbrev pub became_text : Became → List ℕ
 became_text Nothing = []
 became_text NotOurs = not_ours
+became_text TooFarAhead = codes "time too-far-ahead\n"
 became_text (Said id said) = line (transaction_name id ++ word (word_text said))
 became_text (Replied id reply) = replied_line id reply
 

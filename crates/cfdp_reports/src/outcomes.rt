@@ -33,6 +33,7 @@ fn text_of(word: Word) -> &'static [u8]
     match word {
         Word::NotForUs => b"not-for-us",
         Word::TableFull => b"table-full",
+        Word::SourcesFull => b"sources-full",
         Word::Duplicate => b"duplicate",
         Word::Idle => b"idle",
         Word::Unknown => b"unknown",
@@ -41,6 +42,7 @@ fn text_of(word: Word) -> &'static [u8]
         Word::Acknowledged => b"acknowledged",
         Word::Answered => b"answered",
         Word::Cancelled => b"cancelled",
+        Word::ListBegun => b"list-begun",
         Word::Expired => b"expired",
         Word::KeptAlive => b"kept-alive",
         Word::Ignored => b"ignored",
@@ -93,6 +95,7 @@ pub(crate) fn push_became(
     match became {
         Became::Nothing => Ok(()),
         Became::NotOurs => text.extend_from_slice(not_ours_line()),
+        Became::TooFarAhead => text.extend_from_slice(b"time too-far-ahead\n"),
         Became::Said(id, word) => push_word(*id, text_of(*word), text),
         Became::Replied(id, reply) => push_replied(alloc, *id, reply, text),
     }

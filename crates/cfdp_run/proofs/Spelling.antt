@@ -34,3 +34,4 @@ keys_read key.KeepAlive = refl
 keys_read key.Immediate = refl
 keys_read key.Crc = refl
 keys_read key.Longest = refl
+keys_read key.MostAhead = refl

@@ -62,6 +62,7 @@ pub data LineMeaning : Type 0 where
   Receive : (now : ℕ) → (octets : List ℕ) → LineMeaning
   Cancel : (now : ℕ) → TransactionId → LineMeaning
   Pass : (now : ℕ) → LineMeaning
+  SetClock : (now : ℕ) → LineMeaning
   Get : Path → LineMeaning
   Gaps : TransactionId → LineMeaning
   Phase : TransactionId → LineMeaning
@@ -83,6 +84,7 @@ command_meaning (command.PutFile path content) = PutFile path (content_of conten
 command_meaning (command.Receive now octets) = Receive now octets.items
 command_meaning (command.Cancel now id) = Cancel now id
 command_meaning (command.Pass now) = Pass now
+command_meaning (command.SetClock now) = SetClock now
 command_meaning (command.Get path) = Get path
 command_meaning (command.Gaps id) = Gaps id
 command_meaning (command.Phase id) = Phase id
@@ -198,6 +200,10 @@ put_in [] = Err (wrong.Expected word.Put)
 put_in (text ∷ []) = put_alone (name_in text)
 put_in (text ∷ next ∷ texts) = put_with text (content_in (next ∷ texts))
 
+abbrev pub says_alone : FirstWord → LineMeaning → List (List ℕ) → Result LineMeaning Wrong
+says_alone word what [] = Ok what
+says_alone word what (text ∷ texts) = Err (wrong.Expected word)
+
 -- ---- `at`: a time, and an input
 
 abbrev pub input_in : ℕ → List (List ℕ) → Result LineMeaning Wrong
@@ -206,6 +212,7 @@ input_in now (text ∷ texts) =
     if bytes_eq text (codes "pdu") then saying (λ octets. Receive now octets)
     (ok_or (octets_spelled texts) (wrong.Expected word.At))
     else if bytes_eq text (codes "cancel") then saying (λ id. Cancel now id) (only_name word.At texts)
+    else if bytes_eq text (codes "clock") then says_alone word.At (SetClock now) texts
     else Err (wrong.Expected word.At)
 
 abbrev pub at_in : List (List ℕ) → Result LineMeaning Wrong
@@ -218,10 +225,6 @@ at_in (text ∷ texts) = ok_or (number_of text) (wrong.Expected word.At) >>= λ 
 abbrev pub line_in : List (List ℕ) → Result (List ℕ) Wrong
 line_in [] = Err (wrong.Expected word.Expect)
 line_in (text ∷ texts) = Ok (join_with_byte 32 (text ∷ texts))
-
-abbrev pub says_alone : FirstWord → LineMeaning → List (List ℕ) → Result LineMeaning Wrong
-says_alone word what [] = Ok what
-says_alone word what (text ∷ texts) = Err (wrong.Expected word)
 
 -- ---- lines
 

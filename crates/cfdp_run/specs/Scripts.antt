@@ -8,13 +8,14 @@
 --     head_protected, put_node, put, put_file  what `protect` and `put` do
 --     in_head word stage change     a line of the head, which is too late after it
 --     moved, heard_at, asked    octets come, or other inputs, at a time;  a question is answered
+--     clock_set                 the driver's clock was set
 --     is_written, expected      a line is among those that were written last;  it has to be
 --     command_obeyed files stage said  what a command does, where the files have these octets: the stage after it and
 --                               what it writes, or why the script stops
 --     line_step files stage line        the same of a line
 --     answer files stage line           the stage after it and what it writes, unless the script stops there
 --     why_from                          why several lines stop, if they do
-use Rattle.std.specs.Prelude.{ℕ, nat_lt, max, Bool, true, false, if◌then◌else◌, List, [], ◌∷◌, ◌++◌, length, Option, Some, None, Result, Ok, Err, bytes_eq}
+use Rattle.std.specs.Prelude.{ℕ, nat_lt, Bool, true, false, if◌then◌else◌, List, [], ◌∷◌, ◌++◌, length, Option, Some, None, Result, Ok, Err, bytes_eq}
 use Rattle.std.specs.List.{list_any}
 use Rattle.cfdp_status.specs.declared.transaction.TransactionId.{TransactionId}
 use Rattle.cfdp_paths.specs.Paths.{Path}
@@ -24,12 +25,11 @@ use Rattle.cfdp_texts.specs.Replies.{listing_text}
 use Rattle.cfdp_transactions.specs.Config.{Config}
 use Rattle.cfdp_transactions.specs.World.{World, start}
 use Rattle.cfdp_receiver.specs.Heard.{heard}
-use Rattle.cfdp_receiver.specs.State.{State, Input, CancelAsked, begin}
-use Rattle.cfdp_receiver.specs.Turning.{after_all}
+use Rattle.cfdp_receiver.specs.State.{State, Input, CancelAsked, ClockMoved, begin}
 use Rattle.cfdp_receiver.specs.declared.mib.Mib.{Mib}
-use Rattle.cfdp_run.specs.Commands.{PutContent, Nothing, Octets, File as FileNamed, LineMeaning, Settings, Configure, Protect, PutDirectory, PutFile, Receive, Cancel, Pass, Get, Gaps, Phase, ListAll, Expect, End, meaning_in}
+use Rattle.cfdp_run.specs.Commands.{PutContent, Nothing, Octets, File as FileNamed, LineMeaning, Settings, Configure, Protect, PutDirectory, PutFile, Receive, Cancel, Pass, SetClock, Get, Gaps, Phase, ListAll, Expect, End, meaning_in}
 use Rattle.cfdp_run.specs.Contents.{get_line}
-use Rattle.cfdp_run.specs.Playing.{heard_inputs, heard_text, most_timers, passing, played, settled_after}
+use Rattle.cfdp_run.specs.Playing.{after_turns, heard_inputs, heard_text, most_timers, passing, played, settled_after}
 use Rattle.cfdp_run.specs.Putting.{path_wrong, room_wrong, with_put}
 use Rattle.cfdp_run.specs.Questions.{gaps_line, phase_line}
 use Rattle.cfdp_run.specs.Settings.{default_mib}
@@ -49,7 +49,6 @@ pub record Head : Type 0 where
 
 pub record Play : Type 0 where
   pub state : State
-  pub latest : ℕ  -- the greatest time so far
   pub lines : List ℕ  -- what the last line wrote that was neither `expect` nor passed over
 
 pub data ScriptStage : Type 0 where
@@ -66,7 +65,7 @@ abbrev pub script_at_first : ScriptStage
 script_at_first = Preparing first_head
 
 unfoldable pub begun : Head → Play
-begun head = record { state = begin head.mib head.world; latest = 0; lines = [] }
+begun head = record { state = begin head.mib head.world; lines = [] }
 
 abbrev pub play_of : ScriptStage → Play
 play_of (Preparing head) = begun head
@@ -150,25 +149,23 @@ in_head word (Playing play) change = Err (IsWrong (TooLate word))
 
 -- ---- after the head
 
--- a time below the greatest so far counts as that one
-abbrev pub time_of : Play → ℕ → ℕ
-time_of play now = max play.latest now
-
-abbrev pub moved : Play → (now : ℕ) → List Input → Play
-moved play now inputs = record { state = after_all play.state inputs; latest = now; lines = played play.state inputs }
+abbrev pub moved : Play → List Input → Play
+moved play inputs = record { state = after_turns play.state inputs; lines = played play.state inputs }
 
 unfoldable pub heard_at : Play → (now : ℕ) → List ℕ → Play
 heard_at play now octets = record {
-  state = after_all play.state (heard_inputs now play.state (heard now octets));
-  latest = now;
+  state = after_turns play.state (heard_inputs now play.state (heard now octets));
   lines = heard_text now play.state (heard now octets);
 }
 
 unfoldable pub cancelled_at : Play → (now : ℕ) → TransactionId → Play
-cancelled_at play now id = moved play now (settled_after now play.state (CancelAsked now id))
+cancelled_at play now id = moved play (settled_after now play.state (CancelAsked now id))
 
 unfoldable pub passed_at : Play → (now : ℕ) → Play
-passed_at play now = moved play now (passing most_timers now play.state)
+passed_at play now = moved play (passing most_timers now play.state)
+
+unfoldable pub clock_set : Play → (now : ℕ) → Play
+clock_set play now = moved play (ClockMoved now ∷ [])
 
 unfoldable pub asked : Play → List ℕ → Play
 asked play lines = record play { lines = lines }
@@ -187,10 +184,10 @@ command_obeyed files stage (Configure config) = in_head word.Config stage (λ he
 command_obeyed files stage (Protect p) = in_head word.Protect stage (λ head. head_protected head p)
 command_obeyed files stage (PutDirectory p) = in_head word.Put stage (λ head. put head p Directory)
 command_obeyed files stage (PutFile p content) = in_head word.Put stage (λ head. put_file files head p content)
-command_obeyed files stage (Receive now octets) = written (heard_at (play_of stage)
-    (time_of (play_of stage) now) octets)
-command_obeyed files stage (Cancel now id) = written (cancelled_at (play_of stage) (time_of (play_of stage) now) id)
-command_obeyed files stage (Pass now) = written (passed_at (play_of stage) (time_of (play_of stage) now))
+command_obeyed files stage (Receive now octets) = written (heard_at (play_of stage) now octets)
+command_obeyed files stage (Cancel now id) = written (cancelled_at (play_of stage) now id)
+command_obeyed files stage (Pass now) = written (passed_at (play_of stage) now)
+command_obeyed files stage (SetClock now) = written (clock_set (play_of stage) now)
 command_obeyed files stage (Get p) = written (asked (play_of stage) (get_line (play_of stage).state.world.filestore p))
 command_obeyed files stage (Gaps id) = written (asked (play_of stage) (gaps_line (play_of stage).state id))
 command_obeyed files stage (Phase id) = written (asked (play_of stage) (phase_line (play_of stage).state id))

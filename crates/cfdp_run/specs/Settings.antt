@@ -34,6 +34,7 @@ default_mib = record {
   nak_mode = Deferred;
   has_crc = false;
   longest_nak = 65535;
+  most_ahead = None;
 }
 
 abbrev pub key_of : List ℕ → Option Key
@@ -52,6 +53,7 @@ key_of word =
     else if bytes_eq word (codes "immediate") then Some key.Immediate
     else if bytes_eq word (codes "crc") then Some key.Crc
     else if bytes_eq word (codes "longest") then Some key.Longest
+    else if bytes_eq word (codes "most-ahead") then Some key.MostAhead
     else None
 
 abbrev pub key_text : Key → List ℕ
@@ -69,6 +71,7 @@ key_text key.KeepAlive = codes "keep-alive"
 key_text key.Immediate = codes "immediate"
 key_text key.Crc = codes "crc"
 key_text key.Longest = codes "longest"
+key_text key.MostAhead = codes "most-ahead"
 
 abbrev pub within_by : ℕ → ℕ → Option ℕ → Option ℕ
 within_by low high None = None
@@ -121,6 +124,7 @@ bounds_text key.KeepAlive = codes "none or 1 to 4294967295"
 bounds_text key.Immediate = codes "yes or no"
 bounds_text key.Crc = codes "yes or no"
 bounds_text key.Longest = codes "72 to 65535"
+bounds_text key.MostAhead = codes "none or 1 to 4294967295"
 
 abbrev pub with_value : Mib → Key → List ℕ → Option Mib
 with_value mib key.AckInterval word = option_map (λ (n : ℕ). record mib { ack = record mib.ack { interval = n } })
@@ -147,3 +151,4 @@ with_value mib key.KeepAlive word = option_map (λ (n : Option ℕ). record mib 
 with_value mib key.Immediate word = option_map (λ (m : NakMode). record mib { nak_mode = m }) (nak_mode_of word)
 with_value mib key.Crc word = option_map (λ (b : Bool). record mib { has_crc = b }) (yes_of word)
 with_value mib key.Longest word = option_map (λ (n : ℕ). record mib { longest_nak = n }) (longest_of word)
+with_value mib key.MostAhead word = option_map (λ (n : Option ℕ). record mib { most_ahead = n }) (keep_alive_of word)

@@ -13,4 +13,4 @@ head_of head = record {
 }
 
 abbrev pub play_from : PlayValue → Play
-play_from play = record { state = play.player.receiver.state; latest = play.latest; lines = play.lines.items }
+play_from play = record { state = play.player.receiver.state; lines = play.lines.items }

@@ -236,8 +236,10 @@ impl Head {
         let entity = reconfigured(alloc, config, &self.entity)?;
         match Receiver::new(alloc, self.mib, entity) {
             Ok(receiver) => Play::new(alloc, receiver),
-            Err(NotMade::Memory) => Err(AllocError),
-            Err(NotMade::Mib(_) | NotMade::HasTransactions) => unreachable!(),
+            Err(unmade) => match unmade.why {
+                NotMade::Memory => Err(AllocError),
+                NotMade::Mib(_) | NotMade::HasTransactions => unreachable!(),
+            },
         }
     }
 }

@@ -1,10 +1,10 @@
 //! A script after its head.
 
-ghost use Rattle.std.specs.Prelude.{◌≡◌, [], max, IfOk, OnOk};
+ghost use Rattle.std.specs.Prelude.{◌≡◌, [], IfOk, OnOk};
 ghost use Rattle.cfdp_texts.specs.Replies.{listing_text};
 ghost use Rattle.cfdp_run.specs.Contents.{get_line};
 ghost use Rattle.cfdp_run.specs.Questions.{gaps_line, phase_line};
-ghost use Rattle.cfdp_run.specs.Scripts.{asked, cancelled_at, heard_at, is_written, passed_at, time_of};
+ghost use Rattle.cfdp_run.specs.Scripts.{asked, cancelled_at, clock_set, heard_at, is_written, passed_at};
 ghost use Rattle.cfdp_run.specs.Stages.{play_from};
 
 use crate::contents::push_get_line;
@@ -34,18 +34,17 @@ fn is_among(lines: &[u8], line: &[u8]) -> bool
     false
 }
 
-/// A receiving entity between two lines of a script.
+/// A receiving entity between two lines of a script. An earlier time than the latest counts as the latest, unless the
+/// clock is set by [`Play::set_clock`]. At a time that is too far ahead nothing is done, and a line says so.
 #[derive(Drop)]
 pub struct Play {
     player: Player,
-    /// The greatest time so far.
-    latest: u64,
     /// What the last line wrote. A blank line, a comment and `expect` leave it as it was.
     lines: Vec<u8>,
 }
 
 impl Play {
-    /// A script whose head is over, with this receiver. The time is 0, and no line has written anything.
+    /// A script whose head is over, with this receiver. No line has written anything.
     ///
     /// # Errors
     ///
@@ -53,13 +52,11 @@ impl Play {
     /// receiver sends.
     pub fn new(alloc: Global, receiver: Receiver) -> Result<Play, AllocError>
         ensures state { IfOk result (λ play. play.player.receiver ≡ receiver) }
-        ensures latest { IfOk result (λ play. play.latest ≡ 0) }
         ensures lines { IfOk result (λ play. play.lines.items ≡ []) }
     {
         let player = Player::new(alloc, receiver)?;
         Ok(Play {
             player,
-            latest: 0,
             lines: Vec::new(alloc),
         })
     }
@@ -86,20 +83,9 @@ impl Play {
         self.player.receiver()
     }
 
-    /// It is this time, or the greatest so far. The line writes anew.
-    fn pass_to(&mut self, now: u64)
-        ensures player { self.new.player ≡ self.old.player }
-        ensures latest { self.new.latest ≡ max self.old.latest now }
-        ensures lines { self.new.lines.items ≡ [] }
-    {
-        self.latest = self.latest.max(now);
-        self.lines.clear();
-    }
-
     /// Takes the octets of one PDU that came, performs all work and takes each outcome after it, and keeps the lines of
-    /// what was answered. If the receiver drops the octets, the only line says why. The time is `now`, in ticks, or the
-    /// greatest time so far where that is later. The call may change the octets, since it takes a CRC off in place: do
-    /// not use them after it.
+    /// what was answered. If the receiver drops the octets, the only line says why. The time is `now`, in ticks. The
+    /// call may change the octets, since it takes a CRC off in place: do not use them after it.
     ///
     /// # Errors
     ///
@@ -108,17 +94,14 @@ impl Play {
     /// Cost: that of the PDU, and of all that is due after it.
     #[tactic(auto, unfolding(crate::specs::Scripts::heard_at))]
     pub fn receive(&mut self, alloc: Global, now: u64, octets: &mut [u8]) -> Result<(), AllocError>
-        ensures { OnOk result (play_from self.new ≡ heard_at (play_from self.old)
-            (time_of (play_from self.old) now) octets.old) }
+        ensures { OnOk result (play_from self.new ≡ heard_at (play_from self.old) now octets.old) }
     {
-        self.pass_to(now);
-        self.player
-            .receive(alloc, self.latest, octets, &mut self.lines)
+        self.lines.clear();
+        self.player.receive(alloc, now, octets, &mut self.lines)
     }
 
     /// The user cancels a transaction (condition code 15). All work is performed after it and each outcome taken, and
-    /// the lines of what was answered are kept. The time is `now`, in ticks, or the greatest time so far where that is
-    /// later.
+    /// the lines of what was answered are kept. The time is `now`, in ticks.
     ///
     /// # Errors
     ///
@@ -127,16 +110,15 @@ impl Play {
     /// Cost: that of [`Receiver::cancel`], and of all that is due after it.
     #[tactic(auto, unfolding(crate::specs::Scripts::cancelled_at))]
     pub fn cancel(&mut self, alloc: Global, now: u64, id: TransactionId) -> Result<(), AllocError>
-        ensures { OnOk result (play_from self.new ≡ cancelled_at (play_from self.old)
-            (time_of (play_from self.old) now) id) }
+        ensures { OnOk result (play_from self.new ≡ cancelled_at (play_from self.old) now id) }
     {
-        self.pass_to(now);
-        self.player.cancel(alloc, self.latest, id, &mut self.lines)
+        self.lines.clear();
+        self.player.cancel(alloc, now, id, &mut self.lines)
     }
 
     /// Moves the time on, and serves each timer that is due, at most [`MOST_TIMERS`](crate::MOST_TIMERS). After each,
     /// all work is performed and each outcome taken. The lines of what was answered are kept. The time is `now`, in
-    /// ticks, or the greatest time so far where that is later.
+    /// ticks.
     ///
     /// # Errors
     ///
@@ -145,10 +127,26 @@ impl Play {
     /// Cost: a pass over the sessions for each timer that is served, and all that is due after it.
     #[tactic(auto, unfolding(crate::specs::Scripts::passed_at))]
     pub fn pass(&mut self, alloc: Global, now: u64) -> Result<(), AllocError>
-        ensures { OnOk result (play_from self.new ≡ passed_at (play_from self.old) (time_of (play_from self.old) now)) }
+        ensures { OnOk result (play_from self.new ≡ passed_at (play_from self.old) now) }
     {
-        self.pass_to(now);
-        self.player.pass(alloc, self.latest, &mut self.lines)
+        self.lines.clear();
+        self.player.pass(alloc, now, &mut self.lines)
+    }
+
+    /// The driver's clock was set, back or ahead: the time is `now`, in ticks. What is left of each timer stays, and
+    /// nothing is written.
+    ///
+    /// # Errors
+    ///
+    /// [`AllocError`] when out of memory.
+    ///
+    /// Cost: that of [`Receiver::move_clock`].
+    #[tactic(auto, unfolding(crate::specs::Scripts::clock_set))]
+    pub fn set_clock(&mut self, alloc: Global, now: u64) -> Result<(), AllocError>
+        ensures { OnOk result (play_from self.new ≡ clock_set (play_from self.old) now) }
+    {
+        self.lines.clear();
+        self.player.move_clock(alloc, now, &mut self.lines)
     }
 
     /// Writes the line of what is at a path: a file with its octets, a directory, or nothing. The time and the receiver

@@ -5,11 +5,11 @@ ghost use Rattle.std.specs.Prelude.{◌≡◌, ◌≤◌, ◌++◌, ◌∷◌, [
 ghost use Rattle.cfdp_receiver.specs.Heard.{heard};
 ghost use Rattle.cfdp_receiver.specs.StateMachine.{answer_in};
 ghost use Rattle.cfdp_receiver.specs.Sent.{longest_sealed};
-ghost use Rattle.cfdp_receiver.specs.State.{CancelAsked, Expire, Finish, Work};
-ghost use Rattle.cfdp_receiver.specs.Turning.{after_input, after_all, parts};
+ghost use Rattle.cfdp_receiver.specs.State.{CancelAsked, ClockMoved, Expire, Finish, Work};
+ghost use Rattle.cfdp_receiver.specs.Turning.{turn};
 ghost use Rattle.cfdp_reports.specs.Reports.{answer_text};
 ghost use Rattle.cfdp_transactions.specs.MostSettled.{most_settled};
-ghost use Rattle.cfdp_run.specs.Playing.{Plays, heard_inputs, heard_text, is_nothing, most_timers, passing, settled_after, settling};
+ghost use Rattle.cfdp_run.specs.Playing.{Plays, after_turn, after_turns, heard_inputs, heard_text, is_nothing, most_timers, passing, settled_after, settling};
 
 use cfdp_pdus::PduFault;
 use cfdp_receiver::{Answer, Became, Dropped, Receiver};
@@ -140,10 +140,28 @@ impl Player {
         self.follow(alloc, now, &answer, text)
     }
 
+    /// The driver's clock was set: its moment is this one by now. It writes nothing, and nothing is due by it.
+    ///
+    /// # Errors
+    ///
+    /// [`AllocError`] when out of memory. Cost: that of [`Receiver::move_clock`].
+    pub fn move_clock(
+        &mut self,
+        alloc: Global,
+        now: u64,
+        text: &mut Vec<u8>,
+    ) -> Result<(), AllocError>
+        ensures { OnOk result (Plays self.old.receiver.state
+            (ClockMoved now ∷ []) self.new.receiver.state text.old.items text.new.items) }
+    {
+        let answer = self.receiver.move_clock(now);
+        self.write(alloc, &answer, text)
+    }
+
     /// A timer that is due is served, and all is settled. Returns whether none was due.
     fn expire(&mut self, alloc: Global, now: u64, text: &mut Vec<u8>) -> Result<bool, AllocError>
         ensures idle { IfOk result (λ idle. idle ≡ is_nothing
-            (parts self.old.receiver.state (Expire now)).answer.became) }
+            (turn self.old.receiver.state (Expire now)).1.became) }
         ensures none { result ≡ Ok true → Plays self.old.receiver.state
             (Expire now ∷ []) self.new.receiver.state text.old.items text.new.items }
         ensures some { result ≡ Ok false → Plays self.old.receiver.state
@@ -151,7 +169,7 @@ impl Player {
             text.new.items }
     {
         let answer = self.receiver.expire(now);
-        if let Became::Nothing = answer.became() {
+        if let Became::Nothing | Became::TooFarAhead = answer.became() {
             self.write(alloc, &answer, text)?;
             return Ok(true);
         }
@@ -190,7 +208,7 @@ impl Player {
         text: &mut Vec<u8>,
     ) -> Result<(), AllocError>
         ensures state { OnOk result (self.new.receiver.state
-            ≡ after_all self.old.receiver.state (heard_inputs now self.old.receiver.state (heard now octets.old))) }
+            ≡ after_turns self.old.receiver.state (heard_inputs now self.old.receiver.state (heard now octets.old))) }
         ensures text { OnOk result (text.new.items ≡ text.old.items
             ++ heard_text now self.old.receiver.state (heard now octets.old)) }
     {

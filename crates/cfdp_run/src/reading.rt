@@ -264,6 +264,9 @@ fn read_input<'a>(alloc: Global, now: u64, words: &[u8]) -> Result<RunCommand<'a
         let id = read_only_name(FirstWord::At, rest)?;
         return Ok(RunCommand::Cancel { now, id });
     }
+    if word == b"clock".as_slice() && next_word(&mut rest).is_none() {
+        return Ok(RunCommand::SetClock { now });
+    }
     Err(CommandFault::Wrong(Wrong::Expected(FirstWord::At)))
 }
 

@@ -61,6 +61,11 @@ pub enum RunCommand<'a> {
         /// The time.
         now: u64,
     },
+    /// `at`: the driver's clock was set.
+    SetClock {
+        /// The time, by now.
+        now: u64,
+    },
     /// `get`: what there is at this path is asked for.
     Get(Path),
     /// `gaps`: what is missing of this transaction is asked for.

@@ -37,6 +37,8 @@ pub enum Key {
     Crc,
     /// `longest`: how many octets a NAK PDU has at most.
     Longest,
+    /// `most-ahead`: how far ahead of the latest time another one may be, or no limit.
+    MostAhead,
 }
 
 /// What is done where a script sets nothing else.
@@ -65,6 +67,7 @@ pub fn default_mib() -> Mib
         nak_mode: NakMode::Deferred,
         has_crc: false,
         longest_nak: 65_535,
+        most_ahead: None,
     }
 }
 
@@ -114,6 +117,9 @@ pub fn key_of(word: &[u8]) -> Option<Key>
     if word == b"longest".as_slice() {
         return Some(Key::Longest);
     }
+    if word == b"most-ahead".as_slice() {
+        return Some(Key::MostAhead);
+    }
     None
 }
 
@@ -155,7 +161,7 @@ fn longest_of(word: &[u8]) -> Option<u16>
 }
 
 /// A time in ticks, or none.
-fn keep_alive_of(word: &[u8]) -> Option<Option<u32>>
+fn interval_or_none(word: &[u8]) -> Option<Option<u32>>
     ensures { result ≡ keep_alive_of word.now }
 {
     if word == b"none".as_slice() {
@@ -227,6 +233,7 @@ impl Key {
             Key::Immediate => b"immediate",
             Key::Crc => b"crc",
             Key::Longest => b"longest",
+            Key::MostAhead => b"most-ahead",
         }
     }
 
@@ -249,6 +256,7 @@ impl Key {
             Key::Immediate => b"yes or no",
             Key::Crc => b"yes or no",
             Key::Longest => b"72 to 65535",
+            Key::MostAhead => b"none or 1 to 4294967295",
         }
     }
 
@@ -270,10 +278,11 @@ impl Key {
             Key::OnCheckLimit => mib.check.at_limit = handler_of(word)?,
             Key::Inactivity => mib.inactivity.interval = interval_of(word)?,
             Key::OnInactivity => mib.inactivity.at_limit = handler_of(word)?,
-            Key::KeepAlive => mib.keep_alive = keep_alive_of(word)?,
+            Key::KeepAlive => mib.keep_alive = interval_or_none(word)?,
             Key::Immediate => mib.nak_mode = nak_mode_of(word)?,
             Key::Crc => mib.has_crc = yes_of(word)?,
             Key::Longest => mib.longest_nak = longest_of(word)?,
+            Key::MostAhead => mib.most_ahead = interval_or_none(word)?,
         }
         Some(())
     }

@@ -61,7 +61,7 @@ impl FirstWord {
             FirstWord::Config => b"config E B C K J",
             FirstWord::Protect => b"protect PATH",
             FirstWord::Put => b"put PATH [HEX | @FILE] or put PATH/",
-            FirstWord::At => b"at T [pdu HEX | cancel S N]",
+            FirstWord::At => b"at T [pdu HEX | cancel S N | clock]",
             FirstWord::Get => b"get PATH",
             FirstWord::Gaps => b"gaps S N",
             FirstWord::Phase => b"phase S N",

@@ -13,7 +13,7 @@ use Rattle.cfdp_plans.specs.Names.{name_in, path_spelled}
 use Rattle.cfdp_receiver.specs.StateMachine.{mib_fault, lacks_time, is_no_time, is_limit}
 use Rattle.cfdp_receiver.specs.declared.mib.Mib.{Mib}
 use Rattle.cfdp_receiver.specs.declared.mib.MibFault.TheVariants as faults
-use Rattle.cfdp_run.specs.Commands.{Nothing, LineMeaning, Settings, Configure, Protect, PutDirectory, PutFile, Receive, Cancel, Get, Gaps, Phase, ListAll, Expect, End, saying, is_equals, valued, setting_at, setting, settings, settings_in, config_in, path_or_wrong, only_path, only_name, octets_spelled, before_slash, directory_or_file, content_in, put_in, input_in, at_in, line_in, says_alone, says, is_playing, in_time, begun_by, texts_say, meaning_in}
+use Rattle.cfdp_run.specs.Commands.{Nothing, LineMeaning, Settings, Configure, Protect, PutDirectory, PutFile, Receive, Cancel, SetClock, Get, Gaps, Phase, ListAll, Expect, End, saying, is_equals, valued, setting_at, setting, settings, settings_in, config_in, path_or_wrong, only_path, only_name, octets_spelled, before_slash, directory_or_file, content_in, put_in, input_in, at_in, line_in, says_alone, says, is_playing, in_time, begun_by, texts_say, meaning_in}
 use Rattle.cfdp_run.specs.Settings.{key_of, within_by, interval_of, limit_of, longest_of, keep_alive_of, nak_mode_of, yes_of, handler_of, with_value}
 use Rattle.cfdp_run.specs.code.Stages.{IsFit}
 use Rattle.cfdp_run.specs.Words.{is_of_head, word_of}
@@ -32,12 +32,13 @@ pub record Fits (mib : Mib) : Type 0 where
   pub check : (mib.check.interval == 0) ≡ false
   pub inactivity : (mib.inactivity.interval == 0) ≡ false
   pub alive : is_no_time mib.keep_alive ≡ false
+  pub ahead : is_no_time mib.most_ahead ≡ false
   pub ack_limit : is_limit mib.ack.limit ≡ true
   pub nak_limit : is_limit mib.nak.limit ≡ true
   pub longest : nat_lt mib.longest_nak 72 ≡ false
 
 pub fits_none : (mib : Mib) → Fits mib → mib_fault mib ≡ None
-fits_none mib f = rw (f.ack, f.nak, f.check, f.inactivity, f.alive, f.ack_limit, f.nak_limit, f.longest) refl
+fits_none mib f = rw (f.ack, f.nak, f.check, f.inactivity, f.alive, f.ahead, f.ack_limit, f.nak_limit, f.longest) refl
 
 pub none_fits : (mib : Mib) → mib_fault mib ≡ None → Fits mib
 none_fits mib none =
@@ -45,12 +46,15 @@ none_fits mib none =
     let two = passed_over (not (is_limit mib.ack.limit && is_limit mib.nak.limit)) faults.Limit _ one.1 in
     let three = passed_over (nat_lt mib.longest_nak 72) faults.LongestNak None two.1 in
     let limits = and_parts _ _ (not-false _ two.0) in
+    let g = or_parts
+    ((mib.ack.interval == 0) || (mib.nak.interval == 0) || (mib.check.interval == 0) || (mib.inactivity.interval == 0) || is_no_time mib.keep_alive)
+    (is_no_time mib.most_ahead) one.0 in
     let e = or_parts ((mib.ack.interval == 0) || (mib.nak.interval == 0) || (mib.check.interval == 0) || (mib.inactivity.interval == 0))
-    (is_no_time mib.keep_alive) one.0 in
+    (is_no_time mib.keep_alive) g.0 in
     let d = or_parts ((mib.ack.interval == 0) || (mib.nak.interval == 0) || (mib.check.interval == 0)) (mib.inactivity.interval == 0) e.0 in
     let c = or_parts ((mib.ack.interval == 0) || (mib.nak.interval == 0)) (mib.check.interval == 0) d.0 in
     let b = or_parts (mib.ack.interval == 0) (mib.nak.interval == 0) c.0 in
-    record { ack = b.0; nak = b.1; check = c.1; inactivity = d.1; alive = e.1; ack_limit = limits.0; nak_limit = limits.1; longest = three.0 }
+    record { ack = b.0; nak = b.1; check = c.1; inactivity = d.1; alive = e.1; ahead = g.1; ack_limit = limits.0; nak_limit = limits.1; longest = three.0 }
 
 -- ---- one setting
 
@@ -98,6 +102,7 @@ with_value-fits mib key.AckInterval text new f e =
       check = f.check;
       inactivity = f.inactivity;
       alive = f.alive;
+      ahead = f.ahead;
       ack_limit = f.ack_limit;
       nak_limit = f.nak_limit;
       longest = f.longest;
@@ -111,6 +116,7 @@ with_value-fits mib key.AckLimit text new f e =
       check = f.check;
       inactivity = f.inactivity;
       alive = f.alive;
+      ahead = f.ahead;
       ack_limit = rw (r.least, r.most) refl;
       nak_limit = f.nak_limit;
       longest = f.longest;
@@ -123,6 +129,7 @@ with_value-fits mib key.OnAckLimit text new f e =
       check = f.check;
       inactivity = f.inactivity;
       alive = f.alive;
+      ahead = f.ahead;
       ack_limit = f.ack_limit;
       nak_limit = f.nak_limit;
       longest = f.longest;
@@ -135,6 +142,7 @@ with_value-fits mib key.NakInterval text new f e =
       check = f.check;
       inactivity = f.inactivity;
       alive = f.alive;
+      ahead = f.ahead;
       ack_limit = f.ack_limit;
       nak_limit = f.nak_limit;
       longest = f.longest;
@@ -148,6 +156,7 @@ with_value-fits mib key.NakLimit text new f e =
       check = f.check;
       inactivity = f.inactivity;
       alive = f.alive;
+      ahead = f.ahead;
       ack_limit = f.ack_limit;
       nak_limit = rw (r.least, r.most) refl;
       longest = f.longest;
@@ -160,6 +169,7 @@ with_value-fits mib key.OnNakLimit text new f e =
       check = f.check;
       inactivity = f.inactivity;
       alive = f.alive;
+      ahead = f.ahead;
       ack_limit = f.ack_limit;
       nak_limit = f.nak_limit;
       longest = f.longest;
@@ -172,6 +182,7 @@ with_value-fits mib key.CheckInterval text new f e =
       check = some_time m.0 (in_range 1 4294967295 (number_of text) m.0 m.1).least;
       inactivity = f.inactivity;
       alive = f.alive;
+      ahead = f.ahead;
       ack_limit = f.ack_limit;
       nak_limit = f.nak_limit;
       longest = f.longest;
@@ -184,6 +195,7 @@ with_value-fits mib key.OnCheckLimit text new f e =
       check = f.check;
       inactivity = f.inactivity;
       alive = f.alive;
+      ahead = f.ahead;
       ack_limit = f.ack_limit;
       nak_limit = f.nak_limit;
       longest = f.longest;
@@ -196,6 +208,7 @@ with_value-fits mib key.Inactivity text new f e =
       check = f.check;
       inactivity = some_time m.0 (in_range 1 4294967295 (number_of text) m.0 m.1).least;
       alive = f.alive;
+      ahead = f.ahead;
       ack_limit = f.ack_limit;
       nak_limit = f.nak_limit;
       longest = f.longest;
@@ -208,6 +221,7 @@ with_value-fits mib key.OnInactivity text new f e =
       check = f.check;
       inactivity = f.inactivity;
       alive = f.alive;
+      ahead = f.ahead;
       ack_limit = f.ack_limit;
       nak_limit = f.nak_limit;
       longest = f.longest;
@@ -220,6 +234,7 @@ with_value-fits mib key.KeepAlive text new f e =
       check = f.check;
       inactivity = f.inactivity;
       alive = some_alive text m.0 m.1;
+      ahead = f.ahead;
       ack_limit = f.ack_limit;
       nak_limit = f.nak_limit;
       longest = f.longest;
@@ -232,6 +247,7 @@ with_value-fits mib key.Immediate text new f e =
       check = f.check;
       inactivity = f.inactivity;
       alive = f.alive;
+      ahead = f.ahead;
       ack_limit = f.ack_limit;
       nak_limit = f.nak_limit;
       longest = f.longest;
@@ -244,6 +260,7 @@ with_value-fits mib key.Crc text new f e =
       check = f.check;
       inactivity = f.inactivity;
       alive = f.alive;
+      ahead = f.ahead;
       ack_limit = f.ack_limit;
       nak_limit = f.nak_limit;
       longest = f.longest;
@@ -257,9 +274,23 @@ with_value-fits mib key.Longest text new f e =
       check = f.check;
       inactivity = f.inactivity;
       alive = f.alive;
+      ahead = f.ahead;
       ack_limit = f.ack_limit;
       nak_limit = f.nak_limit;
       longest = le-ltb m.0 72 (leb-true 72 m.0 r.least);
+    })
+with_value-fits mib key.MostAhead text new f e =
+    let m = mapped _ (keep_alive_of text) new e in
+    subst Fits m.2 (record {
+      ack = f.ack;
+      nak = f.nak;
+      check = f.check;
+      inactivity = f.inactivity;
+      alive = f.alive;
+      ahead = some_alive text m.0 m.1;
+      ack_limit = f.ack_limit;
+      nak_limit = f.nak_limit;
+      longest = f.longest;
     })
 
 -- ---- several settings
@@ -336,18 +367,28 @@ put_in-fits (text ∷ next ∷ texts) =
     first_fits (ok_or (content_in (next ∷ texts)) _) (λ holds. saying (λ path. PutFile path holds) (path_or_wrong (path_spelled text)))
     (λ holds. said_fits (λ path. PutFile path holds) (λ x. tt) (path_or_wrong (path_spelled text)))
 
+alone-fits : (known : FirstWord) (what : LineMeaning) (texts : List (List ℕ)) → IsFit what → FitsSaid (says_alone known what texts)
+unfolding FitsSaid
+alone-fits known what [] f = f
+alone-fits known what (text ∷ texts) f = tt
+
 input_in-fits : (now : ℕ) (texts : List (List ℕ)) → FitsSaid (input_in now texts)
 unfolding FitsSaid
 input_in-fits now [] = tt
 input_in-fits now (text ∷ texts) =
+    let clock = says_alone word.At (SetClock now) texts in
     elim (bytes_eq text (codes "pdu")) as (λ b. FitsSaid (if b then saying (λ octets. Receive now octets)
     (ok_or (octets_spelled texts) (wrongs.Expected word.At))
-    else if bytes_eq text (codes "cancel") then saying (λ id. Cancel now id) (only_name word.At texts) else Err (wrongs.Expected word.At))) [
+    else if bytes_eq text (codes "cancel") then saying (λ id. Cancel now id) (only_name word.At texts)
+    else if bytes_eq text (codes "clock") then clock else Err (wrongs.Expected word.At))) [
       | true ↦ said_fits (λ octets. Receive now octets) (λ x. tt) (ok_or (octets_spelled texts) (wrongs.Expected word.At))
       | false ↦ elim (bytes_eq text (codes "cancel")) as (λ b. FitsSaid (if b then saying (λ id. Cancel now id) (only_name word.At texts)
-          else Err (wrongs.Expected word.At))) [
+          else if bytes_eq text (codes "clock") then clock else Err (wrongs.Expected word.At))) [
             | true ↦ said_fits (λ id. Cancel now id) (λ x. tt) (only_name word.At texts)
-            | false ↦ tt
+            | false ↦ elim (bytes_eq text (codes "clock")) as (λ b. FitsSaid (if b then clock else Err (wrongs.Expected word.At))) [
+              | true ↦ alone-fits word.At (SetClock now) texts tt
+              | false ↦ tt
+            ]
           ]
     ]
 
@@ -355,11 +396,6 @@ at_in-fits : (texts : List (List ℕ)) → FitsSaid (at_in texts)
 unfolding FitsSaid
 at_in-fits [] = tt
 at_in-fits (text ∷ texts) = first_fits (ok_or (number_of text) _) (λ now. input_in now texts) (λ now. input_in-fits now texts)
-
-alone-fits : (known : FirstWord) (what : LineMeaning) (texts : List (List ℕ)) → IsFit what → FitsSaid (says_alone known what texts)
-unfolding FitsSaid
-alone-fits known what [] f = f
-alone-fits known what (text ∷ texts) f = tt
 
 says-fits : (mib : Mib) (how_far : HeadProgress) (known : FirstWord) (texts : List (List ℕ)) → Fits mib → FitsSaid (says mib how_far known texts)
 says-fits mib how_far word.Mib texts f = set_fits (settings_in mib texts) (settings_in-fits mib texts f)

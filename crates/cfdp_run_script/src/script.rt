@@ -7,7 +7,7 @@ ghost use Rattle.cfdp_texts.specs.Replies.{listing_text};
 ghost use Rattle.cfdp_run.specs.Commands.{content_of, command_meaning};
 ghost use Rattle.cfdp_run.specs.Contents.{get_line};
 ghost use Rattle.cfdp_run.specs.Questions.{gaps_line, phase_line};
-ghost use Rattle.cfdp_run.specs.Scripts.{Head as SaidInHead, asked, script_at_first, begun, cancelled_at, expected, stage_filestore, heard_at, in_head, line_step, mib_of, command_obeyed, passed_at, play_of, progress_of, head_protected, put, put_file, time_of, with_config, with_mib, written};
+ghost use Rattle.cfdp_run.specs.Scripts.{Head as SaidInHead, asked, script_at_first, begun, cancelled_at, clock_set, expected, stage_filestore, heard_at, in_head, line_step, mib_of, command_obeyed, passed_at, play_of, progress_of, head_protected, put, put_file, with_config, with_mib, written};
 ghost use Rattle.cfdp_run.specs.Stages.{head_of, play_from};
 ghost use Rattle.cfdp_run.specs.code.Stages.{IsFit};
 ghost use Rattle.cfdp_run.specs.Stops.{NoMemory, ScriptEnd as Why, stop_of};
@@ -215,11 +215,9 @@ impl RunScript {
         octets: &mut [u8],
         text: &mut Vec<u8>,
     ) -> Result<(), ScriptStop>
-        ensures ok { OnOk result (Leads (written (heard_at (play_of (script_of self.old))
-            (time_of (play_of (script_of self.old)) now) octets.old))
+        ensures ok { OnOk result (Leads (written (heard_at (play_of (script_of self.old)) now octets.old))
             (script_of self.new) text.old.items text.new.items) }
-        ensures err { IfErr result (StopsScript (written (heard_at (play_of (script_of self.old))
-            (time_of (play_of (script_of self.old)) now) octets.old))) }
+        ensures err { IfErr result (StopsScript (written (heard_at (play_of (script_of self.old)) now octets.old))) }
         ensures kept { OnErr result (text.new.items ≡ text.old.items) }
     {
         self.begin(alloc)?;
@@ -238,10 +236,9 @@ impl RunScript {
         id: TransactionId,
         text: &mut Vec<u8>,
     ) -> Result<(), ScriptStop>
-        ensures ok { OnOk result (Leads (written (cancelled_at (play_of (script_of self.old))
-            (time_of (play_of (script_of self.old)) now) id)) (script_of self.new) text.old.items text.new.items) }
-        ensures err { IfErr result (StopsScript (written (cancelled_at (play_of (script_of self.old))
-            (time_of (play_of (script_of self.old)) now) id))) }
+        ensures ok { OnOk result (Leads (written (cancelled_at (play_of (script_of self.old)) now id))
+            (script_of self.new) text.old.items text.new.items) }
+        ensures err { IfErr result (StopsScript (written (cancelled_at (play_of (script_of self.old)) now id))) }
         ensures kept { OnErr result (text.new.items ≡ text.old.items) }
     {
         self.begin(alloc)?;
@@ -254,10 +251,9 @@ impl RunScript {
 
     /// Time passes.
     fn pass(&mut self, alloc: Global, now: u64, text: &mut Vec<u8>) -> Result<(), ScriptStop>
-        ensures ok { OnOk result (Leads (written (passed_at (play_of (script_of self.old))
-            (time_of (play_of (script_of self.old)) now))) (script_of self.new) text.old.items text.new.items) }
-        ensures err { IfErr result (StopsScript (written (passed_at (play_of (script_of self.old))
-            (time_of (play_of (script_of self.old)) now)))) }
+        ensures ok { OnOk result (Leads (written (passed_at (play_of (script_of self.old)) now))
+            (script_of self.new) text.old.items text.new.items) }
+        ensures err { IfErr result (StopsScript (written (passed_at (play_of (script_of self.old)) now))) }
         ensures kept { OnErr result (text.new.items ≡ text.old.items) }
     {
         self.begin(alloc)?;
@@ -265,6 +261,21 @@ impl RunScript {
             unreachable!()
         };
         play.pass(alloc, now)?;
+        Ok(text.extend_from_slice(play.lines())?)
+    }
+
+    /// The driver's clock was set.
+    fn set_clock(&mut self, alloc: Global, now: u64, text: &mut Vec<u8>) -> Result<(), ScriptStop>
+        ensures ok { OnOk result (Leads (written (clock_set (play_of (script_of self.old)) now))
+            (script_of self.new) text.old.items text.new.items) }
+        ensures err { IfErr result (StopsScript (written (clock_set (play_of (script_of self.old)) now))) }
+        ensures kept { OnErr result (text.new.items ≡ text.old.items) }
+    {
+        self.begin(alloc)?;
+        let Some(play) = &mut self.play else {
+            unreachable!()
+        };
+        play.set_clock(alloc, now)?;
         Ok(text.extend_from_slice(play.lines())?)
     }
 
@@ -390,6 +401,7 @@ impl RunScript {
             }
             RunCommand::Cancel { now, id } => self.cancel(alloc, now, id, text),
             RunCommand::Pass { now } => self.pass(alloc, now, text),
+            RunCommand::SetClock { now } => self.set_clock(alloc, now, text),
             RunCommand::Get(path) => self.get(alloc, &path, text),
             RunCommand::Gaps(id) => self.gaps(alloc, id, text),
             RunCommand::Phase(id) => self.phase(alloc, id, text),

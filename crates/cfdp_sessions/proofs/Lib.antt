@@ -1,3 +1,5 @@
+pub mod ClosedNames
 pub mod Indexes
 pub mod Names
 pub mod Setters
+pub mod SourceIndexes

@@ -22,6 +22,7 @@ pub record SessionFields : Type 0 where
   pub alive_at : ℕ
   pub cause : Option ℕ
   pub is_abandoned : Bool
+  pub has_changed : Bool  -- where it waits: the file was installed, or a request performed
   pub finished : List ℕ
 
 abbrev pub session_id : SessionFields → TransactionId

@@ -50,6 +50,8 @@ pub struct Session {
     pub cause: Option<u8>,
     /// It was abandoned: its outcome is for nobody.
     pub is_abandoned: bool,
+    /// While it waits for the acknowledgement: its file was installed, or a request was performed. `false` before.
+    pub has_changed: bool,
     /// The octets of its Finished PDU, once that was sent. Empty before.
     pub finished: Vec<u8>,
 }
@@ -68,6 +70,7 @@ impl Model for Session {
       alive_at = s.alive_at;
       cause = s.cause;
       is_abandoned = s.is_abandoned;
+      has_changed = s.has_changed;
       finished = s.finished.items;
     } };
 

@@ -201,20 +201,23 @@ impl Sessions {
     }
 
     /// The session with this index waits from now on for the acknowledgement of its Finished PDU, whose octets are
-    /// given. Takes no memory. In constant time.
-    pub fn wait(&mut self, index: usize, finished: Vec<u8>, timer: Timer)
+    /// given. `has_changed` says whether its file was installed or a request was performed. Takes no memory. In
+    /// constant time.
+    pub fn wait(&mut self, index: usize, finished: Vec<u8>, has_changed: bool, timer: Timer)
         requires here { index < length self.old }
         requires short { vec_len finished ≤ longest_finished }
         requires counted { timer.count ≤ timer.since }
         ensures { (session : SessionFields) → slice_get self.old index ≡ Some session
             → self.new ≡ replaced self.old (record session {
               stage = Waiting;
+              has_changed = has_changed;
               finished = finished.items;
               timer = timer;
             }) }
     {
         let session = &mut self.list[index];
         session.stage = Stage::Waiting;
+        session.has_changed = has_changed;
         session.finished = finished;
         session.timer = timer;
     }

@@ -6,6 +6,7 @@
 --     timer_in ss due           the timer that is due, with its session instead of its index
 --     is_expired                            whether a timer has expired
 --     Turns M N a i             from M to N with the answer a is the turn of the input i; M is as late as i
+--     HavePlaces R              the source of each session has a place
 --     IsWholeReceiver R         what is true of a receiver at all times
 --     IsAsking, IsSendable      what is sent fits its PDUs
 --     awaited_of W s            what is missing of a transaction that waits for it
@@ -13,6 +14,7 @@
 --     with_session M new        the session of the same name is replaced
 --     begins_no_gap R id piece  file data begins no gap that is asked for at once
 --     IsInOrder R h piece index     file data for this session is only kept: no PDU is sent with it
+--     machine_closed M s        the session is closed, and its name remembered
 --     machine_heard U M s       what was handed to the core since the world U is heard by a session
 use Rattle.std.specs.Prelude.{◌≡◌, ⊤, ℕ, ◌≤◌, ◌<◌, ◌^◌, Bool, true, false, not, ◌||◌, if◌then◌else◌, nat_le, List, [], length, map, slice_get, All, Option, Some, None, IfSome, IsTrue}
 use Rattle.cfdp_pdus.specs.Bits.{fss}
@@ -27,14 +29,15 @@ use Rattle.cfdp_directives.specs.declared.keep_alive.KeepAlive.{KeepAlive}
 use Rattle.cfdp_retransmission.specs.Naks.{SegmentRequest, naks}
 use Rattle.cfdp_retransmission.specs.declared.timer.Expiry.{Expiry}
 use Rattle.cfdp_retransmission.specs.declared.timer.Expiry.TheVariants.{NotDue, Again, Limit}
-use Rattle.cfdp_sessions.specs.Sessions.{SessionFields, session_id, replaced}
+use Rattle.cfdp_sessions.specs.Closed.{has_source, with_closed}
+use Rattle.cfdp_sessions.specs.Sessions.{SessionFields, session_id, replaced, without_session}
 use Rattle.cfdp_sessions.specs.declared.session.Stage.TheVariants.{Known}
 use Rattle.cfdp_transactions.specs.Entry.{Entry, id_of, takes_data}
 use Rattle.cfdp_transactions.specs.declared.outcome.Outcome.{Outcome}
 use Rattle.cfdp_transactions.specs.World.{World, entry_of}
 use Rattle.cfdp_transactions.specs.Next.{run, replies}
 use Rattle.cfdp_receiver.specs.declared.indication.Became.{Became}
-use Rattle.cfdp_receiver.specs.State.{State, Input, is_closed, session_of, at_of}
+use Rattle.cfdp_receiver.specs.State.{State, Input, moments, is_closed, session_of, at_of}
 use Rattle.cfdp_receiver.specs.declared.timing.DueTimer.{DueTimer}
 use Rattle.cfdp_receiver.specs.declared.timing.DueTimer.TheVariants as timers
 use Rattle.cfdp_receiver.specs.Due.{Due, Nothing_due, Stage_due, Alive_due, is_receiving_at}
@@ -96,7 +99,7 @@ parts_after R i = parts_of R (world_after R i) (replies R.world (events_of R i))
 pub record Turns (M N : StateMachineFields) (a : AnswerParts) (i : Input) : Type 0 where
   pub world : N.state.world ≡ world_after M.state i
   pub mib : N.state.mib ≡ M.state.mib
-  pub now : N.state.now ≡ M.state.now
+  pub now : moments N.state ≡ moments M.state
   pub sessions : N.state.sessions ≡ (parts_after M.state i).sessions
   pub closed : N.state.closed ≡ (parts_after M.state i).closed
   pub answer : answer_in N a ≡ (parts_after M.state i).answer
@@ -124,18 +127,31 @@ with_session M new = record M { state = record M.state { sessions = replaced M.s
 abbrev pub machine_heard : World → StateMachineFields → SessionFields → StateMachineFields
 machine_heard U M s = with_session M (heard_session (record M.state { world = U }) M.state.world s)
 
+abbrev pub machine_closed : StateMachineFields → SessionFields → StateMachineFields
+machine_closed M s = record M {
+  state = record M.state {
+    sessions = without_session M.state.sessions (session_id s);
+    closed = with_closed M.state.closed s;
+  };
+}
+
 -- the core's world is what it is by now
 pub record Concludes (M N : StateMachineFields) (a : AnswerParts) (s : SessionFields) (o : Outcome) : Type 0 where
   pub world : N.state.world ≡ M.state.world
   pub mib : N.state.mib ≡ M.state.mib
-  pub now : N.state.now ≡ M.state.now
+  pub now : moments N.state ≡ moments M.state
   pub sessions : N.state.sessions ≡ (finish_session M.state s o).sessions
   pub closed : N.state.closed ≡ (finish_session M.state s o).closed
   pub answer : answer_in N a ≡ (finish_session M.state s o).answer
 
+abbrev pub HavePlaces : State → Type 0
+HavePlaces R = (id : TransactionId) (s : SessionFields) → session_of R id ≡ Some s →
+    has_source R.closed id.source ≡ true
+
 -- what is true of a receiver at all times
 pub record IsWholeReceiver (R : State) : Type 0 where
   pub known : AreKnown R
+  pub places : HavePlaces R
   pub over : (id : TransactionId) → is_closed R id ≡ true → session_of R id ≡ None
   pub ends : EndsThere R.world
 

@@ -4,7 +4,10 @@ ghost use Rattle.std.specs.Prelude.{◌<◌};
 
 use cfdp_pdus::{Header, condition};
 use cfdp_retransmission::Timer;
-use cfdp_sessions::{ClosedTransactions, Ending, MOST_SESSIONS, Session, Sessions, Stage};
+use cfdp_sessions::{
+    ClosedTransactions, Ending, MOST_CLOSED, MOST_CLOSED_OF_ONE_OCTET, MOST_SESSIONS, Session,
+    Sessions, Stage,
+};
 use cfdp_status::TransactionId;
 use std::alloc::{AllocError, Global};
 
@@ -31,6 +34,7 @@ fn session(alloc: Global, source: u64, number: u64, alive_at: u64) -> Session {
         alive_at,
         cause: None,
         is_abandoned: false,
+        has_changed: false,
         finished: Vec::new(alloc),
     }
 }
@@ -161,6 +165,7 @@ fn change(
         Call::Wait => sessions.wait(
             index,
             vec![in alloc; 1, 2, 3]?,
+            true,
             Timer { since: 7, count: 0 },
         ),
     }
@@ -181,6 +186,7 @@ struct Kept {
     alive_at: u64,
     cause: Option<u8>,
     is_abandoned: bool,
+    has_changed: bool,
     octets: usize,
 }
 
@@ -190,6 +196,7 @@ const BEFORE: Kept = Kept {
     alive_at: 0,
     cause: None,
     is_abandoned: false,
+    has_changed: false,
     octets: 0,
 };
 
@@ -200,6 +207,7 @@ fn kept_of(session: &Session) -> Kept {
         alive_at: session.alive_at,
         cause: session.cause,
         is_abandoned: session.is_abandoned,
+        has_changed: session.has_changed,
         octets: session.finished.len(),
     }
 }
@@ -258,6 +266,7 @@ static ROWS: [Row; 6] = [
         after: Kept {
             stage: Stage::Waiting,
             timer: Timer { since: 7, count: 0 },
+            has_changed: true,
             octets: 3,
             ..BEFORE
         },
@@ -310,34 +319,124 @@ fn one_is_replaced(rt: HostRuntime) -> Result<(), AllocError> {
     Ok(())
 }
 
-/// 256 closed transactions of one source, numbered from 0.
+/// Remembers a transaction of a source that has a place.
+fn close(closed: &mut ClosedTransactions, id: TransactionId, most: Most, has_changed: bool) {
+    if closed.has_room_for(id.source) {
+        closed.add_source(id.source);
+    }
+    if closed.has_source(id.source) {
+        let most = match most {
+            Most::All => MOST_CLOSED,
+            Most::Half => MOST_CLOSED_OF_ONE_OCTET,
+        };
+        closed.add(id, most, has_changed);
+    }
+}
+
+/// How many names of a source are kept.
+#[derive(Clone, Copy)]
+enum Most {
+    All,
+    Half,
+}
+
+/// 256 closed transactions of one source, numbered from 0, that changed something.
 fn closed(alloc: Global) -> Result<ClosedTransactions, AllocError> {
     let mut closed = ClosedTransactions::new(alloc)?;
     for number in 0..256u64 {
-        closed.add(id(1, number));
+        close(&mut closed, id(1, number), Most::All, true);
     }
     Ok(closed)
 }
 
 #[test]
 fn fills_and_forgets(rt: HostRuntime) -> Result<(), AllocError> {
+    let sessions = Sessions::new(rt.alloc())?;
     let mut closed = closed(rt.alloc())?;
     assert!(&rt; !closed.has_forgotten(), "256 names");
     for number in 0..256u64 {
         assert!(&rt; closed.remembers(id(1, number)), "number {number}");
     }
     assert!(&rt; !closed.remembers(id(2, 0)), "another source");
-    closed.add(id(1, 256));
+    close(&mut closed, id(1, 256), Most::All, true);
     assert!(&rt; closed.has_forgotten(), "257 names");
     assert!(&rt; !closed.remembers(id(1, 0)), "the oldest is dropped");
     assert!(&rt;
         closed.remembers(id(1, 1)) && closed.remembers(id(1, 256)),
         "the others stay"
     );
-    closed.clear();
+    closed.forget(sessions.as_slice());
     assert!(&rt;
         !closed.remembers(id(1, 256)) && closed.has_forgotten(),
         "cleared"
+    );
+    assert!(&rt; !closed.has_source(1), "the place is free");
+    Ok(())
+}
+
+#[test]
+fn keeps_half_of_one_octet(rt: HostRuntime) -> Result<(), AllocError> {
+    let mut closed = ClosedTransactions::new(rt.alloc())?;
+    for number in 0..128u64 {
+        close(&mut closed, id(1, number), Most::Half, true);
+    }
+    assert!(&rt;
+        closed.remembers(id(1, 0)) && !closed.has_forgotten(),
+        "128 names"
+    );
+    close(&mut closed, id(1, 128), Most::Half, true);
+    assert!(&rt;
+        !closed.remembers(id(1, 0)) && closed.remembers(id(1, 1)) && closed.remembers(id(1, 128)),
+        "129 names"
+    );
+    assert!(&rt; closed.has_forgotten(), "one was dropped");
+    Ok(())
+}
+
+#[test]
+fn drops_first_what_changed_nothing(rt: HostRuntime) -> Result<(), AllocError> {
+    let mut closed = ClosedTransactions::new(rt.alloc())?;
+    close(&mut closed, id(1, 0), Most::Half, true);
+    for number in 1..300u64 {
+        close(&mut closed, id(1, number), Most::Half, false);
+    }
+    assert!(&rt; closed.remembers(id(1, 0)), "the oldest changed something");
+    assert!(&rt;
+        !closed.remembers(id(1, 172)) && closed.remembers(id(1, 173)),
+        "127 of those that changed nothing stay"
+    );
+    Ok(())
+}
+
+#[test]
+fn keeps_sources_apart(rt: HostRuntime) -> Result<(), AllocError> {
+    let mut sessions = Sessions::new(rt.alloc())?;
+    let mut closed = ClosedTransactions::new(rt.alloc())?;
+    for source in 0..16u64 {
+        close(&mut closed, id(source, 5), Most::All, true);
+    }
+    for number in 0..600u64 {
+        close(&mut closed, id(9, number), Most::All, true);
+    }
+    for source in 0..16u64 {
+        assert!(&rt;
+            closed.remembers(id(source, 5)) == (source != 9),
+            "source {source}"
+        );
+    }
+    assert!(&rt;
+        closed.has_room_for(15) && !closed.has_room_for(16),
+        "16 places"
+    );
+    add(&mut sessions, session(rt.alloc(), 3, 0, 0));
+    closed.forget(sessions.as_slice());
+    assert!(&rt;
+        closed.has_source(3) && !closed.has_source(4),
+        "3 has a session"
+    );
+    assert!(&rt;
+        !closed.remembers(id(3, 5)) && closed.has_room_for(16),
+        "room again"
     );
     Ok(())
 }

@@ -36,6 +36,7 @@ const MIB: Mib = Mib {
     nak_mode: NakMode::Deferred,
     has_crc: false,
     longest_nak: 65_535,
+    most_ahead: None,
 };
 
 /// The longest PDU that comes.
@@ -69,8 +70,12 @@ pub(super) enum Input {
     Forget,
     /// That many other transactions begin.
     Others(u8),
-    /// That many other transactions, 256 at most, begin, are cancelled, and are closed.
-    Closed(u16),
+    /// That many other transactions of a source, 250 at most, begin, are cancelled, and are closed.
+    Closed(u8, u8),
+    /// A transaction of each of that many other sources begins.
+    Sources(u8),
+    /// A transaction of each of that many other sources begins, is cancelled, and is closed.
+    Places(u8),
 }
 
 impl Input {
@@ -96,7 +101,9 @@ impl Input {
             Input::Cancel => "Cancel",
             Input::Forget => "Forget",
             Input::Others(_) => "Others",
-            Input::Closed(_) => "Closed",
+            Input::Closed(_, _) => "Closed",
+            Input::Sources(_) => "Sources",
+            Input::Places(_) => "Places",
         }
     }
 }
@@ -167,7 +174,7 @@ pub(super) struct Actor {
 /// A receiver of this configuration, over an empty filestore.
 fn made(alloc: Global, config: Config) -> Result<Result<Receiver, NotMade>, AllocError> {
     let entity = Entity::new(alloc, config)?;
-    Ok(Receiver::new(alloc, MIB, entity))
+    Ok(Receiver::new(alloc, MIB, entity).map_err(|unmade| unmade.why))
 }
 
 /// A receiver, made once more where it was out of memory. `None` of a configuration that is out of range.
@@ -334,23 +341,37 @@ impl Actor {
     }
 
     /// The Metadata PDU of another transaction, without a file.
-    fn hear_other(&mut self, alloc: Global, number: u8) -> Result<(), AllocError> {
+    fn hear_other(&mut self, alloc: Global, source: u8, number: u8) -> Result<(), AllocError> {
         self.receive(
             alloc,
-            &[0x20, 0, 8, 0, 3, number, 2, 7, 0x40, 0, 0, 0, 0, 0, 0],
+            &[0x20, 0, 8, 0, source, number, 2, 7, 0x40, 0, 0, 0, 0, 0, 0],
         )
     }
 
-    /// Another transaction begins, is cancelled, and is closed.
-    fn close_other(&mut self, alloc: Global, number: u8) -> Result<(), AllocError> {
-        self.hear_other(alloc, number)?;
+    /// Another transaction begins, if it can, is cancelled, and is closed: whether it began.
+    fn close_other(&mut self, alloc: Global, source: u8, number: u8) -> Result<bool, AllocError> {
+        self.hear_other(alloc, source, number)?;
         let id = TransactionId {
-            source: 3,
+            source: u64::from(source),
             number: u64::from(number),
         };
+        let has_begun = self.receiver.session(id).is_some();
         self.receiver.cancel(self.moment, id);
         self.finish(alloc)?;
-        self.receive(alloc, &[0x20, 0, 3, 0, 3, number, 2, 6, 0x51, 0xf2])
+        self.receive(alloc, &[0x20, 0, 3, 0, source, number, 2, 6, 0x51, 0xf2])?;
+        Ok(has_begun)
+    }
+
+    /// How many of 300 transactions of one source begin, each after the one before was closed. Their numbers have one
+    /// octet, and come round.
+    pub(super) fn begun_in_turn(&mut self, alloc: Global) -> Result<u16, AllocError> {
+        let mut count = 0u16;
+        for number in 0..300u16 {
+            if self.close_other(alloc, 7, (number % 256) as u8)? {
+                count = count.saturating_add(1);
+            }
+        }
+        Ok(count)
     }
 
     /// A timer is served at each of the moments.
@@ -373,13 +394,25 @@ impl Actor {
             Input::Time(moments) => return self.pass(alloc, moments),
             Input::Others(count) => {
                 for number in 0..count {
-                    self.hear_other(alloc, number)?;
+                    self.hear_other(alloc, 3, number)?;
                 }
                 return Ok(());
             }
-            Input::Closed(count) => {
+            Input::Closed(source, count) => {
                 for number in 0..count {
-                    self.close_other(alloc, (number % 256) as u8)?;
+                    self.close_other(alloc, source, number.wrapping_add(6))?;
+                }
+                return Ok(());
+            }
+            Input::Places(count) => {
+                for number in 0..count {
+                    self.close_other(alloc, number.wrapping_add(10), 0)?;
+                }
+                return Ok(());
+            }
+            Input::Sources(count) => {
+                for number in 0..count {
+                    self.hear_other(alloc, number.wrapping_add(10), 0)?;
                 }
                 return Ok(());
             }

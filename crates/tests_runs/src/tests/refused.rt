@@ -80,7 +80,6 @@ const HELD: Steps = &[
     (
         Input::Metadata,
         "\
-            send 2800110001050208000000000000000f000000000000000f\n\
             tell metadata 1/5\n\
             1/5 admitted blocks 2 steps 2\n",
     ),

@@ -43,6 +43,93 @@ static EXECUTING: Scene = Scene {
     ],
 };
 
+static LIST_BEGUN: Scene = Scene {
+    name: "executing",
+    is_acknowledged: true,
+    before: &[
+        // With a request that creates the file "g".
+        Input::Pdu("20000f0001050207400000000f017301660003000167"),
+        Input::AllData,
+        Input::Eof,
+        Input::Work,
+    ],
+    cases: &[
+        (Input::Metadata, "1/5 duplicate\n", "executing"),
+        (Input::Data, "1/5 idle\n", "executing"),
+        (
+            Input::Eof,
+            "\
+            send 28000300010502064001\n\
+            1/5 duplicate\n",
+            "executing",
+        ),
+        (
+            Input::EofCancel,
+            "\
+            send 280003000105020640f1\n\
+            1/5 list-begun\n",
+            "executing",
+        ),
+        (Input::AckEof, "1/5 idle\n", "executing"),
+        (Input::AckFinished, "1/5 idle\n", "executing"),
+        (Input::Time(&[1000]), "", "executing"),
+        (Input::Work, "1/5 performed 00\n", "over"),
+        (Input::Finish, "", "executing"),
+        (Input::PromptNak, "1/5 idle\n", "executing"),
+        (Input::PromptKeepAlive, "1/5 idle\n", "executing"),
+        (Input::Nak, "pdu not-ours\n", "executing"),
+        (Input::KeepAlive, "pdu not-ours\n", "executing"),
+        (Input::Finished, "pdu not-ours\n", "executing"),
+        (Input::Cancel, "1/5 list-begun\n", "executing"),
+        (Input::AllData, "1/5 idle\n", "executing"),
+        (Input::Forget, "", "executing"),
+    ],
+};
+
+// A list that has begun goes on to its end, whoever cancels it.
+
+static FINISHED_AFTER_ITS_SENDERS_CANCEL: Scene = Scene {
+    name: "over",
+    is_acknowledged: true,
+    before: &[
+        Input::Pdu("20000f0001050207400000000f017301660003000167"),
+        Input::AllData,
+        Input::Eof,
+        Input::Work,
+        Input::EofCancel,
+        Input::Work,
+    ],
+    cases: &[(
+        Input::Finish,
+        "\
+        send 280008000105020502010400016700\n\
+        tell finished 1/5 0 complete 2\n\
+        1/5 finished\n",
+        "waiting",
+    )],
+};
+
+static FINISHED_AFTER_A_CANCEL: Scene = Scene {
+    name: "over",
+    is_acknowledged: true,
+    before: &[
+        Input::Pdu("20000f0001050207400000000f017301660003000167"),
+        Input::AllData,
+        Input::Eof,
+        Input::Work,
+        Input::Cancel,
+        Input::Work,
+    ],
+    cases: &[(
+        Input::Finish,
+        "\
+        send 280008000105020502010400016700\n\
+        tell finished 1/5 0 complete 2\n\
+        1/5 finished\n",
+        "waiting",
+    )],
+};
+
 static ENDED: Scene = Scene {
     name: "over",
     is_acknowledged: true,
@@ -373,6 +460,7 @@ static CLOSED_UNACKNOWLEDGED: Scene = Scene {
 #[test]
 fn executing(rt: HostRuntime) -> Result<(), AllocError> {
     each_input_holds(&rt, rt.alloc(), &EXECUTING)?;
+    each_input_holds(&rt, rt.alloc(), &LIST_BEGUN)?;
     each_input_holds(&rt, rt.alloc(), &EXECUTING_UNACKNOWLEDGED)
 }
 
@@ -388,6 +476,10 @@ fn over(rt: HostRuntime) -> Result<(), AllocError> {
 
 #[test]
 fn calls(rt: HostRuntime) -> Result<(), AllocError> {
+    let finished = [&FINISHED_AFTER_ITS_SENDERS_CANCEL, &FINISHED_AFTER_A_CANCEL];
+    for scene in finished {
+        all_hold(&rt, rt.alloc(), scene)?;
+    }
     for scene in [&WAITING, &CLOSED, &CLOSED_UNACKNOWLEDGED] {
         all_hold(&rt, rt.alloc(), scene)?;
     }

@@ -1,6 +1,6 @@
 //! A table that is full, and names that are remembered or forgotten.
 
-use super::{Input, Scene, all_hold, each_input_holds};
+use super::{Actor, Input, Scene, all_hold, each_input_holds};
 use std::alloc::AllocError;
 
 static FORGOTTEN: Scene = Scene {
@@ -62,7 +62,7 @@ static REMEMBERED: Scene = Scene {
         Input::Cancel,
         Input::Finish,
         Input::AckFinished,
-        Input::Closed(255),
+        Input::Closed(1, 127),
     ],
     cases: &[
         (Input::Metadata, "1/5 duplicate\n", "closed"),
@@ -84,7 +84,7 @@ static DROPPED: Scene = Scene {
         Input::Cancel,
         Input::Finish,
         Input::AckFinished,
-        Input::Closed(256),
+        Input::Closed(1, 128),
     ],
     cases: &[
         (
@@ -102,6 +102,73 @@ static DROPPED: Scene = Scene {
             "undefined",
         ),
     ],
+};
+
+// 250 names of another source push out none of this one
+static APART: Scene = Scene {
+    name: "closed",
+    is_acknowledged: true,
+    before: &[
+        Input::Metadata,
+        Input::Cancel,
+        Input::Finish,
+        Input::AckFinished,
+        Input::Closed(3, 250),
+    ],
+    cases: &[(Input::Metadata, "1/5 duplicate\n", "closed")],
+};
+
+static NO_PLACE: Scene = Scene {
+    name: "none",
+    is_acknowledged: true,
+    before: &[Input::Sources(16)],
+    cases: &[
+        (Input::Metadata, "1/5 sources-full\n", "none"),
+        (Input::Eof, "1/5 sources-full\n", "none"),
+        (Input::Data, "1/5 unknown\n", "none"),
+        (
+            Input::EofCancel,
+            "\
+            send 280003000105020640f3\n\
+            1/5 unknown\n",
+            "none",
+        ),
+    ],
+};
+
+// all 16 places are taken, by sources without a session: forgetting makes room
+static ROOM_AGAIN: Scene = Scene {
+    name: "undefined",
+    is_acknowledged: true,
+    before: &[Input::Places(16), Input::Forget],
+    cases: &[(
+        Input::Metadata,
+        "\
+        tell metadata 1/5\n\
+        1/5 admitted blocks 2 steps 2\n",
+        "receiving",
+    )],
+};
+
+static NO_PLACE_BUT_CLOSED: Scene = Scene {
+    name: "none",
+    is_acknowledged: true,
+    before: &[Input::Places(16)],
+    cases: &[(Input::Metadata, "1/5 sources-full\n", "none")],
+};
+
+// one place is left
+static LAST_PLACE: Scene = Scene {
+    name: "none",
+    is_acknowledged: true,
+    before: &[Input::Sources(15)],
+    cases: &[(
+        Input::Metadata,
+        "\
+        tell metadata 1/5\n\
+        1/5 admitted blocks 2 steps 2\n",
+        "receiving",
+    )],
 };
 
 static FULL: Scene = Scene {
@@ -167,7 +234,6 @@ static FULL_WITH_IT: Scene = Scene {
         (
             Input::Metadata,
             "\
-            send 2800110001050208000000000000000f000000000000000f\n\
             tell metadata 1/5\n\
             1/5 admitted blocks 2 steps 2\n",
             "awaiting",
@@ -208,7 +274,26 @@ static FULL_AND_CLOSED: Scene = Scene {
 fn names(rt: HostRuntime) -> Result<(), AllocError> {
     each_input_holds(&rt, rt.alloc(), &FORGOTTEN)?;
     all_hold(&rt, rt.alloc(), &REMEMBERED)?;
-    all_hold(&rt, rt.alloc(), &DROPPED)
+    all_hold(&rt, rt.alloc(), &DROPPED)?;
+    all_hold(&rt, rt.alloc(), &APART)
+}
+
+#[test]
+fn places(rt: HostRuntime) -> Result<(), AllocError> {
+    all_hold(&rt, rt.alloc(), &NO_PLACE)?;
+    all_hold(&rt, rt.alloc(), &NO_PLACE_BUT_CLOSED)?;
+    all_hold(&rt, rt.alloc(), &ROOM_AGAIN)?;
+    all_hold(&rt, rt.alloc(), &LAST_PLACE)
+}
+
+#[test]
+fn numbers_of_one_octet_come_round(rt: HostRuntime) -> Result<(), AllocError> {
+    let count = match Actor::new(rt.alloc(), true, 0)? {
+        Some(mut actor) => actor.begun_in_turn(rt.alloc())?,
+        None => 0,
+    };
+    assert!(&rt; count == 300, "{count} of 300 begin");
+    Ok(())
 }
 
 #[test]

@@ -1,5 +1,7 @@
-use Rattle.std.proofs.Common.{ℕ, refl, ap, ◌∙◌}
+use Rattle.std.proofs.Common.{ℕ, refl, sym, ap, ◌∙◌}
 use Rattle.cfdp_receiver.specs.State.{Expire}
+use Rattle.cfdp_receiver.specs.StateMachine.{StateMachineFields}
+use Rattle.cfdp_receiver.specs.Turning.{is_too_far}
 use Rattle.cfdp_receiver.specs.code.StateMachine.{Turns, at_moment}
 use Rattle.cfdp_receiver.proofs.CallsAnswer.{moved}
 use Rattle.cfdp_receiver.proofs.LateTurns.{turned}
@@ -15,8 +17,10 @@ as_it_came c =
 
 pub invariant_of-self : goal.invariant_of-self
 invariant_of-self c =
-    whole_turn c.args.self.now c.expire.new.self c.expire.result (Expire c.args.now)
+    whole_turn c.args.self.now c.expire.new.self c.expire.result (Expire c.args.now) refl
     (c.stays_whole.ensures (Expire c.args.now)) (as_it_came (goal.at.invariant_of-self c).After-expire)
 
 pub returns : goal.returns
-returns c = turned c.args.self.now c.expire.new.self c.expire.result (Expire c.args.now) (as_it_came (goal.at.returns c).After-expire)
+returns c = turned c.args.self.now c.expire.new.self c.expire.result (Expire c.args.now) refl
+    (sym (c.is_too_far.ensures ∙ ap (λ (m : StateMachineFields). is_too_far m.state c.args.now) c.self.view_is) ∙ c.if-is_too_far.false)
+    (as_it_came (goal.at.returns c).After-expire)

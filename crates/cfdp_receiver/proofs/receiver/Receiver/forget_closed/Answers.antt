@@ -1,9 +1,10 @@
-use Rattle.std.proofs.Common.{sym, subst, ◌∙◌}
+use Rattle.std.proofs.Common.{refl, sym, subst, ◌∙◌}
 use Rattle.cfdp_receiver.specs.State.{ForgetAsked}
 use Rattle.cfdp_receiver.specs.StateMachine.{StateMachineFields}
 use Rattle.cfdp_receiver.specs.code.StateMachine.{Turns, at_moment}
 use Rattle.cfdp_receiver.proofs.CallsAnswer.{at_no_moment}
 use Rattle.cfdp_receiver.proofs.LateTurns.{turned}
+use Rattle.cfdp_receiver.proofs.OwnTime.{near_zero}
 use Rattle.cfdp_receiver.proofs.StaysWhole.{whole_turn}
 use Rattle.cfdp_receiver.proofs.receiver.Receiver.forget_closed.Goals as goal
 use Rattle.cfdp_receiver.proofs.receiver.Receiver.forget_closed.Goals.{After-forget}
@@ -15,8 +16,9 @@ as_it_came c =
 
 pub invariant_of-self : goal.invariant_of-self
 invariant_of-self c =
-    whole_turn c.args.self.now c.forget.new.self c.forget.result ForgetAsked
+    whole_turn c.args.self.now c.forget.new.self c.forget.result ForgetAsked refl
     (c.stays_whole.ensures ForgetAsked) (as_it_came (goal.at.invariant_of-self c).After-forget)
 
 pub returns : goal.returns
-returns c = turned c.args.self.now c.forget.new.self c.forget.result ForgetAsked (as_it_came (goal.at.returns c).After-forget)
+returns c = turned c.args.self.now c.forget.new.self c.forget.result ForgetAsked refl (near_zero c.args.self.now.state)
+    (as_it_came (goal.at.returns c).After-forget)

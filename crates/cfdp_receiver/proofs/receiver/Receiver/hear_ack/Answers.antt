@@ -15,8 +15,9 @@ as_it_came c =
 
 pub invariant_of-self : goal.invariant_of-self
 invariant_of-self c =
-    whole_turn c.args.self.now c.ack.new.self c.ack.result (AckPdu c.args.now c.args.header.now c.args.ack)
+    whole_turn c.args.self.now c.ack.new.self c.ack.result (AckPdu c.args.now c.args.header.now c.args.ack) refl
     (c.stays_whole.ensures (AckPdu c.args.now c.args.header.now c.args.ack)) (as_it_came (goal.at.invariant_of-self c).After-ack)
 
 pub returns : goal.returns
-returns c = turned c.args.self.now c.ack.new.self c.ack.result (AckPdu c.args.now c.args.header.now c.args.ack) (as_it_came (goal.at.returns c).After-ack)
+returns c = turned c.args.self.now c.ack.new.self c.ack.result (AckPdu c.args.now c.args.header.now c.args.ack) refl c.requires.timely
+    (as_it_came (goal.at.returns c).After-ack)

@@ -1,8 +1,11 @@
 use Rattle.std.specs.Prelude.{Ok}
-use Rattle.std.proofs.Common.{rules, ◌≡◌}
-use Rattle.cfdp_receiver.specs.State.{MetadataPdu, EofPdu, AckPdu, PromptPdu, OtherPdu}
+use Rattle.std.proofs.Common.{rules, ◌≡◌, true, sym, ap, ◌∙◌}
+use Rattle.cfdp_receiver.specs.State.{MetadataPdu, EofPdu, AckPdu, PromptPdu, OtherPdu, now_of}
 use Rattle.cfdp_receiver.specs.Heard.{input_at}
-use Rattle.cfdp_receiver.proofs.CallsAnswer.{heard_ok}
+use Rattle.cfdp_receiver.specs.StateMachine.{StateMachineFields}
+use Rattle.cfdp_receiver.specs.Turning.{is_too_far}
+use Rattle.cfdp_receiver.specs.code.Heard.{input_of}
+use Rattle.cfdp_receiver.proofs.CallsAnswer.{heard_ok, not_taken, read_at}
 use Rattle.cfdp_receiver.proofs.receiver.Receiver.hear_directed.Goals as goal
 
 pub returns-in-Eof-clause-ok : goal.returns-in-Eof-clause-ok
@@ -34,3 +37,12 @@ returns-in-Metadata-clause-ok c =
     let i = MetadataPdu c.args.now c.in-Metadata.header c.in-Metadata.metadata in
     let read : input_at c.args.now c.args.octets.now ≡ Ok i = search rules in
     heard_ok (input_at c.args.now c.args.octets.now) c.args.self.now c.hear_metadata.new.self i c.hear_metadata.result read c.hear_metadata.ensures.ok
+
+pub returns-then-is_too_far-clause-ok : goal.returns-then-is_too_far-clause-ok
+returns-then-is_too_far-clause-ok c =
+    let d = c.in_ok-directed.directed in
+    let i = input_of c.args.now d in
+    let far : is_too_far c.args.self.now.state (now_of i) ≡ true =
+    ap (is_too_far c.args.self.now.state) (read_at c.args.now d)
+    ∙ sym (c.is_too_far.ensures ∙ ap (λ (m : StateMachineFields). is_too_far m.state c.args.now) c.self.view_is) ∙ c.if-is_too_far.true in
+    (i, c.in_ok-directed.ensures.ok c.args.now, not_taken c.args.self.now c.not_taken.result i far c.not_taken.ensures)

@@ -15,8 +15,9 @@ as_it_came c =
 
 pub invariant_of-self : goal.invariant_of-self
 invariant_of-self c =
-    whole_turn c.args.self.now c.eof.new.self c.eof.result (EofPdu c.args.now c.args.header.now c.args.eof)
+    whole_turn c.args.self.now c.eof.new.self c.eof.result (EofPdu c.args.now c.args.header.now c.args.eof) refl
     (c.stays_whole.ensures (EofPdu c.args.now c.args.header.now c.args.eof)) (as_it_came (goal.at.invariant_of-self c).After-eof)
 
 pub returns : goal.returns
-returns c = turned c.args.self.now c.eof.new.self c.eof.result (EofPdu c.args.now c.args.header.now c.args.eof) (as_it_came (goal.at.returns c).After-eof)
+returns c = turned c.args.self.now c.eof.new.self c.eof.result (EofPdu c.args.now c.args.header.now c.args.eof) refl c.requires.timely
+    (as_it_came (goal.at.returns c).After-eof)

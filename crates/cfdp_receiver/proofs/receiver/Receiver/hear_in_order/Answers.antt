@@ -16,9 +16,9 @@ as_it_came c =
 
 pub invariant_of-self : goal.invariant_of-self
 invariant_of-self c =
-    whole_turn c.args.self.now c.keeps.new.self c.keeps.result (DataPdu c.args.now c.args.header.now c.args.piece.now)
+    whole_turn c.args.self.now c.keeps.new.self c.keeps.result (DataPdu c.args.now c.args.header.now c.args.piece.now) refl
     (c.stays_whole.ensures (DataPdu c.args.now c.args.header.now c.args.piece.now)) (as_it_came (goal.at.invariant_of-self c).After-keeps)
 
 pub returns : goal.returns
-returns c = turned c.args.self.now c.keeps.new.self c.keeps.result (DataPdu c.args.now c.args.header.now c.args.piece.now)
+returns c = turned c.args.self.now c.keeps.new.self c.keeps.result (DataPdu c.args.now c.args.header.now c.args.piece.now) refl c.requires.timely
     (as_it_came (goal.at.returns c).After-keeps)

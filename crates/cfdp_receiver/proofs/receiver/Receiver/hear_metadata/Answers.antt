@@ -1,4 +1,4 @@
-use Rattle.std.proofs.Common.{◌≡◌, subst}
+use Rattle.std.proofs.Common.{◌≡◌, refl, subst}
 use Rattle.std.specs.Prelude.{IfOk, OnErr}
 use Rattle.cfdp_receiver.specs.State.{MetadataPdu}
 use Rattle.cfdp_receiver.specs.StateMachine.{StateMachineFields, AnswerParts}
@@ -14,4 +14,5 @@ invariant_of-self c =
     let v = c.self.view_is in
     let done = subst (λ (X : StateMachineFields). IfOk c.metadata.result (λ (a : AnswerParts). Turns (at_moment c.args.now X) N a i)) v c.metadata.ensures.ok in
     let same = subst (λ (X : StateMachineFields). OnErr c.metadata.result (N ≡ X)) v c.metadata.ensures.unchanged in
-    whole_where_ok M N i c.metadata.result (subst (λ (X : StateMachineFields). IsWholeReceiver X.state) v c.self.invariant) (c.stays_whole.ensures i) done same
+    whole_where_ok M N i c.metadata.result refl (subst (λ (X : StateMachineFields). IsWholeReceiver X.state) v c.self.invariant)
+    (c.stays_whole.ensures i) done same

@@ -15,8 +15,9 @@ as_it_came c =
 
 pub invariant_of-self : goal.invariant_of-self
 invariant_of-self c =
-    whole_turn c.args.self.now c.later.new.self c.other.result (OtherPdu c.args.now c.args.header.now)
+    whole_turn c.args.self.now c.later.new.self c.other.result (OtherPdu c.args.now c.args.header.now) refl
     (c.stays_whole.ensures (OtherPdu c.args.now c.args.header.now)) (as_it_came (goal.at.invariant_of-self c).After-other)
 
 pub returns : goal.returns
-returns c = turned c.args.self.now c.later.new.self c.other.result (OtherPdu c.args.now c.args.header.now) (as_it_came (goal.at.returns c).After-other)
+returns c = turned c.args.self.now c.later.new.self c.other.result (OtherPdu c.args.now c.args.header.now) refl c.requires.timely
+    (as_it_came (goal.at.returns c).After-other)

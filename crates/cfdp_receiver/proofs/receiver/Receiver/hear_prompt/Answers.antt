@@ -16,9 +16,9 @@ as_it_came c =
 
 pub invariant_of-self : goal.invariant_of-self
 invariant_of-self c =
-    whole_turn c.args.self.now c.prompt.new.self c.prompt.result (PromptPdu c.args.now c.args.header.now c.args.prompt)
+    whole_turn c.args.self.now c.prompt.new.self c.prompt.result (PromptPdu c.args.now c.args.header.now c.args.prompt) refl
     (c.stays_whole.ensures (PromptPdu c.args.now c.args.header.now c.args.prompt)) (as_it_came (goal.at.invariant_of-self c).After-prompt)
 
 pub returns : goal.returns
-returns c = turned c.args.self.now c.prompt.new.self c.prompt.result (PromptPdu c.args.now c.args.header.now c.args.prompt)
+returns c = turned c.args.self.now c.prompt.new.self c.prompt.result (PromptPdu c.args.now c.args.header.now c.args.prompt) refl c.requires.timely
     (as_it_came (goal.at.returns c).After-prompt)

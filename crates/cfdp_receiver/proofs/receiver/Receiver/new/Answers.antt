@@ -13,7 +13,7 @@ invariant_of-result c =
     let none =
     ap (λ (X : World). is_some (slice_get (map name_of X.table) 0)) (sym c.core.ensures) ∙ ap is_some (sym c.transaction_at.ensures) ∙ sym c.is_some.ensures
     ∙ c.if-is_some.false in
-    subst IsWholeReceiver (sym c.in-Ok.ensures.state) (whole_begin c.args.mib W (none_named W.table none))
+    subst IsWholeReceiver (sym c.new-in-Ok.ensures.state) (whole_begin c.args.mib W (none_named W.table none))
 
 pub returns-in-Err-clause-err : goal.returns-in-Err-clause-err
 returns-in-Err-clause-err c =

@@ -1,7 +1,8 @@
 use Rattle.std.specs.Prelude.{slice_get}
-use Rattle.std.proofs.Common.{◌≡◌, ◌∷◌, [], false, List, length, Some, refl, sym, ap, ◌∙◌, arith}
+use Rattle.std.proofs.Common.{◌≡◌, ◌∷◌, [], false, Bool, List, length, Some, refl, sym, ap, ◌∙◌, arith}
 use Rattle.cfdp_status.specs.declared.transaction.TransactionId.{TransactionId}
-use Rattle.cfdp_sessions.specs.Sessions.{SessionFields, session_id, replaced}
+use Rattle.cfdp_sessions.specs.Closed.{with_closed}
+use Rattle.cfdp_sessions.specs.Sessions.{SessionFields, session_id, replaced, without_session}
 use Rattle.cfdp_transactions.specs.declared.event.Event.TheVariants.{Cancel as CancelCame, Check as CheckCame}
 use Rattle.cfdp_transactions.specs.declared.reply.Reply.{Reply}
 use Rattle.cfdp_transactions.specs.Next.{next, run}
@@ -12,10 +13,15 @@ use Rattle.cfdp_receiver.specs.State.{At_held, At_awaiting, At_waiting}
 use Rattle.cfdp_receiver.specs.Due.{fault_at, handler_at}
 use Rattle.cfdp_receiver.specs.Handing.{makes_checks, where_known}
 use Rattle.cfdp_receiver.specs.StateMachine.{StateMachineFields}
+use Rattle.cfdp_receiver.specs.code.StateMachine.{machine_closed}
 use Rattle.cfdp_receiver.specs.Turning as Turning
-use Rattle.cfdp_receiver.proofs.LimitsReached.{fault_small, limit_turns, unmoved_held, moved_cancelled, moved_checked, no_checks, acknowledged_none, awaits, puts_cancelled, indicated_word}
+use Rattle.cfdp_receiver.proofs.LimitsReached.{fault_small, indicated_fault, limit_turns, with_lists, unmoved_held, unmoved_waiting, moved_cancelled, moved_checked, no_checks, acknowledged_none, awaits, puts_cancelled, indicated_word}
+use Rattle.cfdp_receiver.proofs.Places.{place_at}
 use Rattle.cfdp_receiver.proofs.state_machine.StateMachine.cancels.Goals as goal
 use Rattle.cfdp_receiver.proofs.state_machine.StateMachine.cancels.Goals.{in-Held, in-Awaiting, in_default, in_default-via-in-Awaiting+else-not-session, in_default-via-in_default}
+
+pub close-requires-clause-place : goal.close-requires-clause-place
+close-requires-clause-place c t at = place_at c.args.self.now.state c.args.index t c.requires.places at
 
 pub ends_here-requires-clause-condition : goal.ends_here-requires-clause-condition
 ends_here-requires-clause-condition c =
@@ -38,6 +44,25 @@ pub set_cause-requires-in_default-clause-condition :
 set_cause-requires-in_default-clause-condition c =
     let s = c.session-session.result.now in
     omega (arith, c.requires.condition s c.session-session.ensures, fault_small s.header.acknowledged c.args.at)
+
+pub returns-in-Waiting : goal.returns-in-Waiting
+returns-in-Waiting c =
+    let M = c.args.self.now in
+    let N = c.close.new.self in
+    let R = M.state in
+    let s = c.session-session.result.now in
+    let e = c.session-session.ensures in
+    let k = c.args.condition in
+    let ack = s.header.acknowledged in
+    let is = c.in-Waiting.is in
+    let shut : N ≡ with_lists M R.world (without_session R.sessions (session_id s)) (with_closed R.closed s) =
+    c.close.ensures s e
+    ∙ ap (λ (b : Bool). machine_closed M (record s { has_changed = b })) (ap (λ (t : SessionFields). t.has_changed) c.session.view_is) in
+    let indicated = indicated_fault N s c.name-id.result c.with_indication.result c.said.result k c.name-id.ensures c.said.ensures c.with_indication.ensures in
+    limit_turns M N c.with_indication.result s At_waiting k Cancel R.world (without_session R.sessions (session_id s)) (with_closed R.closed s)
+    (c.requires.due s e) (sym is ∙ c.requires.at s e) (c.requires.condition s e ∙ ap (fault_at ack) is)
+    (ap (handler_at R.mib ack) (sym is) ∙ c.requires.handler s e)
+    shut (unmoved_waiting R.world s Cancel (sym is ∙ c.requires.at s e)) refl refl indicated
 
 pub returns : goal.returns
 returns c =

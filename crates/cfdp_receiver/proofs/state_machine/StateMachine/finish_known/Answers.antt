@@ -1,6 +1,7 @@
 use Rattle.std.proofs.Common.{◌<◌, length, Option, sym, ap, subst, ◌∙◌, arith}
 use Rattle.std.specs.Prelude.{slice_get, IfSome}
 use Rattle.cfdp_status.specs.declared.transaction.TransactionId.{TransactionId}
+use Rattle.cfdp_sessions.specs.Closed.{has_source}
 use Rattle.cfdp_sessions.specs.Sessions.{SessionFields, AreDistinct, session_id}
 use Rattle.cfdp_transactions.specs.declared.event.Event.TheVariants.{Take}
 use Rattle.cfdp_transactions.specs.declared.outcome.Outcome.{Outcome}
@@ -9,9 +10,10 @@ use Rattle.cfdp_transactions.specs.Next.{next}
 use Rattle.cfdp_transactions.specs.Writable.{IsWritable, finished_octets}
 use Rattle.cfdp_receiver.specs.StateMachine.{StateMachineFields}
 use Rattle.cfdp_receiver.specs.code.StateMachine.{Concludes, at_moment, in_world}
-use Rattle.cfdp_receiver.specs.Turning.{conclusion_of}
+use Rattle.cfdp_receiver.specs.Turning.{conclusion_of, has_changed}
 use Rattle.cfdp_receiver.proofs.Concluding.{caused_is, caused_outcome, finish_taken, follows_indicated, known_outcome}
 use Rattle.cfdp_receiver.proofs.Endings.{caused_writable, finished_short}
+use Rattle.cfdp_receiver.proofs.Places.{place_at}
 use Rattle.cfdp_receiver.proofs.state_machine.StateMachine.finish_known.Goals as goal
 use Rattle.cfdp_receiver.proofs.state_machine.StateMachine.finish_known.Goals.{After-unwrap_or-outcome-inside}
 
@@ -51,6 +53,12 @@ conclude-requires c =
     let short = finished_short (caused_outcome s c.in-Some.outcome) (writable (goal.at.conclude-requires c).After-unwrap_or-outcome-inside) in
     record {
       here = subst (λ (X : StateMachineFields). c.args.index < length X.state.sessions) (sym c.later.ensures) within;
+      place = λ t at.
+          ap (λ (X : StateMachineFields). has_source X.state.closed t.header.source) c.later.ensures
+          ∙ ap (λ (X : StateMachineFields). has_source X.state.closed t.header.source) c.self.view_is
+          ∙ place_at c.args.self.now.state c.args.index t c.requires.places
+          (sym (ap (λ (X : StateMachineFields). slice_get X.state.sessions c.args.index) c.later.ensures
+          ∙ ap (λ (X : StateMachineFields). slice_get X.state.sessions c.args.index) c.self.view_is) ∙ at);
       short = omega (arith, c.in_ok-octets.octets.ok.0, ap length octets, short);
     }
 
@@ -77,7 +85,8 @@ returns c =
     (λ (X : StateMachineFields). slice_get X.state.sessions c.args.index) v
     ∙ c.session-session.ensures in
     let done =
-    c.conclude.ensures (caused_outcome s made) (ap (λ (x : Outcome). x.send) c.outcome-2.view_is) (c.conclusion_of-conclusion.ensures ∙ ap conclusion_of same)
+    c.conclude.ensures (caused_outcome s made) (ap (λ (x : Outcome). x.send) c.outcome-2.view_is)
+    (c.did_change-has_changed.ensures ∙ ap (λ (x : Outcome). has_changed x.finished) same) (c.conclusion_of-conclusion.ensures ∙ ap conclusion_of same)
     (c.in_ok-octets.ensures ∙ ap finished_octets same) s at in
     let later = c.later.ensures ∙ ap (λ (X : StateMachineFields). at_moment c.args.now (in_world V X)) v in
     record {

@@ -1,0 +1,14 @@
+use Rattle.std.proofs.Common.{◌≡◌, refl, ap, ◌∙◌}
+use Rattle.cfdp_run.specs.Scripts.{Play, clock_set, play_of}
+use Rattle.cfdp_run.specs.Stages.{play_from}
+use Rattle.cfdp_run_script.specs.Steps.{script_of}
+use Rattle.cfdp_run_script.proofs.Steps.{written_does}
+use Rattle.cfdp_run_script.proofs.script.RunScript.set_clock.Goals as goal
+
+pub returns-clause-ok : goal.returns-clause-ok
+returns-clause-ok c =
+    let begun : play_from c.in-Some.play ≡ play_of (script_of c.args.self.now) = rw c.in-Some.is at c.in_ok-begin.ensures.state in
+    written_does _ _ c.set_clock.new.self _ _ _ _ refl
+    (c.in_ok-set_clock.ensures ∙ ap (λ (p : Play). clock_set p c.args.now) begun)
+    c.lines.ensures
+    c.in_ok-extend_from_slice.ensures.items
