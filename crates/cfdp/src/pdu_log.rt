@@ -20,12 +20,15 @@ const NOT_SHOWN: [&[u8]; 8] = [
     b"Destination entity ID: ",
 ];
 
+/// What a line writes whose time was too far ahead.
+const TOO_FAR_AHEAD: &[u8] = b"time too-far-ahead\n";
+
 /// Whether PDUs are reported in words, and where they are captured.
 #[derive(Drop)]
 pub struct PduLog<'a, F> {
     tells: bool,
     capture: Option<Capture<'a, F>>,
-    /// The greatest time so far.
+    /// The latest time so far: the greatest one since the clock was set, without those that were too far ahead.
     latest: u64,
 }
 
@@ -129,6 +132,10 @@ impl<'a, F: Write + Drop> PduLog<'a, F> {
                 self.latest = self.latest.max(now);
                 Ok(())
             }
+            Ok(Some(RunCommand::SetClock { now })) => {
+                self.latest = now;
+                Ok(())
+            }
             Ok(_) | Err(CommandFault::Wrong(_)) => Ok(()),
             Err(CommandFault::Memory) => Err(End::Memory),
         }
@@ -155,7 +162,11 @@ impl<'a, F: Write + Drop> PduLog<'a, F> {
         text: &[u8],
         out: &mut Vec<u8>,
     ) -> Result<(), End> {
+        let before = self.latest;
         self.input(alloc, line, out)?;
+        if text == TOO_FAR_AHEAD {
+            self.latest = before;
+        }
         for written in text.split(|octet| *octet == NEWLINE) {
             if !written.is_empty() {
                 self.output(alloc, written, out)?;
