@@ -184,8 +184,7 @@ enum cfdp_answer cfdp_receiver_work(struct cfdp_receiver *receiver, uint64_t now
 enum cfdp_answer cfdp_receiver_finish(struct cfdp_receiver *receiver, uint64_t now, struct cfdp_report *report);
 
 /* The user cancels a transaction (cancel procedures), with condition code 15. A list that has begun goes on to its end
- * (CFDP_BECAME_LIST_BEGUN), and a transaction that waits for the acknowledgement of its Finished PDU is closed. With
- * `most_ahead`, loops over cfdp_receiver_expire, _work and _finish end at CFDP_BECAME_TOO_FAR_AHEAD too. Returns
+ * (CFDP_BECAME_LIST_BEGUN), and a transaction that waits for the acknowledgement of its Finished PDU is closed. Returns
  * CFDP_ANSWER_DONE with the report, or CFDP_ANSWER_NO_ENGINE. Cost: a pass over the 64 transactions, and that of
  * cfdp_cancel. */
 enum cfdp_answer cfdp_receiver_cancel(struct cfdp_receiver *receiver, uint64_t now, uint64_t source, uint64_t number,
@@ -197,9 +196,9 @@ enum cfdp_answer cfdp_receiver_cancel(struct cfdp_receiver *receiver, uint64_t n
  * CFDP_ANSWER_NO_ENGINE. Cost: for each of 16 sources a pass over the 64 transactions. */
 enum cfdp_answer cfdp_receiver_forget_closed(struct cfdp_receiver *receiver, struct cfdp_report *report);
 
-/* The caller's clock was set, back or ahead: its moment is `now` by now, and what is left of each timer stays. Without
- * this call an earlier moment counts as the latest, so that after one wrong reading, far ahead, no timer would be due
- * until the clock comes to it. A moment is never too far ahead for this call: with `most_ahead`, begin with it. Returns
+/* The caller's clock was set, back or ahead, and now says `now`. What is left of each timer stays. Without this call an
+ * earlier moment counts as the latest, so that after one wrong reading, far ahead, no timer would be due until the
+ * clock comes to it. A moment is never too far ahead for this call: with `most_ahead`, begin with it. Returns
  * CFDP_ANSWER_DONE with the report, or CFDP_ANSWER_NO_ENGINE. Cost: constant. */
 enum cfdp_answer cfdp_receiver_move_clock(struct cfdp_receiver *receiver, uint64_t now, struct cfdp_report *report);
 
@@ -209,9 +208,10 @@ enum cfdp_answer cfdp_receiver_deadline(struct cfdp_receiver *receiver, uint64_t
 
 /* Writes the PDU with this number, from 0, of the last report to the beginning of `out`, which has room for `room`
  * octets, and its length to `*count`. The octets after it are as before. The last report is that of the last call
- * from above that answered CFDP_ANSWER_DONE. Returns CFDP_ANSWER_DONE; CFDP_ANSWER_NOTHING where there is no such
- * PDU; CFDP_ANSWER_TOO_SHORT, which says no length; or CFDP_ANSWER_NO_ENGINE. A buffer of 16490 octets, or of
- * `longest_nak` if that is more, is never too short. Cost: the octets of the PDU, and a pass over them for a CRC. */
+ * from above that answered CFDP_ANSWER_DONE: PDUs of an earlier one can't be written any more. Returns
+ * CFDP_ANSWER_DONE; CFDP_ANSWER_NOTHING where there is no such PDU; CFDP_ANSWER_TOO_SHORT, which says no length; or
+ * CFDP_ANSWER_NO_ENGINE. A buffer of 16490 octets, or of `longest_nak` if that is more, is never too short. Cost: the
+ * octets of the PDU, and a pass over them for a CRC. */
 enum cfdp_answer cfdp_receiver_write(struct cfdp_receiver *receiver, size_t number, uint8_t *out, size_t room,
                                      size_t *count);
 

@@ -201,6 +201,18 @@ static void receive_file(void) {
     show_filestore();
 }
 
+/* An EOF PDU of a closed transaction is acknowledged. The ACK PDU is written before the next call, or not at all. */
+static void forget_to_write(void) {
+    struct cfdp_report report = {0};
+    uint8_t pdu[16];
+    size_t count = 0;
+    expect(cfdp_receiver_receive(&receiver, 235, eof, sizeof eof, &report), CFDP_ANSWER_DONE);
+    expect(report.pdus, 1);
+    expect(cfdp_receiver_work(&receiver, 235, &report), CFDP_ANSWER_DONE);
+    expect(report.pdus, 0);
+    expect(cfdp_receiver_write(&receiver, 0, pdu, sizeof pdu, &count), CFDP_ANSWER_NOTHING);
+}
+
 /* The user cancels the other transaction, whose Finished PDU nobody acknowledges. */
 static void cancel_other(void) {
     struct cfdp_report report = {0};
@@ -219,6 +231,7 @@ int main(void) {
     if (cfdp_receiver_octets() != sizeof receiver) return 1;
     begin();
     receive_file();
+    forget_to_write();
     cancel_other();
     expect(cfdp_receiver_free(&receiver), CFDP_ANSWER_DONE);
     expect(cfdp_receiver_free(&receiver), CFDP_ANSWER_NO_ENGINE);

@@ -295,6 +295,8 @@ fn write_pdu(reception: &Reception, number: usize, out: &mut [u8], count: &mut u
         }
         Err(NotWritten::NoMore) => CallAnswer::Nothing,
         Err(NotWritten::TooShort) => CallAnswer::TooShort,
+        // It keeps no other answer.
+        Err(NotWritten::NotLast) => unreachable!(),
     }
 }
 

@@ -2,7 +2,7 @@
 
 ghost use Rattle.std.specs.Prelude.{◌≡◌, ◌≢◌, ◌≤◌, ◌∷◌, [], length, true, false, max, Ok, IfOk, OnOk};
 ghost use Rattle.cfdp_receiver.specs.Heard.{heard};
-ghost use Rattle.cfdp_receiver.specs.StateMachine.{answer_in};
+ghost use Rattle.cfdp_receiver.specs.StateMachine.{answer_in, is_last};
 ghost use Rattle.cfdp_receiver.specs.Sent.{longest_sealed};
 ghost use Rattle.cfdp_receiver.specs.State.{Expire, Finish, Work};
 ghost use Rattle.cfdp_receiver.specs.Turning.{turn};
@@ -55,6 +55,7 @@ impl Live {
         answer: &Answer,
         output: &mut Output,
     ) -> Result<(), AllocError>
+        requires { is_last self.old.receiver answer.now ≡ true }
         ensures same { self.new.receiver ≡ self.old.receiver }
         ensures ok { OnOk result (output.new ≡ with_more output.old
             (made_of_answer self.old.receiver.state.mib (answer_in self.old.receiver answer.now))) }
@@ -105,6 +106,7 @@ impl Live {
         answer: &Answer,
         output: &mut Output,
     ) -> Result<(), AllocError>
+        requires { is_last self.old.receiver answer.now ≡ true }
         ensures { OnOk result (MakesOut self.old.receiver.state
             (settling most_settled now self.old.receiver.state) self.new.receiver.state
             (with_more output.old (made_of_answer self.old.receiver.state.mib (answer_in self.old.receiver answer.now)))

@@ -1,10 +1,10 @@
 //! What a live receiving entity has made of its inputs.
 
-ghost use Rattle.std.specs.Prelude.{◌≡◌, ◌++◌, ◌∷◌, ◌||◌, ◌≤◌, [], false, length, map, max, OnOk};
+ghost use Rattle.std.specs.Prelude.{◌≡◌, ◌++◌, ◌∷◌, ◌||◌, ◌≤◌, [], false, length, map, max, true, OnOk};
 ghost use Rattle.std.specs.List.{list_any};
 ghost use Rattle.cfdp_actions.specs.Listed.{vector_octets};
 ghost use Rattle.cfdp_receiver.specs.declared.indication.Became.TheVariants.{Replied};
-ghost use Rattle.cfdp_receiver.specs.StateMachine.{answer_in};
+ghost use Rattle.cfdp_receiver.specs.StateMachine.{answer_in, is_last};
 ghost use Rattle.cfdp_receiver.specs.Sent.{as_sent, longest_sealed, pdus_of};
 ghost use Rattle.cfdp_reports.specs.Reports.{indication_lines};
 ghost use Rattle.cfdp_live.specs.Living.{Out, made_of_answer, is_end, nothing, refusal_line, with_more};
@@ -142,7 +142,8 @@ impl Output {
         answer: &Answer,
         room: &mut [u8],
     ) -> Result<(), AllocError>
-        requires { max longest_sealed receiver.now.state.mib.longest_nak ≤ length room.old }
+        requires last { is_last receiver.now answer.now ≡ true }
+        requires enough { max longest_sealed receiver.now.state.mib.longest_nak ≤ length room.old }
         ensures { OnOk result (self.new ≡ with_sent self.old
             (map (as_sent receiver.now.state.mib) (pdus_of receiver.now answer.now))) }
     {
@@ -164,7 +165,8 @@ impl Output {
         answer: &Answer,
         room: &mut [u8],
     ) -> Result<(), AllocError>
-        requires { max longest_sealed receiver.now.state.mib.longest_nak ≤ length room.old }
+        requires last { is_last receiver.now answer.now ≡ true }
+        requires enough { max longest_sealed receiver.now.state.mib.longest_nak ≤ length room.old }
         ensures { OnOk result (self.new ≡ with_more self.old
             (made_of_answer receiver.now.state.mib (answer_in receiver.now answer.now))) }
     {

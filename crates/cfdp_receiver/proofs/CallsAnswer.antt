@@ -8,7 +8,7 @@ use Rattle.cfdp_transactions.specs.declared.reply.Reply.{Reply}
 use Rattle.cfdp_receiver.specs.State.{State, Input, ClockMoved, now_of}
 use Rattle.cfdp_receiver.specs.Handing.{events_of}
 use Rattle.cfdp_receiver.specs.declared.reading.Dropped.{Dropped}
-use Rattle.cfdp_receiver.specs.StateMachine.{StateMachineFields, AnswerParts, answer_in}
+use Rattle.cfdp_receiver.specs.StateMachine.{StateMachineFields, AnswerParts, answer_in, turn_after}
 use Rattle.cfdp_receiver.specs.code.Heard.{input_of}
 use Rattle.cfdp_receiver.specs.code.StateMachine.{IsWholeReceiver, Turns, at_moment, silent}
 use Rattle.cfdp_receiver.specs.declared.indication.Became.TheVariants.{Nothing, TooFarAhead}
@@ -51,11 +51,33 @@ pub moves_whole : (M N : StateMachineFields) (now : ℕ) → IsWholeReceiver (Tu
     IsWholeReceiver N.state
 moves_whole M N now whole is = subst IsWholeReceiver (clock_moved M.state now ∙ sym (ap (λ (X : StateMachineFields). X.state) is)) whole
 
+-- ---- a turn is made
+
+-- the machine and the answer once the turn has its number
+pub ended : (M N L : StateMachineFields) (a b : AnswerParts) (i : Input) (turn : ℕ) → L ≡ record N { turns = turn } → b ≡ record a { turn = turn } →
+    Turning.turn M.state i ≡ (N.state, answer_in N a) → Turning.turn M.state i ≡ (L.state, answer_in L b)
+ended M N L a b i turn machine answer t =
+    t ∙ sym (ap (λ (X : StateMachineFields). (X.state, answer_in X b)) machine ∙ ap (λ (x : AnswerParts). (N.state, answer_in N x)) answer)
+
+pub whole_ended : (N L : StateMachineFields) (turn : ℕ) → L ≡ record N { turns = turn } → IsWholeReceiver N.state → IsWholeReceiver L.state
+whole_ended N L turn machine whole = subst (λ (X : StateMachineFields). IsWholeReceiver X.state) (sym machine) whole
+
 -- ---- an input that is not taken
 
 pub not_taken : (M : StateMachineFields) (a : AnswerParts) (i : Input) → Turning.is_too_far M.state (now_of i) ≡ true → a ≡ silent TooFarAhead →
     Turning.turn M.state i ≡ (M.state, answer_in M a)
 not_taken M a i far said = not_taken_stays M.state i far ∙ ap (λ (x : AnswerParts). (M.state, answer_in M x)) (sym said)
+
+abbrev pub counted_by : StateMachineFields → StateMachineFields
+counted_by M = record M { turns = turn_after M.turns }
+
+abbrev pub not_taken_by : StateMachineFields → AnswerParts
+not_taken_by M = record (silent TooFarAhead) { turn = turn_after M.turns }
+
+-- the turn is counted all the same
+pub nothing_taken : (M L : StateMachineFields) (a : AnswerParts) (i : Input) → Turning.is_too_far M.state (now_of i) ≡ true → L ≡ counted_by M →
+    a ≡ not_taken_by M → Turning.turn M.state i ≡ (L.state, answer_in L a)
+nothing_taken M L a i far machine said = ended M M L (silent TooFarAhead) a i (turn_after M.turns) machine said (not_taken M (silent TooFarAhead) i far refl)
 
 -- the moment of what was read
 pub read_at : (now : ℕ) (d : Directed) → now_of (input_of now d) ≡ now

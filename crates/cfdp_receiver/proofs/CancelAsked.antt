@@ -7,14 +7,13 @@ use Rattle.cfdp_sessions.specs.declared.session.Ending.{Ending}
 use Rattle.cfdp_sessions.specs.declared.session.Stage.{Stage}
 use Rattle.cfdp_sessions.specs.declared.session.Stage.TheVariants.{Held, Known, Over, Waiting}
 use Rattle.cfdp_sessions.proofs.Names.{found_name}
-use Rattle.cfdp_transactions.specs.declared.event.Event.{Event}
 use Rattle.cfdp_transactions.specs.declared.event.Event.TheVariants.{Cancel}
 use Rattle.cfdp_transactions.specs.declared.reply.Reply.{Reply}
 use Rattle.cfdp_transactions.specs.World.{World}
 use Rattle.cfdp_transactions.specs.Next.{next}
 use Rattle.cfdp_receiver.specs.declared.indication.Became.TheVariants.{Said, Replied}
 use Rattle.cfdp_receiver.specs.declared.indication.Word.TheVariants as words
-use Rattle.cfdp_receiver.specs.State.{State, CancelAsked, session_of}
+use Rattle.cfdp_receiver.specs.State.{CancelAsked, session_of}
 use Rattle.cfdp_receiver.specs.Handing.{is_list_begun, cancel_events, of_session, where_known}
 use Rattle.cfdp_receiver.specs.StateMachine.{StateMachineFields, AnswerParts, answer_in}
 use Rattle.cfdp_receiver.specs.code.StateMachine.{Turns, in_world, machine_closed, silent}

@@ -206,7 +206,7 @@ concludes_waiting M index a s o at abandoned sent acked said =
     let new = Turning.waits_for_ack R s o in
     let N = with_sessions M (replaced R.sessions new) in
     concludes_by M N a s o (Turning.replaces_one R new (Turning.sends_it s o words.Finished)) (waits_by R s o abandoned sent acked) refl refl refl refl refl
-    (ap (answer_in N) said ∙ ap (λ (x : Option SessionFields). record (Turning.concluded s o words.Finished) { finished = finished_by N x ∷ [] })
+    (ap (answer_in N) said ∙ ap (λ (x : Option SessionFields). record (Turning.concluded s o words.Finished) { finished = finished_by N.last_finished x ∷ [] })
     (replaced_self R.sessions new (session_id s) (found_by_name R.sessions index s at) refl))
 
 -- it was abandoned: it is closed, and nothing is said of its outcome
@@ -229,7 +229,7 @@ concludes_unsent M a s o abandoned unsent said =
 
 -- the machine once the transaction is closed whose Finished PDU has these octets
 abbrev pub closed_with : StateMachineFields → SessionFields → List ℕ → StateMachineFields
-closed_with M s octets = record { state = (machine_closed M s).state; last_finished = octets }
+closed_with M s octets = record (machine_closed M s) { last_finished = octets }
 
 -- it is closed, and the Finished PDU is sent once
 pub concludes_closed : (M : StateMachineFields) (a : AnswerParts) (s : SessionFields) (o : Outcome) → AreDistinct M.state.sessions →
@@ -240,5 +240,5 @@ concludes_closed M a s o d abandoned sent acked said =
     let N = closed_with M (Turning.settled s o) (finished_octets o) in
     concludes_by M N a s o (Turning.closes R (Turning.settled s o) (Turning.sends_it s o words.Closed)) (closes_by R s o abandoned sent acked)
     refl refl refl refl refl
-    (ap (answer_in N) said ∙ ap (λ (x : Option SessionFields). record (Turning.concluded s o words.Closed) { finished = finished_by N x ∷ [] })
+    (ap (answer_in N) said ∙ ap (λ (x : Option SessionFields). record (Turning.concluded s o words.Closed) { finished = finished_by N.last_finished x ∷ [] })
     (gone R.sessions (session_id s) d))

@@ -24,6 +24,7 @@ pub mod OwnTime
 pub mod DueTimers
 pub mod LimitsReached
 pub mod OffsetsFit
+pub mod OnlyTheLast
 pub mod Repeating
 pub mod SameSessionPut
 pub mod CancelAsked

@@ -1,6 +1,6 @@
 -- A sender's cancel in the middle of a list is acknowledged, and nothing else changes.
 use Rattle.std.specs.Prelude.{slice_get}
-use Rattle.std.proofs.Common.{◌≡◌, ℕ, zero, suc, ◌<◌, Bool, true, not, ◌&&◌, ◌==◌, List, [], ◌∷◌, length, Option, Some, None, refl, ap, ◌∙◌, arith}
+use Rattle.std.proofs.Common.{◌≡◌, ℕ, zero, suc, ◌<◌, true, not, ◌&&◌, ◌==◌, List, [], ◌∷◌, length, Option, Some, None, refl, ap, ◌∙◌, arith}
 use Rattle.std.proofs.lemmas.Bool.{cond-true, and_from}
 use Rattle.cfdp_directives.specs.declared.ack.TransactionStatus.TheVariants.{Active}
 use Rattle.cfdp_pdus.specs.declared.eof.Eof.{Eof}
@@ -10,11 +10,10 @@ use Rattle.cfdp_sessions.specs.declared.session.Stage.{Stage}
 use Rattle.cfdp_sessions.specs.declared.session.Stage.TheVariants.{Held, Known, Over, Waiting}
 use Rattle.cfdp_transactions.specs.Entry.{id_of}
 use Rattle.cfdp_transactions.specs.World.{World}
-use Rattle.cfdp_transactions.specs.declared.event.Event.{Event}
 use Rattle.cfdp_transactions.specs.declared.event.Event.TheVariants.{Eof as EofCame}
 use Rattle.cfdp_transactions.specs.declared.reply.Reply.{Reply}
 use Rattle.cfdp_receiver.specs.declared.indication.Word.TheVariants as words
-use Rattle.cfdp_receiver.specs.State.{State, EofPdu, session_of}
+use Rattle.cfdp_receiver.specs.State.{EofPdu, session_of}
 use Rattle.cfdp_receiver.specs.Handing.{eof_events, is_list_begun, is_ours, of_session, where_known}
 use Rattle.cfdp_receiver.specs.StateMachine.{StateMachineFields, AnswerParts, answer_in}
 use Rattle.cfdp_receiver.specs.code.StateMachine.{AtIndex, IsSessionAt, Turns}

@@ -101,7 +101,7 @@ says_finished M a b s id i e name word is waits =
     let octets = replaced_self M.state.sessions (again_session M s) (session_id s) (found_by_name M.state.sessions i s e) refl in
     ap (answer_in N) (is ∙ ap (λ (x : AnswerParts). record x { finished = id ∷ [] }) word)
     ∙ ap (λ (x : TransactionId). answer_in N (record (silent (Said x words.Expired)) { finished = x ∷ [] })) name
-    ∙ ap (λ (o : Option SessionFields). record (Turning.said_word s words.Expired) { finished = finished_by N o ∷ [] }) octets
+    ∙ ap (λ (o : Option SessionFields). record (Turning.said_word s words.Expired) { finished = finished_by N.last_finished o ∷ [] }) octets
     ∙ ap (Turning.repeats M.state (again_in M s) s) (sym waits)
 
 repeats_asks : (R : State) (V : World) (s : SessionFields) (at : JointPhase) → (at ≡ At_waiting → ⊥) → s.header.acknowledged ≡ true →

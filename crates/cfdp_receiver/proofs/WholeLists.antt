@@ -11,9 +11,9 @@ use Rattle.cfdp_pdus.specs.Values.{MetadataFields, FileDataFields}
 use Rattle.cfdp_pdus.specs.declared.header.Header.{Header}
 use Rattle.cfdp_pdus.specs.declared.eof.Eof.{Eof}
 use Rattle.cfdp_retransmission.specs.declared.timer.Timer.{Timer}
-use Rattle.cfdp_retransmission.specs.declared.timer.Expiry.TheVariants.{NotDue, Again, Limit}
+use Rattle.cfdp_retransmission.specs.declared.timer.Expiry.TheVariants.{NotDue, Limit}
 use Rattle.cfdp_verifier.specs.Verdict.{Verdict, Refuse, Grant, verdict}
-use Rattle.cfdp_sessions.specs.Sessions.{SessionFields, session_id, found, AreDistinct}
+use Rattle.cfdp_sessions.specs.Sessions.{SessionFields, session_id, AreDistinct}
 use Rattle.cfdp_sessions.specs.declared.session.Stage.{Stage}
 use Rattle.cfdp_sessions.specs.declared.session.Stage.TheVariants.{Held, Known, Over as OverStage, Waiting}
 use Rattle.cfdp_sessions.proofs.Names.{found_name}
@@ -52,7 +52,6 @@ use Rattle.cfdp_receiver.specs.Laws.{knows, AreKnown, NonePerformed, AllPerforme
 use Rattle.cfdp_receiver.specs.Turning.{after_input, after_all, is_known}
 use Rattle.cfdp_receiver.proofs.Distinct.{distinct_after}
 use Rattle.cfdp_receiver.proofs.FinishedSentAtMost.{stage_due}
-use Rattle.cfdp_receiver.proofs.NaksAskOnce.{none_listed}
 use Rattle.cfdp_receiver.proofs.OthersStay.{run_sound, sound_all}
 use Rattle.cfdp_receiver.proofs.SessionsAreKnown.{Laws, known_after}
 

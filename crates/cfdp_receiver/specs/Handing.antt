@@ -2,7 +2,7 @@
 --     is_ours R h               the PDU goes toward the receiver of the file, and to this entity
 --     longest_interval          the longest that a timer runs, in ticks
 --     own_time R now            the receiver's own time at a moment of the driver's clock: it goes on by the ticks that
---                               passed since the latest moment, and at once by no more than the longest interval
+--                               passed since the latest moment, by at most the longest interval in one call
 --     later now R               the state once this moment came
 --     is_list_begun R id        the list of the transaction has begun: its first item, which is the install where there
 --                               is a file, was performed, and another is still to be performed
@@ -24,7 +24,7 @@ use Rattle.cfdp_transactions.specs.declared.event.Event.TheVariants.{Metadata as
 use Rattle.cfdp_transactions.specs.World.{entry_of, next_runnable}
 use Rattle.cfdp_receiver.specs.declared.mib.Handler.{Handler}
 use Rattle.cfdp_receiver.specs.declared.mib.Handler.TheVariants as handlers
-use Rattle.cfdp_receiver.specs.State.{State, Input, MetadataPdu, DataPdu, EofPdu, AckPdu, PromptPdu, OtherPdu, Expire, Work, Finish, CancelAsked, ForgetAsked, ClockMoved, NotTaken, now_of, session_of, is_closed, is_full, JointPhase, At_awaiting, at_of, lacks_room}
+use Rattle.cfdp_receiver.specs.State.{State, Input, MetadataPdu, DataPdu, EofPdu, AckPdu, PromptPdu, OtherPdu, Expire, Work, Finish, CancelAsked, ForgetAsked, ClockMoved, NotTaken, now_of, session_of, is_closed, JointPhase, At_awaiting, at_of, lacks_room}
 use Rattle.cfdp_receiver.specs.Due.{Due, Nothing_due, Stage_due, Alive_due, first_due, first_over, handler_at}
 
 abbrev pub is_ours : State → Header → Bool

@@ -80,7 +80,7 @@ use Rattle.cfdp_transactions.specs.Headline.{Promised, AtEach}
 use Rattle.cfdp_transactions.specs.Writable.{finished_octets}
 use Rattle.cfdp_receiver.specs.declared.mib.Handler.TheVariants.{Ignore}
 use Rattle.cfdp_receiver.specs.declared.mib.Mib.{Mib}
-use Rattle.cfdp_receiver.specs.State.{State, begin, Input, MetadataPdu, DataPdu, EofPdu, AckPdu, PromptPdu, OtherPdu, Expire, Work, Finish, CancelAsked, ForgetAsked, ClockMoved, NotTaken, now_of, status_of, session_of, is_closed, is_full, lacks_room}
+use Rattle.cfdp_receiver.specs.State.{State, begin, Input, MetadataPdu, DataPdu, EofPdu, AckPdu, PromptPdu, OtherPdu, Expire, Work, Finish, CancelAsked, ForgetAsked, ClockMoved, NotTaken, now_of, status_of, session_of, is_closed, lacks_room}
 use Rattle.cfdp_receiver.specs.Due.{Due, Nothing_due, Stage_due, Alive_due, IsSet, expiry_of, is_alive_due, first_due, first_over}
 use Rattle.cfdp_receiver.specs.Handing.{is_ours, later, handed}
 use Rattle.cfdp_receiver.specs.Turning.{outcome_for, most_nak_requests, sequence, all_of, gaps_after, progress_at, is_immediate, parts, after_input, after_all, all_handed, acked, is_known}

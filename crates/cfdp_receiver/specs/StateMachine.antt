@@ -1,8 +1,9 @@
 -- What the code keeps and answers, and a turn of a state that is as late as its input.
---     StateMachineFields        the state, and the Finished PDU of the transaction that was closed last when its
---                               outcome was taken
+--     StateMachineFields        the state, the Finished PDU of the transaction that was closed last when its outcome
+--                               was taken, and how many turns were made, modulo 2^64
 --     AnswerParts               an answer, with the name of the transaction whose Finished PDU is sent instead of its
---                               octets
+--                               octets, and with the number of its turn
+--     turn_after turns          the number of the next turn;  is_last M a: the answer is that of the last turn
 --     finished_for M id         these octets: they are kept with the session, or where the session is closed, beside
 --     answer_in M a             the answer with them
 --     listed option             the list of what is there
@@ -10,7 +11,7 @@
 --     mib_fault mib             what is wrong with a management information base, in the order of tests;  IsMib mib:
 --                               nothing
 --     IsNotMade mib W why       why a receiver was not made
-use Rattle.std.specs.Prelude.{◌≡◌, ℕ, ◌≤◌, Bool, true, false, not, ◌&&◌, ◌||◌, ◌==◌, if◌then◌else◌, nat_le, nat_lt, List, [], ◌∷◌, length, map, Option, Some, None}
+use Rattle.std.specs.Prelude.{◌≡◌, ℕ, ◌+◌, ◌%◌, ◌^◌, ◌≤◌, Bool, true, false, not, ◌&&◌, ◌||◌, ◌==◌, if◌then◌else◌, nat_le, nat_lt, List, [], ◌∷◌, length, map, Option, Some, None}
 use Rattle.cfdp_status.specs.declared.transaction.TransactionId.{TransactionId}
 use Rattle.cfdp_pdus.specs.declared.header.Header.{Header}
 use Rattle.cfdp_directives.specs.Reading.{NakFields}
@@ -31,6 +32,7 @@ use Rattle.cfdp_receiver.specs.Due.{Due, Nothing_due, IsSet}
 pub record StateMachineFields : Type 0 where
   pub state : State
   pub last_finished : List ℕ
+  pub turns : ℕ
 
 pub record AnswerParts : Type 0 where
   pub acks : List (Header × Ack)
@@ -39,17 +41,24 @@ pub record AnswerParts : Type 0 where
   pub finished : List TransactionId
   pub indications : List Indication
   pub became : Became
+  pub turn : ℕ
+
+abbrev pub turn_after : ℕ → ℕ
+turn_after turns = (turns + 1) % 2 ^ 64
+
+abbrev pub is_last : StateMachineFields → AnswerParts → Bool
+is_last M a = a.turn == M.turns
 
 abbrev pub listed : {X : Type 0} → Option X → List X
 listed None = []
 listed (Some x) = x ∷ []
 
-abbrev pub finished_by : StateMachineFields → Option SessionFields → List ℕ
-finished_by M None = M.last_finished
-finished_by M (Some s) = s.finished
+abbrev pub finished_by : List ℕ → Option SessionFields → List ℕ
+finished_by last None = last
+finished_by last (Some s) = s.finished
 
 abbrev pub finished_for : StateMachineFields → TransactionId → List ℕ
-finished_for M id = finished_by M (session_of M.state id)
+finished_for M id = finished_by M.last_finished (session_of M.state id)
 
 abbrev pub answer_in : StateMachineFields → AnswerParts → AnswerFields
 answer_in M a = record {

@@ -52,6 +52,8 @@ pub struct Answer {
     pub(crate) finished: Option<TransactionId>,
     pub(crate) indication: Option<Indication>,
     pub(crate) became: Became,
+    /// The number of its turn: 0 before the turn is made.
+    pub(crate) turn: u64,
 }
 
 impl Model for Answer {
@@ -67,6 +69,7 @@ impl Model for Answer {
       finished = listed a.finished;
       indications = listed a.indication;
       became = a.became;
+      turn = a.turn;
     } };
 
     ghost invariant = { λ a. IsSendable a.ack a.keep_alive };
@@ -100,9 +103,9 @@ impl Unsent {
         }
     }
 
-    /// This answer as an [`Answer`] that sends nothing.
-    pub(crate) fn answer(self) -> Answer
-        ensures { result ≡ self }
+    /// This answer as an [`Answer`] that sends nothing, of the turn with this number.
+    pub(crate) fn answer(self, turn: u64) -> Answer
+        ensures { result ≡ record self { turn = turn } }
     {
         Answer {
             ack: None,
@@ -111,6 +114,7 @@ impl Unsent {
             finished: None,
             indication: self.indication,
             became: self.became,
+            turn,
         }
     }
 }
@@ -143,6 +147,7 @@ impl Answer {
             finished: None,
             indication: None,
             became,
+            turn: 0,
         }
     }
 
@@ -186,6 +191,7 @@ impl Answer {
             finished: self.finished,
             indication: self.indication,
             became: self.became,
+            turn: self.turn,
         }
     }
 
@@ -200,6 +206,7 @@ impl Answer {
             finished: self.finished,
             indication: self.indication,
             became: self.became,
+            turn: self.turn,
         }
     }
 
@@ -216,6 +223,7 @@ impl Answer {
             finished: self.finished,
             indication: self.indication,
             became: self.became,
+            turn: self.turn,
         }
     }
 
@@ -230,6 +238,7 @@ impl Answer {
             finished: Some(id),
             indication: self.indication,
             became: self.became,
+            turn: self.turn,
         }
     }
 
@@ -244,6 +253,7 @@ impl Answer {
             finished: self.finished,
             indication,
             became: self.became,
+            turn: self.turn,
         }
     }
 

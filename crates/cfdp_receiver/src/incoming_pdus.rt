@@ -320,7 +320,8 @@ impl StateMachine {
             ≡ true) }
         requires no_gap { begins_no_gap self.old.state (id_of header.now) piece.now ≡ true }
         requires header { IsHeader header.now }
-        ensures { Turns self.old self.new result (DataPdu self.old.state.now header.now piece.now) }
+        ensures ok { Turns self.old self.new result (DataPdu self.old.state.now header.now piece.now) }
+        ensures turns { self.new.turns ≡ self.old.turns }
     {
         let id = self.session(index).name();
         let reply = self.entity.file_data(header, piece);

@@ -91,7 +91,7 @@ pub enum Became {
     /// The PDU is not for the receiver of a file.
     NotOurs,
     /// The moment is further ahead of the latest one than the management information base allows: the input was not
-    /// taken, and nothing changed.
+    /// taken, and nothing changed, but that the PDUs of the answer before can't be written any more.
     TooFarAhead,
     /// A word of the receiver's own.
     Said(TransactionId, Word),

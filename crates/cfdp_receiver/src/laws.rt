@@ -1,6 +1,7 @@
 //! What is true of the receiver, whatever comes. These functions do nothing: their contracts are the laws.
 
 ghost use Rattle.cfdp_receiver.specs.Laws.{HandsOn, HeadlineHolds, FewEvents, FewPdus, AcknowledgedOnce, OthersStay, UnrecognizedIsTrue, TerminatedIsTrue, ClosedIsOver, FinishedOnly, NoneAgain, NotBegunAnew, RememberedStays, AtMostOnce, AllOrNone, NaksAsk, ExactlyMissing, EndsStayThere, NaksAskOnceIn, NaksAskOnce, FewNakPdus, FewRequests, ServedOnce, KnownIsEntry, AnsweredIsDelivered, SessionsAreDistinct, SentAtMost, NoneAfterAck, EntriesStay, OthersKeepEntries, WorkKeepsOthers, SourcesAreApart};
+ghost use Rattle.cfdp_receiver.specs.Sent.{OnlyTheLast};
 ghost use Rattle.cfdp_receiver.specs.Moments.{TicksAreCounted, LeftStays, NotTakenStays, TakenElse, MovedAlways};
 
 /// The world of a receiver is the core's own run of the events that its inputs handed on.
@@ -28,7 +29,7 @@ pub fn few_pdus()
 
 /// An EOF PDU in acknowledged mode is acknowledged once, with its condition code and the status of its transaction
 /// after it. The only one that is not is one without a fault, of a transaction that has no session and is not closed
-/// and remembered, while there are 64 sessions, or 16 sources and none of them is its own.
+/// and remembered, while there are 64 sessions, or while 16 other sources have a place.
 pub fn acknowledged_once()
     ensures { AcknowledgedOnce }
 {}
@@ -213,8 +214,7 @@ pub fn answered_is_delivered()
     ensures { AnsweredIsDelivered }
 {}
 
-/// A timer is due as if the receiver's own time went on by all ticks that passed: that it goes on at once by no more
-/// than the longest interval changes nothing.
+/// No timer is due later because the receiver's own time goes on by at most 2^32 - 1 ticks in a call.
 pub fn ticks_are_counted()
     ensures { TicksAreCounted }
 {}
@@ -237,4 +237,9 @@ pub fn not_taken_stays()
 /// Every other input is taken, and without a limit each is.
 pub fn taken_else()
     ensures { TakenElse }
+{}
+
+/// An answer is the last one until the next turn. Then [`Receiver::write`](crate::Receiver::write) refuses it.
+pub fn only_the_last()
+    ensures { OnlyTheLast }
 {}

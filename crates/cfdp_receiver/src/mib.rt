@@ -67,8 +67,10 @@ pub struct Mib {
     pub has_crc: bool,
     /// How many octets a NAK PDU has at most, 72 to 65,535, its CRC included.
     pub longest_nak: u16,
-    /// How far ahead of the latest moment another one may be, 1 to 2^32 - 1 ticks. An input with a moment further ahead
-    /// is answered with `Became::TooFarAhead`, and changes nothing. `None`: there is no limit.
+    /// The largest step that a moment may take past the latest one, 1 to 2^32 - 1 ticks. An input with a moment that
+    /// is further ahead is answered with `Became::TooFarAhead`, and changes nothing. So call `expire` at least once
+    /// in that many ticks, also where nothing comes and no timer is due. After a longer pause say the time by
+    /// `move_clock`. `None`: there is no limit.
     pub most_ahead: Option<u32>,
 }
 

@@ -20,9 +20,9 @@ ghost use Rattle.cfdp_receiver.specs.Due.{IsSet, first_due, first_over};
 ghost use Rattle.cfdp_receiver.specs.Handing.{own_time};
 ghost use Rattle.cfdp_receiver.specs.Laws.{AreKnown, EndsThere};
 ghost use Rattle.cfdp_receiver.specs.Heard.{IsDropped, IsUnread, heard, input_at};
-ghost use Rattle.cfdp_receiver.specs.StateMachine.{IsNotMade, answer_in, mib_fault, has_come, is_any_due};
+ghost use Rattle.cfdp_receiver.specs.StateMachine.{IsNotMade, answer_in, mib_fault, has_come, is_any_due, is_last, turn_after};
 ghost use Rattle.cfdp_receiver.specs.code.StateMachine.{AtIndex, IsInOrder, IsWholeReceiver};
-ghost use Rattle.cfdp_receiver.specs.Sent.{IsNotWritten, as_sent, crc_len, longest_sealed, pdus_of};
+ghost use Rattle.cfdp_receiver.specs.Sent.{IsNotSent, as_sent, crc_len, longest_sealed, pdus_of};
 ghost use Rattle.cfdp_receiver.specs.Turning.{after_input, is_too_far, most_nak_requests, turn};
 
 use crate::answer::{Answer, Unsent};
@@ -62,6 +62,8 @@ pub struct Unmade {
 /// Why a PDU of an answer was not written.
 #[derive(Clone, Copy, Debug, PartialEq, Eq)]
 pub enum NotWritten {
+    /// The answer is not that of the last input. Its Finished PDU may have been replaced.
+    NotLast,
     /// The answer has fewer PDUs.
     NoMore,
     /// The buffer is too short for the PDU. [`Receiver::longest`] octets are always enough.
@@ -79,7 +81,8 @@ pub enum NotWritten {
 /// A moment is what the driver's clock says, in ticks. An earlier one than the latest counts as the latest, and where
 /// [`Mib::most_ahead`] sets a limit, an input with a moment further ahead is not taken. Where the driver's clock was
 /// set, [`Receiver::move_clock`] says so. The receiver's timers run by its own time: the ticks that passed between the
-/// moments.
+/// moments. With a limit, a driver asks [`Receiver::is_too_far`] first: at a moment that is too far ahead the calls in
+/// its loops do nothing, so the loops would not end.
 ///
 /// Contracts see its state, of which each call makes one turn; no two of its sessions have one name, a session is known
 /// exactly where the core has an entry, and no transaction that is closed and remembered has a session
@@ -185,24 +188,77 @@ impl Receiver {
     pub fn receive(&mut self, alloc: Global, now: u64, octets: &mut [u8]) -> Result<Answer, Dropped>
         ensures ok { IfOk result (λ answer. (input : Input) × (heard now octets.old ≡ Ok input)
             × (turn self.old.state input ≡ (self.new.state, answer_in self.new answer))) }
+        ensures last { IfOk result (λ answer. is_last self.new answer ≡ true) }
+        ensures turns { OnOk result (self.new.turns ≡ turn_after self.old.turns) }
         ensures err { IfErr result (IsDropped now octets.old) }
         ensures unchanged { OnErr result (self.new ≡ self.old) }
     {
         let len = unseal(octets)?;
         let octets = &octets[..len];
         let Some((header, piece)) = read_data(octets) else {
-            return self.hear_directed(alloc, now, octets);
+            return self.take_directed(alloc, now, octets);
         };
         if self.machine.is_too_far(now) {
-            return Ok(Answer::not_taken());
+            return Ok(self.machine.take_nothing());
         }
         let found = self.machine.find(transaction_of(&header));
         if let Some(index) = found
             && self.machine.is_in_order(index, &header, &piece)
         {
-            return Ok(self.hear_in_order(now, index, &header, &piece).answer());
+            self.machine.count();
+            let unsent = self.hear_in_order(now, index, &header, &piece);
+            return Ok(unsent.answer(self.machine.turns));
         }
-        self.hear_data(now, found, &header, &piece)
+        self.take_data(now, found, &header, &piece)
+    }
+
+    /// Makes the turn of the octets of a PDU that has no CRC and is no File Data PDU. The answer is made here and not
+    /// in [`Receiver::receive`], where the room for it would be cleared for each PDU.
+    fn take_directed(&mut self, alloc: Global, now: u64, octets: &[u8]) -> Result<Answer, Dropped>
+        requires { IsNoFileData (pdu_at octets.now) }
+        ensures ok { IfOk result (λ answer. (input : Input) × (input_at now octets.now ≡ Ok input)
+            × (turn self.old.state input ≡ (self.new.state, answer_in self.new answer))) }
+        ensures last { IfOk result (λ answer. is_last self.new answer ≡ true) }
+        ensures turns { OnOk result (self.new.turns ≡ turn_after self.old.turns) }
+        ensures err { IfErr result (IsUnread now octets.now) }
+        ensures unchanged { OnErr result (self.new ≡ self.old) }
+    {
+        let turn = self.machine.next_turn();
+        let mut heard = self.hear_directed(alloc, now, octets);
+        if let Ok(answer) = &mut heard {
+            self.machine.number(turn, answer);
+        }
+        heard
+    }
+
+    /// Makes the turn of a File Data PDU.
+    fn take_data(
+        &mut self,
+        now: u64,
+        found: Option<usize>,
+        header: &Header,
+        piece: &Piece<'_>,
+    ) -> Result<Answer, Dropped>
+        requires timely { is_too_far self.old.state now ≡ false }
+        requires some { IfSome found (λ index. session_of self.old.state (id_of header.now)
+            ≡ slice_get self.old.state.sessions index) }
+        requires within { IfSome found (λ index. index < length self.old.state.sessions) }
+        requires named { IfSome found (λ index. AtIndex self.old.state.sessions index (λ s. session_id s
+            ≡ id_of header.now)) }
+        requires none { IfNone found (session_of self.old.state (id_of header.now) ≡ None) }
+        requires header { IsHeader header.now }
+        ensures ok { IfOk result (λ answer. turn self.old.state (DataPdu now header.now piece.now)
+            ≡ (self.new.state, answer_in self.new answer)) }
+        ensures last { IfOk result (λ answer. is_last self.new answer ≡ true) }
+        ensures turns { OnOk result (self.new.turns ≡ turn_after self.old.turns) }
+        ensures taken { IsOk result }
+    {
+        let turn = self.machine.next_turn();
+        let mut heard = self.hear_data(now, found, header, piece);
+        if let Ok(answer) = &mut heard {
+            self.machine.number(turn, answer);
+        }
+        heard
     }
 
     /// The octets of a PDU came that has no CRC and is no File Data PDU.
@@ -287,7 +343,9 @@ impl Receiver {
         requires timely { is_too_far self.old.state now ≡ false }
         requires order { IsInOrder self.old.state header.now piece.now index }
         requires header { IsHeader header.now }
-        ensures { turn self.old.state (DataPdu now header.now piece.now) ≡ (self.new.state, answer_in self.new result) }
+        ensures ok { turn self.old.state (DataPdu now header.now piece.now)
+            ≡ (self.new.state, answer_in self.new result) }
+        ensures turns { self.new.turns ≡ self.old.turns }
     {
         self.stays_whole();
         self.machine.later(now);
@@ -339,28 +397,36 @@ impl Receiver {
     /// Time has passed: the first timer that is due is served, of the first session that has one. Takes no memory.
     /// Cost: at most one pass over the 64 sessions, that of its event, and for a NAK sequence its gaps.
     pub fn expire(&mut self, now: u64) -> Answer
-        ensures { turn self.old.state (Expire now) ≡ (self.new.state, answer_in self.new result) }
+        ensures ok { turn self.old.state (Expire now) ≡ (self.new.state, answer_in self.new result) }
+        ensures last { is_last self.new result ≡ true }
+        ensures turns { self.new.turns ≡ turn_after self.old.turns }
     {
         if self.machine.is_too_far(now) {
-            return Answer::not_taken();
+            return self.machine.take_nothing();
         }
+        let turn = self.machine.next_turn();
         self.stays_whole();
         self.machine.later(now);
-        self.machine.expire()
+        let answer = self.machine.expire();
+        self.machine.end_turn(turn, answer)
     }
 
     /// The next item of the first transaction that has one is performed: the file is installed, or a request is
     /// performed. Takes no memory. Cost: that of its event, which the request says, and a pass over the core's 64
     /// transactions. No pass over the sessions.
     pub fn work(&mut self, now: u64) -> Answer
-        ensures { turn self.old.state (Work now) ≡ (self.new.state, answer_in self.new result) }
+        ensures ok { turn self.old.state (Work now) ≡ (self.new.state, answer_in self.new result) }
+        ensures last { is_last self.new result ≡ true }
+        ensures turns { self.new.turns ≡ turn_after self.old.turns }
     {
         if self.machine.is_too_far(now) {
-            return Answer::not_taken();
+            return self.machine.take_nothing();
         }
+        let turn = self.machine.next_turn();
         self.stays_whole();
         self.machine.later(now);
-        self.machine.work()
+        let answer = self.machine.work();
+        self.machine.end_turn(turn, answer)
     }
 
     /// Takes the outcome of the first transaction that is over. The answer has its indication, and its Finished PDU
@@ -376,49 +442,65 @@ impl Receiver {
     pub fn finish(&mut self, alloc: Global, now: u64) -> Result<Answer, AllocError>
         ensures ok { IfOk result (λ answer. turn self.old.state (Finish now)
             ≡ (self.new.state, answer_in self.new answer)) }
+        ensures last { IfOk result (λ answer. is_last self.new answer ≡ true) }
+        ensures turns { OnOk result (self.new.turns ≡ turn_after self.old.turns) }
         ensures lean { first_over self.old.state.world self.old.state.sessions ≡ None → IsOk result }
         ensures unchanged { OnErr result (self.new ≡ self.old) }
     {
         if self.machine.is_too_far(now) {
-            return Ok(Answer::not_taken());
+            return Ok(self.machine.take_nothing());
         }
+        let turn = self.machine.next_turn();
         self.stays_whole();
-        self.machine.finish(alloc, now)
+        let answer = self.machine.finish(alloc, now)?;
+        Ok(self.machine.end_turn(turn, answer))
     }
 
     /// The user cancels a transaction (condition code 15). Takes no memory. Cost: that of its event, a look-up, and at
     /// most one pass over the 64 sessions.
     pub fn cancel(&mut self, now: u64, id: TransactionId) -> Answer
-        ensures { turn self.old.state (CancelAsked now id) ≡ (self.new.state, answer_in self.new result) }
+        ensures ok { turn self.old.state (CancelAsked now id) ≡ (self.new.state, answer_in self.new result) }
+        ensures last { is_last self.new result ≡ true }
+        ensures turns { self.new.turns ≡ turn_after self.old.turns }
     {
         if self.machine.is_too_far(now) {
-            return Answer::not_taken();
+            return self.machine.take_nothing();
         }
+        let turn = self.machine.next_turn();
         self.stays_whole();
         self.machine.later(now);
-        self.machine.cancel(id)
+        let answer = self.machine.cancel(id);
+        self.machine.end_turn(turn, answer)
     }
 
-    /// The names of all transactions that were closed are forgotten, for a sender whose transaction sequence numbers
-    /// begin anew, or for one more source where 16 have a place: only those with a session keep theirs. A Metadata PDU
-    /// of one of them that comes once more begins it anew then. Takes no memory. Cost: for each of 16 sources a pass
-    /// over the 64 sessions.
+    /// The names of all transactions that were closed are forgotten. Call it when a sender's transaction sequence
+    /// numbers start again, or when a 17th source has to be let in: a source with a session keeps its place, and each
+    /// other one loses it. A Metadata PDU of a closed transaction that comes once more begins it anew then. Takes no
+    /// memory. Cost: for each of 16 sources a pass over the 64 sessions.
     pub fn forget_closed(&mut self) -> Answer
-        ensures { turn self.old.state ForgetAsked ≡ (self.new.state, answer_in self.new result) }
+        ensures ok { turn self.old.state ForgetAsked ≡ (self.new.state, answer_in self.new result) }
+        ensures last { is_last self.new result ≡ true }
+        ensures turns { self.new.turns ≡ turn_after self.old.turns }
     {
+        let turn = self.machine.next_turn();
         self.stays_whole();
-        self.machine.forget()
+        let answer = self.machine.forget();
+        self.machine.end_turn(turn, answer)
     }
 
-    /// The driver's clock was set, back or ahead: its moment is this one by now, and what is left of each timer stays.
+    /// The driver's clock was set, back or ahead, and now says this moment. What is left of each timer stays.
     /// Without this call an earlier moment counts as the latest, so that after one wrong reading, far ahead, no timer
     /// would be due until the clock comes to it. A moment is never too far ahead for this call: where there is a limit,
     /// a driver begins with it. Takes no memory. Cost: constant.
     pub fn move_clock(&mut self, now: u64) -> Answer
-        ensures { turn self.old.state (ClockMoved now) ≡ (self.new.state, answer_in self.new result) }
+        ensures ok { turn self.old.state (ClockMoved now) ≡ (self.new.state, answer_in self.new result) }
+        ensures last { is_last self.new result ≡ true }
+        ensures turns { self.new.turns ≡ turn_after self.old.turns }
     {
+        let turn = self.machine.next_turn();
         self.stays_whole();
-        self.machine.move_clock(now)
+        let answer = self.machine.move_clock(now);
+        self.machine.end_turn(turn, answer)
     }
 
     /// Whether a moment is further ahead of the latest one than [`Mib::most_ahead`] allows: then an input is not taken.
@@ -430,6 +512,7 @@ impl Receiver {
     }
 
     /// The moment from which on a timer is due: `None` where none runs, or where it is due after the greatest moment.
+    /// It may be further ahead than [`Mib::most_ahead`] allows: then call [`Receiver::expire`] at moments before it.
     /// Takes no memory. Cost: one pass over the 64 sessions, with a look-up for each.
     pub fn deadline(&self) -> Option<u64>
         ensures { (now : ℕ) → now < 2 ^ 64 → has_come result now
@@ -464,8 +547,8 @@ impl Receiver {
         self.machine.status(id)
     }
 
-    /// Returns the session of a transaction, if it has one: what is kept of it beside the core. Its moments are those of
-    /// the receiver's own time: the ticks that have passed for it. Cost: a pass over the sessions.
+    /// Returns the session of a transaction, if it has one: what is kept of it beside the core. Its moments are those
+    /// of the receiver's own time: the ticks that have passed for it. Cost: a pass over the sessions.
     pub fn session(&self, id: TransactionId) -> Option<&Session>
         ensures { option_copied result ≡ session_of self.now.state id }
     {
@@ -489,26 +572,33 @@ impl Receiver {
 
     /// Writes the PDU with this number of an answer, counted from 0, to the front of a buffer, and returns its length
     /// in octets. It has a CRC where the management information base says so. The octets after it are as before. The
-    /// answer is that of the last input. Takes no memory. Cost: the octets.
+    /// answer has to be one of this receiver, which can't tell it from one of another receiver. Takes no memory. Cost:
+    /// the octets.
     ///
     /// # Errors
     ///
-    /// [`NotWritten::NoMore`] where the answer has no such PDU, else [`NotWritten::TooShort`] where the buffer has no
-    /// room for it, which it has if it has [`Receiver::longest`] octets.
+    /// The first of: [`NotWritten::NotLast`] where the answer is not that of the last input, [`NotWritten::NoMore`]
+    /// where it has no such PDU, and [`NotWritten::TooShort`] where the buffer has no room for the PDU, which it has if
+    /// it has [`Receiver::longest`] octets. An input that was dropped has no answer, so the one before it is still the
+    /// last.
     pub fn write(&self, answer: &Answer, number: usize, out: &mut [u8]) -> Result<usize, NotWritten>
         ensures ok { IfOk result (λ len. (octets : List ℕ)
             × (slice_get (pdus_of self.now answer.now) number ≡ Some octets)
             × (as_sent self.now.state.mib octets ≡ take len out.new)) }
+        ensures last { OnOk result (is_last self.now answer.now ≡ true) }
         // So the length is that of the octets as sent.
         ensures room { IfOk result (λ len. len ≤ length out.old) }
         ensures rest { IfOk result (λ len. drop len out.new ≡ drop len out.old) }
-        ensures err { IfErr result (IsNotWritten (crc_len self.now.state.mib)
+        ensures err { IfErr result (IsNotSent (is_last self.now answer.now) (crc_len self.now.state.mib)
             (slice_get (pdus_of self.now answer.now) number) (length out.old)) }
-        // A buffer with `longest` octets is never too short, whatever the answer.
-        ensures enough { max longest_sealed self.now.state.mib.longest_nak ≤ length out.old →
-            IfErr result (λ why. why ≡ NoMore) }
+        // A buffer with `longest` octets is never too short, whatever the last answer.
+        ensures enough { is_last self.now answer.now ≡ true → max longest_sealed self.now.state.mib.longest_nak
+            ≤ length out.old → IfErr result (λ why. why ≡ NoMore) }
         ensures unchanged { OnErr result (out.new ≡ out.old) }
     {
+        if answer.turn != self.machine.turns {
+            return Err(NotWritten::NotLast);
+        }
         if !self.machine.mib.has_crc {
             return self.machine.put(answer, number, out);
         }

@@ -12,10 +12,10 @@ ghost use Rattle.cfdp_transactions.specs.Sound.{Sound};
 ghost use Rattle.cfdp_transactions.specs.World.{World, entry_of};
 ghost use Rattle.cfdp_receiver.specs.State.{at_of, begin, session_of, lacks_room};
 ghost use Rattle.cfdp_receiver.specs.Handing.{is_list_begun, is_ours, later, own_time};
-ghost use Rattle.cfdp_receiver.specs.StateMachine.{IsMib, has_come};
+ghost use Rattle.cfdp_receiver.specs.StateMachine.{IsMib, has_come, turn_after};
 ghost use Rattle.cfdp_receiver.specs.code.StateMachine.{AtIndex, IsSessionAt, IsTaking, awaited_of, machine_heard, all_naks, silent, machine_closed};
 ghost use Rattle.cfdp_receiver.specs.Turning.{word_without_session, all_of, asks, asks_entry, asks_where_awaiting, begun_session, gaps_after, is_immediate, is_news, most_nak_requests, progress_at, sequence, is_too_far, no_room_word};
-ghost use Rattle.cfdp_receiver.specs.declared.indication.Became.TheVariants.{Nothing};
+ghost use Rattle.cfdp_receiver.specs.declared.indication.Became.TheVariants.{Nothing, TooFarAhead};
 
 use crate::answer::{Answer, NakSequence};
 use crate::last_finished::LastFinished;
@@ -49,6 +49,8 @@ pub(crate) struct StateMachine {
     pub(crate) sessions: Sessions,
     pub(crate) closed: ClosedTransactions,
     pub(crate) last_finished: LastFinished,
+    /// How many turns were made, modulo 2^64: the number of the last one.
+    pub(crate) turns: u64,
 }
 
 impl Model for StateMachine {
@@ -70,6 +72,7 @@ impl Model for StateMachine {
         closed = m.closed;
       };
       last_finished = m.last_finished;
+      turns = m.turns;
     } };
 
     ghost invariant = { λ m. IsMib m.mib };
@@ -114,7 +117,49 @@ impl StateMachine {
             sessions: room.sessions,
             closed: room.closed,
             last_finished: LastFinished::none(alloc),
+            turns: 0,
         }
+    }
+
+    /// The number of the next turn.
+    pub(crate) fn next_turn(&self) -> u64
+        ensures { result ≡ turn_after self.now.turns }
+    {
+        self.turns.wrapping_add(1)
+    }
+
+    /// One more turn is made.
+    pub(crate) fn count(&mut self)
+        ensures { self.new ≡ record self.old { turns = turn_after self.old.turns } }
+    {
+        self.turns = self.next_turn();
+    }
+
+    /// Makes a turn at a moment that is too far ahead: nothing is done.
+    pub(crate) fn take_nothing(&mut self) -> Answer
+        ensures machine { self.new ≡ record self.old { turns = turn_after self.old.turns } }
+        ensures answer { result ≡ record (silent TooFarAhead) { turn = turn_after self.old.turns } }
+    {
+        let turn = self.next_turn();
+        self.end_turn(turn, Answer::not_taken())
+    }
+
+    /// The turn with this number was made: its answer is the last one now. The answer is not moved.
+    pub(crate) fn number(&mut self, turn: u64, answer: &mut Answer)
+        ensures machine { self.new ≡ record self.old { turns = turn } }
+        ensures answer { answer.new ≡ record answer.old { turn = turn } }
+    {
+        self.turns = turn;
+        answer.turn = turn;
+    }
+
+    /// The turn with this number was made: its answer is the last one now.
+    pub(crate) fn end_turn(&mut self, turn: u64, mut answer: Answer) -> Answer
+        ensures machine { self.new ≡ record self.old { turns = turn } }
+        ensures answer { result ≡ record answer { turn = turn } }
+    {
+        self.number(turn, &mut answer);
+        answer
     }
 
     /// A moment is handed in: an earlier one counts as the latest.

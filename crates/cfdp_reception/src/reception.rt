@@ -28,6 +28,8 @@ pub struct Reception {
 impl Model for Reception {
     ghost use Rattle.std.specs.Coded.{codes};
     ghost use Rattle.cfdp_transactions.specs.code.CoreFields.{nodes_code};
+    ghost use Rattle.std.specs.Prelude.{◌≡◌, true, IfSome};
+    ghost use Rattle.cfdp_receiver.specs.StateMachine.{is_last};
     ghost use Rattle.cfdp_reception.specs.Reception.{ReceptionFields};
 
     ghost Value = { ReceptionFields };
@@ -35,6 +37,9 @@ impl Model for Reception {
     ghost coded = { Prim.hlevel (codes, nodes_code) };
 
     ghost view = { λ r. record { machine = r.receiver; answer = r.answer } };
+
+    // So that a PDU of it can be written.
+    ghost invariant = { λ r. IfSome r.answer (λ a. is_last r.receiver a ≡ true) };
 }
 
 impl Reception {

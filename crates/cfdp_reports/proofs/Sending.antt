@@ -1,5 +1,5 @@
 -- The lines of PDUs, one after the other.
-use Rattle.std.proofs.Common.{◌≡◌, ℕ, ◌+◌, ◌≤◌, List, ◌++◌, length, drop, Some, slice_get, sym, ap, ◌∙◌, append_assoc, append-nil}
+use Rattle.std.proofs.Common.{◌≡◌, ℕ, ◌+◌, ◌≤◌, List, [], ◌∷◌, ◌++◌, length, drop, Some, slice_get, refl, sym, ap, ◌∙◌, append_assoc, append-nil, arith}
 use Rattle.std.proofs.lemmas.List.{drop_all}
 use Rattle.cfdp_receiver.specs.declared.mib.Mib.{Mib}
 use Rattle.cfdp_receiver.specs.Sent.{as_sent}
@@ -18,3 +18,7 @@ pub sent_all : (mib : Mib) (pdus : List (List ℕ)) (n : ℕ) (before text : Lis
     text ≡ before
 sent_all mib pdus n before text end left =
     sym (append-nil text) ∙ ap (λ (rest : List (List ℕ)). text ++ send_lines mib rest) (sym (drop_all n pdus end)) ∙ left
+
+pub none_left : (pdus : List (List ℕ)) → length pdus ≤ 0 → pdus ≡ []
+none_left [] none = refl
+none_left (pdu ∷ pdus) none = absurd (omega (arith, none))

@@ -13,7 +13,7 @@
 --                                       indications
 --     answer_text mib a                 all lines of an answer
 --     dropped_line why                  the line of octets that are no PDU
-use Rattle.std.specs.Prelude.{ℕ, Bool, true, false, if◌then◌else◌, List, [], ◌∷◌, ◌++◌, map, codes}
+use Rattle.std.specs.Prelude.{ℕ, Bool, true, false, if◌then◌else◌, List, [], ◌++◌, map, codes}
 use Rattle.std.specs.List.{flat_map}
 use Rattle.hex.specs.Hex.{encode_lower}
 use Rattle.cfdp_status.specs.Transaction.{transaction_name}

@@ -1,20 +1,22 @@
 //! All lines of an answer.
 
-ghost use Rattle.std.specs.Prelude.{◌≡◌, ◌≤◌, ◌++◌, length, max, IfErr, OnOk};
-ghost use Rattle.cfdp_receiver.specs.StateMachine.{answer_in};
+ghost use Rattle.std.specs.Prelude.{◌≡◌, ◌≤◌, ◌++◌, [], false, length, max, true, IfErr, OnOk};
+ghost use Rattle.cfdp_receiver.specs.StateMachine.{answer_in, is_last};
 ghost use Rattle.cfdp_receiver.specs.Sent.{longest_sealed, pdus_of};
 ghost use Rattle.cfdp_reports.specs.Reports.{answer_text, send_line, send_lines, indication_lines};
-ghost use Rattle.cfdp_reports.specs.declared.answers.NotReported.TheVariants.{Memory};
+ghost use Rattle.cfdp_reports.specs.declared.answers.NotReported.TheVariants.{Memory, NotLast, TooShort};
 
 use crate::indications::push_indication;
 use crate::outcomes::push_became;
-use cfdp_receiver::{Answer, Receiver};
+use cfdp_receiver::{Answer, NotWritten, Receiver};
 use cfdp_texts::encode;
 use std::alloc::{AllocError, Global};
 
 /// Why an answer was not reported. A part of its lines may have been appended.
 #[derive(Clone, Copy, Debug, PartialEq, Eq)]
 pub enum NotReported {
+    /// The answer is not that of the last input. Its Finished PDU may have been replaced.
+    NotLast,
     /// The buffer is too short for a PDU. [`Receiver::longest`] octets are always enough.
     TooShort,
     /// Out of memory.
@@ -50,12 +52,16 @@ fn push_pdus(
 ) -> Result<(), NotReported>
     ensures sent { OnOk result (text.new.items ≡ text.old.items
         ++ send_lines receiver.now.state.mib (pdus_of receiver.now answer.now)) }
-    ensures enough { max longest_sealed receiver.now.state.mib.longest_nak ≤ length room.old →
-        IfErr result (λ why. why ≡ Memory) }
+    ensures enough { is_last receiver.now answer.now ≡ true → max longest_sealed receiver.now.state.mib.longest_nak
+        ≤ length room.old → IfErr result (λ why. why ≡ Memory) }
+    ensures refused { OnOk result (is_last receiver.now answer.now ≡ false → pdus_of receiver.now answer.now ≡ []) }
+    ensures not_last { IfErr result (λ why. why ≡ NotLast → is_last receiver.now answer.now ≡ false) }
+    ensures too_short { IfErr result (λ why. why ≡ TooShort → is_last receiver.now answer.now ≡ true) }
 {
     for number in 0..answer.pdu_count() {
         match receiver.write(answer, number, room) {
             Ok(len) => push_sent(&room[..len], text)?,
+            Err(NotWritten::NotLast) => return Err(NotReported::NotLast),
             Err(_) => return Err(NotReported::TooShort),
         }
     }
@@ -81,8 +87,9 @@ pub fn push_indications(answer: &Answer, text: &mut Vec<u8>) -> Result<(), Alloc
 ///
 /// # Errors
 ///
-/// [`NotReported::Memory`] when out of memory, and [`NotReported::TooShort`] where `room` has no room for a PDU, which
-/// it has if it has [`Receiver::longest`] octets. Cost: the octets that are written.
+/// [`NotReported::Memory`] when out of memory, [`NotReported::NotLast`] where the answer has a PDU and is not that of
+/// the last input, and [`NotReported::TooShort`] where `room` has no room for a PDU, which it has if it has
+/// [`Receiver::longest`] octets. Cost: the octets that are written.
 pub fn push_answer(
     alloc: Global,
     receiver: &Receiver,
@@ -92,8 +99,11 @@ pub fn push_answer(
 ) -> Result<(), NotReported>
     ensures ok { OnOk result (text.new.items ≡ text.old.items
         ++ answer_text receiver.now.state.mib (answer_in receiver.now answer.now)) }
-    ensures enough { max longest_sealed receiver.now.state.mib.longest_nak ≤ length room.old →
-        IfErr result (λ why. why ≡ Memory) }
+    ensures enough { is_last receiver.now answer.now ≡ true → max longest_sealed receiver.now.state.mib.longest_nak
+        ≤ length room.old → IfErr result (λ why. why ≡ Memory) }
+    ensures refused { OnOk result (is_last receiver.now answer.now ≡ false → pdus_of receiver.now answer.now ≡ []) }
+    ensures not_last { IfErr result (λ why. why ≡ NotLast → is_last receiver.now answer.now ≡ false) }
+    ensures too_short { IfErr result (λ why. why ≡ TooShort → is_last receiver.now answer.now ≡ true) }
 {
     push_pdus(receiver, answer, room, text)?;
     push_indications(answer, text)?;

@@ -3,7 +3,7 @@
 
 ghost use Rattle.std.specs.Prelude.{◌≡◌, ◌≤◌, ◌++◌, ◌∷◌, [], ℕ, List, Ok, true, false, length, max, IfOk, OnOk};
 ghost use Rattle.cfdp_receiver.specs.Heard.{heard};
-ghost use Rattle.cfdp_receiver.specs.StateMachine.{answer_in};
+ghost use Rattle.cfdp_receiver.specs.StateMachine.{answer_in, is_last};
 ghost use Rattle.cfdp_receiver.specs.Sent.{longest_sealed};
 ghost use Rattle.cfdp_receiver.specs.State.{CancelAsked, ClockMoved, Expire, Finish, Work};
 ghost use Rattle.cfdp_receiver.specs.Turning.{turn};
@@ -57,6 +57,7 @@ impl Player {
         answer: &Answer,
         text: &mut Vec<u8>,
     ) -> Result<(), AllocError>
+        requires { is_last self.old.receiver answer.now ≡ true }
         ensures same { self.new.receiver ≡ self.old.receiver }
         ensures ok { OnOk result (text.new.items ≡ text.old.items
             ++ answer_text self.old.receiver.state.mib (answer_in self.old.receiver answer.now)) }
@@ -64,7 +65,7 @@ impl Player {
         match push_answer(alloc, &self.receiver, answer, &mut self.room, text) {
             Ok(()) => Ok(()),
             Err(NotReported::Memory) => Err(AllocError),
-            Err(NotReported::TooShort) => unreachable!(),
+            Err(NotReported::TooShort | NotReported::NotLast) => unreachable!(),
         }
     }
 
@@ -111,6 +112,7 @@ impl Player {
         answer: &Answer,
         text: &mut Vec<u8>,
     ) -> Result<(), AllocError>
+        requires { is_last self.old.receiver answer.now ≡ true }
         ensures { OnOk result ((lines : List ℕ) × (lines ≡ answer_text self.old.receiver.state.mib
             (answer_in self.old.receiver answer.now))
             × Plays self.old.receiver.state (settling most_settled now self.old.receiver.state) self.new.receiver.state

@@ -116,7 +116,15 @@ pub record IsSendable (acked : Option (Header × Ack)) (alive : Option (Header �
   pub keep_alive : IfSome alive (λ k. IsHeader k.0 × IsSizedKeepAlive k.0.large k.1)
 
 abbrev pub silent : Became → AnswerParts
-silent became = record { acks = []; naks = []; keep_alives = []; finished = []; indications = []; became = became }
+silent became = record {
+  acks = [];
+  naks = [];
+  keep_alives = [];
+  finished = [];
+  indications = [];
+  became = became;
+  turn = 0;
+}
 
 abbrev pub awaited_of : World → SessionFields → Option (List SegmentRequest)
 awaited_of W s = if is_awaiting_at (at_of W s) then Some (gaps_at (entry_of W (session_id s))) else None

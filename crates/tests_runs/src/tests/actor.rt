@@ -178,7 +178,7 @@ fn made(alloc: Global, config: Config) -> Result<Result<Receiver, NotMade>, Allo
 }
 
 /// A receiver, made once more where it was out of memory. `None` of a configuration that is out of range.
-fn made_at_last(alloc: Global) -> Result<Option<Receiver>, AllocError> {
+pub(super) fn made_at_last(alloc: Global) -> Result<Option<Receiver>, AllocError> {
     for _ in 0..2 {
         let Ok(config) = Config::new(2, 64, 2_400, 2, 1_000, Protected::new()) else {
             return Ok(None);
@@ -261,6 +261,7 @@ impl Actor {
         ) {
             Ok(()) => Ok(()),
             Err(NotReported::TooShort) => self.text.extend_from_slice(b"too short\n"),
+            Err(NotReported::NotLast) => self.text.extend_from_slice(b"not the last\n"),
             Err(NotReported::Memory) => Err(AllocError),
         }
     }

@@ -1,4 +1,4 @@
-use Rattle.std.proofs.Common.{◌≡◌, ◌∷◌, [], List, ℕ, sym, ap, ◌∙◌}
+use Rattle.std.proofs.Common.{◌∷◌, [], List, ℕ, sym, ap, ◌∙◌}
 use Rattle.cfdp_receiver.specs.Sent.{pdus_of}
 use Rattle.cfdp_live.specs.code.Living.{with_sent}
 use Rattle.cfdp_live.proofs.Making.{sent_next}

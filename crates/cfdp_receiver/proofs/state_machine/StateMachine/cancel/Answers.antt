@@ -1,5 +1,4 @@
 use Rattle.std.proofs.Common.{◌≡◌, Bool, Some, sym, ap, subst, ◌∙◌}
-use Rattle.std.specs.Prelude.{slice_get}
 use Rattle.cfdp_sessions.specs.Sessions.{SessionFields, found}
 use Rattle.cfdp_receiver.specs.State.{CancelAsked}
 use Rattle.cfdp_receiver.specs.StateMachine.{StateMachineFields}

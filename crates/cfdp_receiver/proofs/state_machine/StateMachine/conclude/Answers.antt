@@ -88,6 +88,7 @@ returns-then-session-2 c outcome sent changed conclusion octets session at =
         closed = c.self.inside.closed;
       };
       last_finished = c.self.inside.last_finished;
+      turns = c.self.inside.turns;
     } in
     let done = concludes_waiting M c.args.index a s outcome c.session-session.ensures field (sym sent ∙ c.if-not-is_sent.false) acked said in
     subst (λ (x : SessionFields). Concludes M N a x outcome) (same_Some s session (sym c.session-session.ensures ∙ at))
@@ -123,6 +124,7 @@ returns c outcome sent changed conclusion octets session at =
         closed = c.self-2.inside.closed;
       };
       last_finished = c.of.result;
+      turns = c.self-2.inside.turns;
     } in
     let done = concludes_closed M a s outcome distinct field (sym sent ∙ c.if-not-is_sent.false) acked said in
     subst (λ (x : SessionFields). Concludes M N a x outcome) (same_Some s session (sym c.session-session.ensures ∙ at))

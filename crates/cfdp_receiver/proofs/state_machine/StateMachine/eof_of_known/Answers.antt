@@ -1,8 +1,6 @@
-use Rattle.std.proofs.Common.{◌≡◌, true, not, sym, ap, ◌∙◌}
+use Rattle.std.proofs.Common.{not, sym, ap, ◌∙◌}
 use Rattle.std.proofs.lemmas.Bool.{ne_eqb}
-use Rattle.cfdp_status.specs.declared.transaction.TransactionId.{TransactionId}
 use Rattle.cfdp_receiver.specs.Handing.{is_list_begun}
-use Rattle.cfdp_receiver.specs.StateMachine.{StateMachineFields}
 use Rattle.cfdp_receiver.proofs.ListGoesOn.{eof_begun}
 use Rattle.cfdp_receiver.proofs.state_machine.StateMachine.eof_of_known.Goals as goal
 
