@@ -106,18 +106,23 @@ static void follow(const struct cfdp_report *report) {
     if (is_given_up || report->became == CFDP_BECAME_ACKNOWLEDGED || report->became == CFDP_BECAME_CLOSED) closed++;
 }
 
+/* Whether a call had nothing to do, or did nothing since its moment was too far ahead (`most_ahead` of the MIB). */
+static bool did_nothing(const struct cfdp_report *report) {
+    return report->became == CFDP_BECAME_NOTHING || report->became == CFDP_BECAME_TOO_FAR_AHEAD;
+}
+
 /* Performs the items of all transactions, and takes the outcome of those that are over. */
 static void work_off(uint64_t now) {
     struct cfdp_report report = {0};
     do {
         if (cfdp_receiver_work(&receiver, now, &report) != CFDP_ANSWER_DONE) exit(1);
         follow(&report);
-    } while (report.became != CFDP_BECAME_NOTHING);
+    } while (!did_nothing(&report));
     do {
         lacks_memory = cfdp_receiver_finish(&receiver, now, &report) != CFDP_ANSWER_DONE;
         if (lacks_memory) return;
         follow(&report);
-    } while (report.became != CFDP_BECAME_NOTHING);
+    } while (!did_nothing(&report));
 }
 
 /* Waits for a datagram until the next deadline, and hands in what came, or that the time has passed. */
