@@ -39,7 +39,7 @@ struct cfdp_receiver {
 #define CFDP_RECEIVER_EMPTY {0, NULL}
 
 /* The octets that cfdp_receiver_new asks for, whatever the configuration. */
-#define CFDP_RECEIVER_NEW_OCTETS ((size_t)76528)
+#define CFDP_RECEIVER_NEW_OCTETS ((size_t)76560)
 
 /* What is done at a fault (fault handling procedures). */
 enum cfdp_handler {
