@@ -20,7 +20,7 @@
  * and cfdp_receiver_expire as cfdp_cancel where a timer has reached its limit. What a receiver adds is less than 20000
  * instructions, beside 63 other transactions too, and for a PDU with a CRC some 9 for each octet: 592000 for the
  * longest. But for transactions of 64 renames of long paths cfdp_receiver_finish takes up to 242000 for one,
- * cfdp_receiver_write up to 251000 for its Finished PDU with a CRC, and cfdp_receiver_free up to 27000000 where 64 of
+ * cfdp_receiver_write up to 251000 for its Finished PDU with a CRC, and cfdp_receiver_free up to 32400000 where 64 of
  * them are live. docs/C.md has the longest case of each. */
 #ifndef CFDP_RECEIVER_H
 #define CFDP_RECEIVER_H
